@@ -1,0 +1,39 @@
+-- Laws on lists and numbers that the toolchain's library lacks, stated as code has them: at `i + 1`, at `getD s i 0`.
+--     lt-or-le              one of two numbers is below the other or it is not
+--     drop-one              what is left from i on, where something is left: an element and what is left from i + 1 on
+--     take-one              the first n + 1 elements
+--     drop-done             nothing is left from the end on
+--     left-one              n - i falls by one to n - (i + 1)
+-- Assumes nothing.
+use Prim.Native.Nat.{ℕ, suc, zero, _+_, _-_, _<_, _≤_}
+use mathlib.Core.Path.{_≡_, refl, sym, ap, _∙_}
+use mathlib.Core.Logic.{_⊎_, inl, inr}
+use mathlib.Core.Bool.{Bool, true, false}
+use mathlib.Core.List.{List, [], _∷_, _++_}
+use native.Mathlib.Numerals.{add-one}
+use native.Mathlib.Omega.{arith}
+use borrow.Author.Tests.{ltb-true, ltb-false}
+use lib.Dec.{ltb}
+use lib.ListN.{length, getD, take, drop, drop-of-length-le}
+use lib.Seq.{drop-cons, take-suc}
+
+pub lt-or-le : (m n : ℕ) → (m < n) ⊎ (n ≤ m)
+lt-or-le m n = go (ltb m n) refl
+  where
+    go : (b : Bool) → ltb m n ≡ b → (m < n) ⊎ (n ≤ m)
+    go true e = inl (ltb-true m n e)
+    go false e = inr (ltb-false m n e)
+
+pub drop-one : (s : List ℕ) (i : ℕ) → i < length s → drop i s ≡ getD s i 0 ∷ drop (i + 1) s
+drop-one s i h = rw (add-one, drop-cons s i 0)
+
+pub take-one : (s : List ℕ) (i : ℕ) → i < length s → take (i + 1) s ≡ take i s ++ (getD s i 0 ∷ [])
+take-one s i h = rw (add-one, take-suc s i 0)
+
+pub drop-done : (s : List ℕ) (i : ℕ) → length s ≤ i → drop i s ≡ []
+drop-done s i h = drop-of-length-le s h
+
+pub left-one : (n i : ℕ) → i < n → n - i ≡ suc (n - (i + 1))
+left-one n i h =
+    let e : n - i ≡ (n - (i + 1)) + 1 = omega arith in
+    e ∙ add-one _
