@@ -1,0 +1,188 @@
+// The tokens that lists and dates share: spaces, tabs and comments skipped, quoted strings passed, and the ends of
+// runs of digits, of letters and of atoms. A reader is given the text and a place in it, and answers a place.
+ghost use Prim.Native.Nat.{_+_, _-_, _≤_, _<_};
+ghost use mathlib.Core.Path.{_≡_};
+ghost use mathlib.Core.Bool.{false};
+ghost use lib.ListN.{length, getD, drop};
+ghost use Rattle.tokens.specs.Tokens.{control, kindOf, skipped, afterQuote, digit as digitOf, letter as letterOf, sign as signOf, belongs, runLength};
+ghost use Rattle.tokens.specs.Answers.{takes as takesOf, reached, Opening, Passed};
+
+// How many comments may be open at once.
+const DEPTH: usize = 16;
+
+// What an octet is to comments and quoted strings.
+pub enum Kind {
+    Blank,
+    Opens,
+    Closes,
+    Quotes,
+    Escapes,
+    Control,
+    Plain,
+}
+
+// The classes of octets that make runs.
+pub enum Class {
+    Digit,
+    Letter,
+    Atom,
+}
+
+// The place that a reader reached; or the text is unreadable.
+pub enum Reached {
+    To(usize),
+    Unreadable,
+}
+
+// "control octets (below 32, and 127) other than tab"
+pub fn is_control(x: u8) -> bool
+    ensures { λ r. ⌜ r ≡ control x ⌝ }
+{
+    ((x < 32) | (x == 127)) & (x != b'\t')
+}
+
+pub fn kind_of(x: u8) -> Kind
+    ensures { λ r. ⌜ r ≡ kindOf x ⌝ }
+{
+    if is_control(x) {
+        return Kind::Control;
+    }
+    match x {
+        b' ' | b'\t' => Kind::Blank,
+        b'(' => Kind::Opens,
+        b')' => Kind::Closes,
+        b'"' => Kind::Quotes,
+        b'\\' => Kind::Escapes,
+        _ => Kind::Plain,
+    }
+}
+
+// Does an octet stand at the place `at` that a backslash before it may take?
+fn takes(s: &[u8], at: usize) -> bool
+    ensures { λ r. ⌜ r ≡ takesOf (drop at (now (s .entry))) ⌝ }
+{
+    if s.len() <= at {
+        return false;
+    }
+    !is_control(s[at])
+}
+
+// A comment opens at the place `at`, and `room` more may be open: reads to behind its end.
+fn comment(s: &[u8], at: usize, room: usize) -> Reached
+    requires { ⌜ Opening (now s) at room ⌝ }
+    ensures { λ r. ⌜ Passed (now (s .entry)) at (16 - room) (16 - room) r ⌝ }
+{
+    if room == 0 {
+        return Reached::Unreadable;
+    }
+    content(s, at + 1, room - 1)
+}
+
+// The content of a comment from the place `at` on, in which `room` more may be open: reads to behind the comment's end.
+fn content(s: &[u8], at: usize, room: usize) -> Reached
+    requires { ⌜ room < 16 ⌝ }
+    ensures { λ r. ⌜ Passed (now (s .entry)) at (16 - room) (15 - room) r ⌝ }
+{
+    let mut i = at;
+    while i < s.len() {
+        match kind_of(s[i]) {
+            Kind::Closes => return Reached::To(i + 1),
+            Kind::Control => return Reached::Unreadable,
+            Kind::Opens => match comment(s, i, room) {
+                Reached::To(n) => i = n,
+                Reached::Unreadable => return Reached::Unreadable,
+            },
+            Kind::Escapes => {
+                if !takes(s, i + 1) {
+                    return Reached::Unreadable;
+                }
+                i += 2;
+            }
+            Kind::Blank | Kind::Quotes | Kind::Plain => i += 1,
+        }
+    }
+    Reached::Unreadable
+}
+
+// The place behind all spaces, tabs and comments from the place `at` on.
+pub fn skip(s: &[u8], at: usize) -> Reached
+    ensures { λ r. ⌜ r ≡ reached (now (s .entry)) (skipped (drop at (now (s .entry)))) ⌝ }
+{
+    let mut i = at;
+    while i < s.len() {
+        match kind_of(s[i]) {
+            Kind::Blank => i += 1,
+            Kind::Opens => match comment(s, i, DEPTH) {
+                Reached::To(n) => i = n,
+                Reached::Unreadable => return Reached::Unreadable,
+            },
+            Kind::Closes | Kind::Quotes | Kind::Escapes | Kind::Control | Kind::Plain => return Reached::To(i),
+        }
+    }
+    Reached::To(s.len())
+}
+
+// The place behind a quoted string whose opening quote stands before the place `at`.
+pub fn quoted(s: &[u8], at: usize) -> Reached
+    ensures { λ r. ⌜ r ≡ reached (now (s .entry)) (afterQuote false (drop at (now (s .entry)))) ⌝ }
+{
+    let mut i = at;
+    while i < s.len() {
+        match kind_of(s[i]) {
+            Kind::Quotes => return Reached::To(i + 1),
+            Kind::Control => return Reached::Unreadable,
+            Kind::Escapes => {
+                if !takes(s, i + 1) {
+                    return Reached::Unreadable;
+                }
+                i += 2;
+            }
+            Kind::Blank | Kind::Opens | Kind::Closes | Kind::Plain => i += 1,
+        }
+    }
+    Reached::Unreadable
+}
+
+fn digit(x: u8) -> bool
+    ensures { λ r. ⌜ r ≡ digitOf x ⌝ }
+{
+    (b'0' <= x) & (x <= b'9')
+}
+
+fn letter(x: u8) -> bool
+    ensures { λ r. ⌜ r ≡ letterOf x ⌝ }
+{
+    ((b'A' <= x) & (x <= b'Z')) | ((b'a' <= x) & (x <= b'z'))
+}
+
+fn sign(x: u8) -> bool
+    ensures { λ r. ⌜ r ≡ signOf x ⌝ }
+{
+    (x == b'!') | (x == b'#') | (x == b'$') | (x == b'%') | (x == b'&') | (x == b'\'') | (x == b'*') | (x == b'+') | (x == b'-') | (x == b'/')
+        | (x == b'=') | (x == b'?') | (x == b'^') | (x == b'_') | (x == b'`') | (x == b'{') | (x == b'|') | (x == b'}') | (x == b'~')
+}
+
+// Does the octet belong to the class? No test here branches, so that the compiler makes one of them all.
+pub fn within(class: Class, x: u8) -> bool
+    ensures { λ r. ⌜ r ≡ belongs class x ⌝ }
+{
+    match class {
+        Class::Digit => digit(x),
+        Class::Letter => letter(x),
+        Class::Atom => letter(x) | digit(x) | sign(x) | (128 <= x),
+    }
+}
+
+// The end of the run of octets of the class that begins at the place `at`; `at` itself where there is none.
+pub fn run_end(s: &[u8], at: usize, class: Class) -> usize
+    ensures { λ r. ⌜ r ≡ at + runLength class (drop at (now (s .entry))) ⌝ }
+{
+    let mut i = at;
+    while i < s.len() {
+        if !within(class, s[i]) {
+            return i;
+        }
+        i += 1;
+    }
+    i
+}
