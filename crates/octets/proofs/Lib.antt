@@ -1,2 +1,7 @@
 pub mod Lists
 pub mod Writing
+pub mod Letters
+pub mod Comparing
+pub mod Zeros
+pub mod Copying
+pub mod Numerals

@@ -4,18 +4,23 @@
 --     take-one              the first n + 1 elements
 --     drop-done             nothing is left from the end on
 --     left-one              n - i falls by one to n - (i + 1)
+--     given-octets          what owning a slice tells of its elements: they are octets
+--     drop-octets, take-octets    so are those of a part
 -- Assumes nothing.
 use Prim.Native.Nat.{ℕ, suc, zero, _+_, _-_, _<_, _≤_}
 use mathlib.Core.Path.{_≡_, refl, sym, ap, _∙_}
-use mathlib.Core.Logic.{_⊎_, inl, inr}
+use mathlib.Core.Logic.{_⊎_, inl, inr, ⊎-elim}
 use mathlib.Core.Bool.{Bool, true, false}
 use mathlib.Core.List.{List, [], _∷_, _++_}
 use native.Mathlib.Numerals.{add-one}
 use native.Mathlib.Omega.{arith}
 use borrow.Author.Tests.{ltb-true, ltb-false}
 use lib.Dec.{ltb}
-use lib.ListN.{length, getD, take, drop, drop-of-length-le}
-use lib.Seq.{drop-cons, take-suc}
+use lib.ListN.{length, getD, take, drop, drop-of-length-le, length-take, List·getD-eq-default}
+use lib.Seq.{drop-cons, take-suc, getD-drop, getD-take}
+use mir.Syntax.{w8}
+use mir.Val.{Fits}
+use Rattle.octets.specs.Octets.{AllOctets}
 
 pub lt-or-le : (m n : ℕ) → (m < n) ⊎ (n ≤ m)
 lt-or-le m n = go (ltb m n) refl
@@ -37,3 +42,16 @@ pub left-one : (n i : ℕ) → i < n → n - i ≡ suc (n - (i + 1))
 left-one n i h =
     let e : n - i ≡ (n - (i + 1)) + 1 = omega arith in
     e ∙ add-one _
+
+pub given-octets : (s : List ℕ) → ((i : ℕ) → Fits w8 (getD s i 0)) → AllOctets s
+given-octets s g i = g i .fits
+
+pub drop-octets : (n : ℕ) (s : List ℕ) → AllOctets s → AllOctets (drop n s)
+drop-octets n s h i = rw getD-drop (h (n + i))
+
+pub take-octets : (n : ℕ) (s : List ℕ) → AllOctets s → AllOctets (take n s)
+take-octets n s h i =
+    ⊎-elim
+    (λ (l : i < n). rw (getD-take n s i 0 l) (h i))
+    (λ (l : n ≤ i). rw (List·getD-eq-default (take n s) 0 {n = i} (simp length-take (omega arith))) (omega arith))
+    (lt-or-le i n)

@@ -7,12 +7,12 @@
 -- Assumes nothing.
 use Prim.Native.Nat.{ℕ, suc, zero, _+_, _-_, _<_, _≤_}
 use mathlib.Core.Path.{_≡_, refl, sym, ap, _∙_}
-use mathlib.Core.List.{List, [], _∷_, _++_, append-assoc, append-nil}
+use mathlib.Core.List.{List, [], _∷_, _++_, append-assoc}
 use native.Mathlib.Numerals.{add-one}
 use native.Mathlib.Nat.{zero-add, add-zero, add-assoc}
 use native.Mathlib.Omega.{arith}
 use lib.ListN.{length, getD, take, drop, set, length-append, length-take, length-drop, length-set, take-append-drop}
-use lib.Seq.{take-at, drop-at, drop-drop, set-at, length-take-le, take-length, drop-cons, take-add, take-append-le, drop-append-le}
+use lib.Seq.{take-at, drop-at, drop-drop, set-split, length-take-le, take-length, take-add}
 use Rattle.octets.specs.Written.{putAt, onto}
 use Rattle.octets.proofs.Lists.{drop-one, drop-done}
 
@@ -45,17 +45,41 @@ module _ (w d out : List ℕ) (o : ℕ) where
   pub room-at : (x : ℕ) (rest : List ℕ) → Wrote w d out o (x ∷ rest) → o < length out
   room-at x rest h = omega (arith, counted (x ∷ rest) h, kept (x ∷ rest) h)
 
+  -- the part that is done, and what the buffer holds from there on
+  done-part : (rest : List ℕ) → Wrote w d out o rest → take o out ≡ take o w
+  done-part rest h = rw (h .text) (take-at (take o w) (drop o d) o (length-take-le o w (h .upto)))
+
+  behind : (rest : List ℕ) (n : ℕ) → Wrote w d out o rest → drop (o + n) out ≡ drop (o + n) d
+  behind rest n h =
+      rw (← drop-drop n o out, ← drop-drop n o d, h .text) (ap (drop n) (drop-at (take o w) (drop o d) o (length-take-le o w (h .upto))))
+
   pub puts : (vs rest : List ℕ) → Wrote w d out o (vs ++ rest) → Wrote w d (putAt out o vs) (o + length vs) rest
   unfolding putAt
-  puts vs rest h = ?
+  puts vs rest h =
+      let n : o + (length vs + length rest) ≡ length w = simp length-append at (counted (vs ++ rest) h) in
+      let t : take (o + length vs) w ≡ take o w ++ vs =
+      take-add o (length vs) w ∙ rw (h .left) (ap (λ (l : List ℕ). take o w ++ l) (take-at vs rest (length vs) refl)) in
+      record {
+        text = rw (done-part (vs ++ rest) h, behind (vs ++ rest) (length vs) h, t) (sym (append-assoc (take o w) vs (drop (o + length vs) d)));
+        left = rw (← drop-drop (length vs) o w, h .left) (drop-at vs rest (length vs) refl);
+        upto = omega arith;
+        room = h .room;
+      }
 
   pub put : (x : ℕ) (rest : List ℕ) → Wrote w d out o (x ∷ rest) → Wrote w d (set out o x) (o + 1) rest
-  put x rest h = ?
+  unfolding putAt
+  put x rest h =
+      let e : set out o x ≡ putAt out o (x ∷ []) = rw add-one (set-split out o x (room-at x rest h)) in
+      rw e (puts (x ∷ []) rest h)
 
   pub done : Wrote w d out o [] → out ≡ onto w d
   unfolding onto
-  done h = ?
+  done h =
+      let n : o ≡ length w = omega (arith, counted [] h) in
+      h .text ∙ rw (n, take-length)
 
 pub done-at : (w d out : List ℕ) (at o : ℕ) → at + length w ≤ length d → Wrote (take at d ++ w) d out o [] → out ≡ putAt d at w
 unfolding putAt onto
-done-at w d out at o h p = ?
+done-at w d out at o h p =
+    let n : length (take at d ++ w) ≡ at + length w = simp length-append (omega (arith, length-take-le at d (omega arith))) in
+    done (take at d ++ w) d out o p ∙ rw (n, append-assoc)

@@ -35,7 +35,7 @@ sameOctets (x ∷ s) (y ∷ t) = eqb x y && sameOctets s t
 unfoldable pub lower : ℕ → ℕ
 lower x = cond (leb (octet "A") x && leb x (octet "Z")) (x + 32) x
 
-abbrev pub lowered : List ℕ → List ℕ
+unfoldable pub lowered : List ℕ → List ℕ
 lowered s = map lower s
 
 unfoldable pub sameName : List ℕ → List ℕ → Bool

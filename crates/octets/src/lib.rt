@@ -2,6 +2,7 @@
 // little-endian numbers. Each function's meaning is one definition of specs/.
 ghost use Prim.Native.Nat.{_+_, _≤_, _<_, max};
 ghost use mathlib.Core.Path.{_≡_};
+ghost use lib.Dec.{eqb};
 ghost use lib.ListN.{length, take, drop, replicate};
 ghost use Rattle.octets.specs.Octets.{sameOctets, lower as lowerOf, lowered, sameName, startsWith, allZero};
 ghost use Rattle.octets.specs.Numbers.{number, digits};
@@ -37,6 +38,12 @@ pub fn lower(x: u8) -> u8
     x + 32
 }
 
+fn alike(x: u8, y: u8) -> bool
+    ensures { λ r. ⌜ r ≡ eqb (lowerOf x) (lowerOf y) ⌝ }
+{
+    lower(x) == lower(y)
+}
+
 // Are the two names equal, ASCII capitals and small letters being alike?
 pub fn same_name(a: &[u8], b: &[u8]) -> bool
     ensures { λ r. ⌜ r ≡ sameName (now (a .entry)) (now (b .entry)) ⌝ }
@@ -46,10 +53,11 @@ pub fn same_name(a: &[u8], b: &[u8]) -> bool
     }
     let mut i = 0;
     while i < a.len() {
-        if lower(a[i]) != lower(b[i]) {
+        if alike(a[i], b[i]) {
+            i += 1;
+        } else {
             return false;
         }
-        i += 1;
     }
     true
 }

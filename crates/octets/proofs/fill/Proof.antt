@@ -1,42 +1,36 @@
-use borrow.Author.Needs.{needs}
+-- `octets::fill` meets its contract: the laws of `Copying` keep the loop's invariant and answer every need. Assumes nothing.
+use Prim.Native.Nat.{_-_}
+use lib.ListN.{length}
+use Rattle.octets.proofs.Copying.{Filled, filling}
 use Rattle.octets.proofs.fill.Statement.{statement}
 use Rattle.octets.proofs.fill.Tie as tie
-use Rattle.octets.proofs.fill.Reads as reads
-use Rattle.octets.proofs.fill.Lts as lts
 
 abbrev Inv-loop : tie.InvT-loop
-Inv-loop out₀ x i₀ out i = ?
+Inv-loop out₀ x i₀ out i = Filled out₀ out x i
 
 abbrev μ-loop : tie.MeasureT-loop
-μ-loop out₀ x i₀ out i = ?
+μ-loop out₀ x i₀ out i = length out₀ - i
 
--- src/lib.rt:126:5
 loop-holds : tie.Need-loop-holds Inv-loop μ-loop
-loop-holds c = search needs
+loop-holds c = search filling
 
--- src/lib.rt:127:9
 slice-write-out : tie.Need-slice-write-out Inv-loop μ-loop
-slice-write-out c = search needs
+slice-write-out c = search filling
 
--- src/lib.rt:128:9
 add-i : tie.Need-add-i Inv-loop μ-loop
-add-i c = search needs
+add-i c = search filling
 
--- src/lib.rt:126:5
 loop-less : tie.Need-loop-less Inv-loop μ-loop
-loop-less c = search needs
+loop-less c = search filling
 
--- src/lib.rt:126:5
 loop-again : tie.Need-loop-again Inv-loop μ-loop
-loop-again c = search needs
+loop-again c = search filling
 
--- src/lib.rt:122:1
 same-length : tie.Need-same-length Inv-loop μ-loop
-same-length c = search needs
+same-length c = search filling
 
--- src/lib.rt:122:1
 returns : tie.Need-returns Inv-loop μ-loop
-returns c = search needs
+returns c = search filling
 
 pub fill-spec : {M : Type 1} → statement M
 fill-spec =

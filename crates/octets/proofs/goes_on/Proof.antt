@@ -1,62 +1,51 @@
-use borrow.Author.Needs.{needs}
+-- `octets::goes_on` meets its contract: the laws of `Comparing` keep the loop's invariant and answer every need. Assumes nothing.
+use Prim.Native.Nat.{_-_}
+use lib.ListN.{length, drop}
+use Rattle.octets.proofs.Comparing.{Opens, opening}
 use Rattle.octets.proofs.goes_on.Statement.{statement}
 use Rattle.octets.proofs.goes_on.Tie as tie
-use Rattle.octets.proofs.goes_on.Reads as reads
-use Rattle.octets.proofs.goes_on.Lts as lts
 
 abbrev Inv-loop : tie.InvT-loop
-Inv-loop s at text i₀ i = ?
+Inv-loop s at text i₀ i = Opens text (drop at s) i
 
 abbrev μ-loop : tie.MeasureT-loop
-μ-loop s at text i₀ i = ?
+μ-loop s at text i₀ i = length text - i
 
--- src/lib.rt:62:9
 returns : tie.Need-returns Inv-loop μ-loop
-returns c = search needs
+returns c = search opening
 
--- src/lib.rt:64:8
 sub-if2 : tie.Need-sub-if2 Inv-loop μ-loop
-sub-if2 c = search needs
+sub-if2 c = search opening
 
--- src/lib.rt:65:9
 returns-2 : tie.Need-returns-2 Inv-loop μ-loop
-returns-2 c = search needs
+returns-2 c = search opening
 
--- src/lib.rt:68:5
 loop-holds : tie.Need-loop-holds Inv-loop μ-loop
-loop-holds c = search needs
+loop-holds c = search opening
 
--- src/lib.rt:69:12
 shared-slice-read-if3 : tie.Need-shared-slice-read-if3 Inv-loop μ-loop
-shared-slice-read-if3 c = search needs
+shared-slice-read-if3 c = search opening
 
--- src/lib.rt:69:25
 add-if3 : tie.Need-add-if3 Inv-loop μ-loop
-add-if3 c = search needs
+add-if3 c = search opening
 
--- src/lib.rt:69:23
 shared-slice-read-if3-2 : tie.Need-shared-slice-read-if3-2 Inv-loop μ-loop
-shared-slice-read-if3-2 c = search needs
+shared-slice-read-if3-2 c = search opening
 
--- src/lib.rt:70:13
 returns-3 : tie.Need-returns-3 Inv-loop μ-loop
-returns-3 c = search needs
+returns-3 c = search opening
 
--- src/lib.rt:72:9
 add-i : tie.Need-add-i Inv-loop μ-loop
-add-i c = search needs
+add-i c = search opening
 
--- src/lib.rt:68:5
 loop-less : tie.Need-loop-less Inv-loop μ-loop
-loop-less c = search needs
+loop-less c = search opening
 
--- src/lib.rt:68:5
 loop-again : tie.Need-loop-again Inv-loop μ-loop
-loop-again c = search needs
+loop-again c = search opening
 
--- src/lib.rt:58:1
 returns-4 : tie.Need-returns-4 Inv-loop μ-loop
-returns-4 c = search needs
+returns-4 c = search opening
 
 pub goes-on-spec : {M : Type 1} → statement M
 goes-on-spec =

@@ -1,43 +1,36 @@
-use borrow.Author.Needs.{needs}
+-- `octets::is_zero` meets its contract: the laws of `Zeros` keep the loop's invariant and answer every need. Assumes nothing.
+use Prim.Native.Nat.{_-_}
+use lib.ListN.{length}
+use Rattle.octets.proofs.Zeros.{Zeros, zeroing}
 use Rattle.octets.proofs.is_zero.Statement.{statement}
 use Rattle.octets.proofs.is_zero.Tie as tie
-use Rattle.octets.proofs.is_zero.Reads as reads
-use Rattle.octets.proofs.is_zero.Lts as lts
-use Rattle.octets.proofs.larger.Reads as larger-reads
 
 abbrev Inv-loop : tie.InvT-loop
-Inv-loop s most₀ i₀ most i = ?
+Inv-loop s most₀ i₀ most i = Zeros s most i
 
 abbrev μ-loop : tie.MeasureT-loop
-μ-loop s most₀ i₀ most i = ?
+μ-loop s most₀ i₀ most i = length s - i
 
--- src/lib.rt:90:5
 loop-holds : tie.Need-loop-holds Inv-loop μ-loop
-loop-holds c = search needs
+loop-holds c = search zeroing
 
--- src/lib.rt:91:29
 shared-slice-read-larger : tie.Need-shared-slice-read-larger Inv-loop μ-loop
-shared-slice-read-larger c = search needs
+shared-slice-read-larger c = search zeroing
 
--- src/lib.rt:91:9
 larger-requires : tie.Need-larger-requires Inv-loop μ-loop
-larger-requires c κs = search needs
+larger-requires c κs = search zeroing
 
--- src/lib.rt:92:9
 add-i : tie.Need-add-i Inv-loop μ-loop
-add-i c = search needs
+add-i c = search zeroing
 
--- src/lib.rt:90:5
 loop-less : tie.Need-loop-less Inv-loop μ-loop
-loop-less c = search needs
+loop-less c = search zeroing
 
--- src/lib.rt:90:5
 loop-again : tie.Need-loop-again Inv-loop μ-loop
-loop-again c = search needs
+loop-again c = search zeroing
 
--- src/lib.rt:85:1
 returns : tie.Need-returns Inv-loop μ-loop
-returns c = search needs
+returns c = search zeroing
 
 pub is-zero-spec : {M : Type 1} → statement M
 is-zero-spec =

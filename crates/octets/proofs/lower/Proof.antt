@@ -1,24 +1,19 @@
-use borrow.Author.Needs.{needs}
+-- `octets::lower` meets its contract: the laws of `Letters` answer every need. Assumes nothing.
 use Rattle.octets.proofs.lower.Statement.{statement}
 use Rattle.octets.proofs.lower.Tie as tie
-use Rattle.octets.proofs.lower.Reads as reads
-use Rattle.octets.proofs.lower.Lts as lts
+use Rattle.octets.proofs.Letters.{lowering}
 
--- src/lib.rt:32:9
 returns : tie.Need-returns
-returns c = search needs
+returns c = search lowering
 
--- src/lib.rt:35:9
 returns-2 : tie.Need-returns-2
-returns-2 c = search needs
+returns-2 c = search lowering
 
--- src/lib.rt:37:5
 add-result : tie.Need-add-result
-add-result c = search needs
+add-result c = search lowering
 
--- src/lib.rt:28:1
 returns-3 : tie.Need-returns-3
-returns-3 c = search needs
+returns-3 c = search lowering
 
 pub lower-spec : {M : Type 1} → statement M
 lower-spec = tie.close (tie.spec returns returns-2 add-result returns-3)

@@ -1,50 +1,42 @@
-use borrow.Author.Needs.{needs}
+-- `octets::put` meets its contract: the laws of `Copying` keep the loop's invariant and answer every need. Assumes nothing.
+use Prim.Native.Nat.{_-_}
+use lib.ListN.{length}
+use Rattle.octets.proofs.Copying.{Copied, copying}
 use Rattle.octets.proofs.put.Statement.{statement}
 use Rattle.octets.proofs.put.Tie as tie
-use Rattle.octets.proofs.put.Reads as reads
-use Rattle.octets.proofs.put.Lts as lts
 
 abbrev Inv-loop : tie.InvT-loop
-Inv-loop out₀ at src i₀ out i = ?
+Inv-loop out₀ at src i₀ out i = Copied src out₀ out at i
 
 abbrev μ-loop : tie.MeasureT-loop
-μ-loop out₀ at src i₀ out i = ?
+μ-loop out₀ at src i₀ out i = length src - i
 
--- src/lib.rt:103:5
 loop-holds : tie.Need-loop-holds Inv-loop μ-loop
-loop-holds c = search needs
+loop-holds c = search copying
 
--- src/lib.rt:104:23
 shared-slice-read-out : tie.Need-shared-slice-read-out Inv-loop μ-loop
-shared-slice-read-out c = search needs
+shared-slice-read-out c = search copying
 
--- src/lib.rt:104:13
 add-out : tie.Need-add-out Inv-loop μ-loop
-add-out c = search needs
+add-out c = search copying
 
--- src/lib.rt:104:9
 slice-write-out : tie.Need-slice-write-out Inv-loop μ-loop
-slice-write-out c = search needs
+slice-write-out c = search copying
 
--- src/lib.rt:105:9
 add-i : tie.Need-add-i Inv-loop μ-loop
-add-i c = search needs
+add-i c = search copying
 
--- src/lib.rt:103:5
 loop-less : tie.Need-loop-less Inv-loop μ-loop
-loop-less c = search needs
+loop-less c = search copying
 
--- src/lib.rt:103:5
 loop-again : tie.Need-loop-again Inv-loop μ-loop
-loop-again c = search needs
+loop-again c = search copying
 
--- src/lib.rt:98:1
 same-length : tie.Need-same-length Inv-loop μ-loop
-same-length c = search needs
+same-length c = search copying
 
--- src/lib.rt:98:1
 returns : tie.Need-returns Inv-loop μ-loop
-returns c = search needs
+returns c = search copying
 
 pub put-spec : {M : Type 1} → statement M
 put-spec =

@@ -1,55 +1,46 @@
-use borrow.Author.Needs.{needs}
+-- `octets::put_lower` meets its contract: the laws of `Copying` keep the loop's invariant and answer every need. Assumes nothing.
+use Prim.Native.Nat.{_-_}
+use lib.ListN.{length}
+use Rattle.octets.specs.Octets.{lowered}
+use Rattle.octets.proofs.Copying.{Copied, making-small}
 use Rattle.octets.proofs.put_lower.Statement.{statement}
 use Rattle.octets.proofs.put_lower.Tie as tie
-use Rattle.octets.proofs.put_lower.Reads as reads
-use Rattle.octets.proofs.put_lower.Lts as lts
-use Rattle.octets.proofs.lower.Reads as lower-reads
 
 abbrev Inv-loop : tie.InvT-loop
-Inv-loop out₀ at src i₀ out i = ?
+Inv-loop out₀ at src i₀ out i = Copied (lowered src) out₀ out at i
 
 abbrev μ-loop : tie.MeasureT-loop
-μ-loop out₀ at src i₀ out i = ?
+μ-loop out₀ at src i₀ out i = length src - i
 
--- src/lib.rt:115:5
 loop-holds : tie.Need-loop-holds Inv-loop μ-loop
-loop-holds c = search needs
+loop-holds c = search making-small
 
--- src/lib.rt:116:29
 shared-slice-read-lower : tie.Need-shared-slice-read-lower Inv-loop μ-loop
-shared-slice-read-lower c = search needs
+shared-slice-read-lower c = search making-small
 
--- src/lib.rt:116:23
 lower-requires : tie.Need-lower-requires Inv-loop μ-loop
-lower-requires c κs = search needs
+lower-requires c κs = search making-small
 
--- src/lib.rt:116:13
 add-out : tie.Need-add-out Inv-loop μ-loop
-add-out c = search needs
+add-out c = search making-small
 
--- src/lib.rt:116:9
 slice-write-out : tie.Need-slice-write-out Inv-loop μ-loop
-slice-write-out c = search needs
+slice-write-out c = search making-small
 
--- src/lib.rt:117:9
 add-i : tie.Need-add-i Inv-loop μ-loop
-add-i c = search needs
+add-i c = search making-small
 
--- src/lib.rt:115:5
 loop-less : tie.Need-loop-less Inv-loop μ-loop
-loop-less c = search needs
+loop-less c = search making-small
 
--- src/lib.rt:115:5
 loop-again : tie.Need-loop-again Inv-loop μ-loop
-loop-again c = search needs
+loop-again c = search making-small
 
--- src/lib.rt:110:1
 same-length : tie.Need-same-length Inv-loop μ-loop
-same-length c = search needs
+same-length c = search making-small
 
--- src/lib.rt:110:1
 returns : tie.Need-returns Inv-loop μ-loop
-returns c = search needs
+returns c = search making-small
 
 pub put-lower-spec : {M : Type 1} → statement M
 put-lower-spec =

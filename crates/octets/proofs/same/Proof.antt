@@ -1,50 +1,42 @@
-use borrow.Author.Needs.{needs}
+-- `octets::same` meets its contract: the laws of `Comparing` keep the loop's invariant and answer every need. Assumes nothing.
+use Prim.Native.Nat.{_-_}
+use lib.ListN.{length}
+use Rattle.octets.proofs.Comparing.{Same, comparing}
 use Rattle.octets.proofs.same.Statement.{statement}
 use Rattle.octets.proofs.same.Tie as tie
-use Rattle.octets.proofs.same.Reads as reads
-use Rattle.octets.proofs.same.Lts as lts
 
 abbrev Inv-loop : tie.InvT-loop
-Inv-loop a b i₀ i = ?
+Inv-loop a b i₀ i = Same a b i
 
 abbrev μ-loop : tie.MeasureT-loop
-μ-loop a b i₀ i = ?
+μ-loop a b i₀ i = length a - i
 
--- src/lib.rt:15:9
 returns : tie.Need-returns Inv-loop μ-loop
-returns c = search needs
+returns c = search comparing
 
--- src/lib.rt:18:5
 loop-holds : tie.Need-loop-holds Inv-loop μ-loop
-loop-holds c = search needs
+loop-holds c = search comparing
 
--- src/lib.rt:19:12
 shared-slice-read-if2 : tie.Need-shared-slice-read-if2 Inv-loop μ-loop
-shared-slice-read-if2 c = search needs
+shared-slice-read-if2 c = search comparing
 
--- src/lib.rt:19:20
 shared-slice-read-if2-2 : tie.Need-shared-slice-read-if2-2 Inv-loop μ-loop
-shared-slice-read-if2-2 c = search needs
+shared-slice-read-if2-2 c = search comparing
 
--- src/lib.rt:20:13
 returns-2 : tie.Need-returns-2 Inv-loop μ-loop
-returns-2 c = search needs
+returns-2 c = search comparing
 
--- src/lib.rt:22:9
 add-i : tie.Need-add-i Inv-loop μ-loop
-add-i c = search needs
+add-i c = search comparing
 
--- src/lib.rt:18:5
 loop-less : tie.Need-loop-less Inv-loop μ-loop
-loop-less c = search needs
+loop-less c = search comparing
 
--- src/lib.rt:18:5
 loop-again : tie.Need-loop-again Inv-loop μ-loop
-loop-again c = search needs
+loop-again c = search comparing
 
--- src/lib.rt:11:1
 returns-3 : tie.Need-returns-3 Inv-loop μ-loop
-returns-3 c = search needs
+returns-3 c = search comparing
 
 pub same-spec : {M : Type 1} → statement M
 same-spec =
