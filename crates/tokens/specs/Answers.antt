@@ -1,14 +1,18 @@
 -- From the lists that the definitions leave behind to the places that the code answers.
---     reached    where in s what is left begins
---     Passed     what the readers of comments say of the place they reached
-use Prim.Native.Nat.{ℕ, _-_, _<_, _≤_}
+--     reached            where in s what is left begins
+--     takes, stepIn      what the readers of a single octet inside a comment or a quoted string say
+--     Opening, Passed    what the readers of comments ask and say
+use Prim.Native.Nat.{ℕ, _+_, _-_, _<_, _≤_}
 use mathlib.Core.Path.{_≡_}
 use mathlib.Core.List.{List, [], _∷_}
 use mathlib.Core.Option.{Option, some, none}
-use mathlib.Core.Bool.{Bool, false, not}
+use mathlib.Core.Bool.{Bool, true, false, not}
 use lib.ListN.{length, getD, drop}
+use Rattle.octets.specs.Octets.{octet}
 use Rattle.tokens.specs.Tokens.{control, kindOf, depth, past}
-use Rattle.tokens.specs.declared.Kind.the-variants.{Opens}
+use Rattle.tokens.specs.declared.Kind.the-variants.{Closes, Escapes, Control, Plain}
+use Rattle.tokens.specs.declared.Step.{Step}
+use Rattle.tokens.specs.declared.Step.the-variants.{On, Ends, Stops}
 use Rattle.tokens.specs.declared.Reached.{Reached}
 use Rattle.tokens.specs.declared.Reached.the-variants.{To, Unreadable}
 
@@ -21,12 +25,28 @@ unfoldable pub takes : List ℕ → Bool
 takes [] = false
 takes (x ∷ s) = not (control x)
 
--- a comment opens at the place `at` of s, and no more than 16 may be open
-abbrev pub Opening : List ℕ → ℕ → ℕ → Type 0
-Opening s at room = (at < length s) × (room ≤ depth) × (kindOf (getD s at 0) ≡ Opens)
+-- what stands next inside a comment or a quoted string, at the place `at` of a text
+unfoldable pub stepIn : ℕ → ℕ → List ℕ → Step
+stepIn closing at [] = Stops
+stepIn closing at (x ∷ s) =
+    elim (kindOf closing x) [
+      Closes ↦ Ends (at + 1)
+    | Escapes ↦ elim (takes s) [ true ↦ On (at + 2) | false ↦ Stops ]
+    | Control ↦ Stops
+    | Plain ↦ On (at + 1)
+    ]
 
--- With `before` comments open at the place `at` of s, reading has come to a place behind it where `after` are open, and what `past`
--- gives at the one place it gives at the other; or it gives nothing.
+-- a comment opens at the place `at` of s, and up to `room` more may be open
+abbrev pub Opening : List ℕ → ℕ → ℕ → Type 0
+Opening s at room = (at < length s) × (getD s at 0 ≡ octet "(") × (room ≤ depth)
+
+-- With `before` comments open at the place `at` of s, reading has come to a place n behind it with `after` open, and what is left behind
+-- the comments is the same from either place.
+pub record Passing (s : List ℕ) (at before after n : ℕ) : Type 0 where
+  pub beyond : at < n
+  pub upto : n ≤ length s
+  pub same : past before false (drop at s) ≡ past after false (drop n s)
+
 abbrev pub Passed : List ℕ → ℕ → ℕ → ℕ → Reached → Type 0
-Passed s at before after (To n) = (at < n) × (n ≤ length s) × (past before false (drop at s) ≡ past after false (drop n s))
+Passed s at before after (To n) = Passing s at before after n
 Passed s at before after Unreadable = past before false (drop at s) ≡ none

@@ -1,24 +1,29 @@
 // The tokens that lists and dates share: spaces, tabs and comments skipped, quoted strings passed, and the ends of
 // runs of digits, of letters and of atoms. A reader is given the text and a place in it, and answers a place.
-ghost use Prim.Native.Nat.{_+_, _-_, _≤_, _<_};
+ghost use Prim.Native.Nat.{suc, _+_, _-_, _<_};
 ghost use mathlib.Core.Path.{_≡_};
 ghost use mathlib.Core.Bool.{false};
-ghost use lib.ListN.{length, getD, drop};
-ghost use Rattle.tokens.specs.Tokens.{control, kindOf, skipped, afterQuote, digit as digitOf, letter as letterOf, sign as signOf, belongs, runLength};
-ghost use Rattle.tokens.specs.Answers.{takes as takesOf, reached, Opening, Passed};
+ghost use lib.ListN.{drop};
+ghost use Rattle.tokens.specs.Tokens.{control, blank, kindOf, skipped, afterQuote, digit as digitOf, letter as letterOf, sign as signOf, belongs, runLength};
+ghost use Rattle.tokens.specs.Answers.{reached, takes as takesOf, stepIn, Opening, Passed};
 
 // How many comments may be open at once.
 const DEPTH: usize = 16;
 
-// What an octet is to comments and quoted strings.
+// What an octet is inside a comment or a quoted string.
 pub enum Kind {
-    Blank,
-    Opens,
     Closes,
-    Quotes,
     Escapes,
     Control,
     Plain,
+}
+
+// What reading inside a comment or a quoted string comes to at a place: it goes on at another place, it has come to
+// the end and to the place behind it, or the text is unreadable.
+enum Step {
+    On(usize),
+    Ends(usize),
+    Stops,
 }
 
 // The classes of octets that make runs.
@@ -41,20 +46,26 @@ pub fn is_control(x: u8) -> bool
     ((x < 32) | (x == 127)) & (x != b'\t')
 }
 
-pub fn kind_of(x: u8) -> Kind
-    ensures { λ r. ⌜ r ≡ kindOf x ⌝ }
+pub fn is_blank(x: u8) -> bool
+    ensures { λ r. ⌜ r ≡ blank x ⌝ }
 {
+    (x == b' ') | (x == b'\t')
+}
+
+// What `x` is inside a comment or a quoted string that `closing` closes.
+fn kind_of(closing: u8, x: u8) -> Kind
+    ensures { λ r. ⌜ r ≡ kindOf closing x ⌝ }
+{
+    if x == closing {
+        return Kind::Closes;
+    }
+    if x == b'\\' {
+        return Kind::Escapes;
+    }
     if is_control(x) {
         return Kind::Control;
     }
-    match x {
-        b' ' | b'\t' => Kind::Blank,
-        b'(' => Kind::Opens,
-        b')' => Kind::Closes,
-        b'"' => Kind::Quotes,
-        b'\\' => Kind::Escapes,
-        _ => Kind::Plain,
-    }
+    Kind::Plain
 }
 
 // Does an octet stand at the place `at` that a backslash before it may take?
@@ -65,6 +76,27 @@ fn takes(s: &[u8], at: usize) -> bool
         return false;
     }
     !is_control(s[at])
+}
+
+// What stands at the place `at` inside a comment or a quoted string that `closing` closes.
+fn step_in(closing: u8, s: &[u8], at: usize) -> Step
+    ensures { λ r. ⌜ r ≡ stepIn closing at (drop at (now (s .entry))) ⌝ }
+{
+    if s.len() <= at {
+        return Step::Stops;
+    }
+    match kind_of(closing, s[at]) {
+        Kind::Closes => Step::Ends(at + 1),
+        Kind::Escapes => {
+            if takes(s, at + 1) {
+                Step::On(at + 2)
+            } else {
+                Step::Stops
+            }
+        }
+        Kind::Control => Step::Stops,
+        Kind::Plain => Step::On(at + 1),
+    }
 }
 
 // A comment opens at the place `at`, and `room` more may be open: reads to behind its end.
@@ -81,24 +113,21 @@ fn comment(s: &[u8], at: usize, room: usize) -> Reached
 // The content of a comment from the place `at` on, in which `room` more may be open: reads to behind the comment's end.
 fn content(s: &[u8], at: usize, room: usize) -> Reached
     requires { ⌜ room < 16 ⌝ }
-    ensures { λ r. ⌜ Passed (now (s .entry)) at (16 - room) (15 - room) r ⌝ }
+    ensures { λ r. ⌜ Passed (now (s .entry)) at (suc (15 - room)) (15 - room) r ⌝ }
 {
     let mut i = at;
     while i < s.len() {
-        match kind_of(s[i]) {
-            Kind::Closes => return Reached::To(i + 1),
-            Kind::Control => return Reached::Unreadable,
-            Kind::Opens => match comment(s, i, room) {
+        if s[i] == b'(' {
+            match comment(s, i, room) {
                 Reached::To(n) => i = n,
                 Reached::Unreadable => return Reached::Unreadable,
-            },
-            Kind::Escapes => {
-                if !takes(s, i + 1) {
-                    return Reached::Unreadable;
-                }
-                i += 2;
             }
-            Kind::Blank | Kind::Quotes | Kind::Plain => i += 1,
+        } else {
+            match step_in(b')', s, i) {
+                Step::On(n) => i = n,
+                Step::Ends(n) => return Reached::To(n),
+                Step::Stops => return Reached::Unreadable,
+            }
         }
     }
     Reached::Unreadable
@@ -110,13 +139,15 @@ pub fn skip(s: &[u8], at: usize) -> Reached
 {
     let mut i = at;
     while i < s.len() {
-        match kind_of(s[i]) {
-            Kind::Blank => i += 1,
-            Kind::Opens => match comment(s, i, DEPTH) {
+        if is_blank(s[i]) {
+            i += 1;
+        } else if s[i] == b'(' {
+            match comment(s, i, DEPTH) {
                 Reached::To(n) => i = n,
                 Reached::Unreadable => return Reached::Unreadable,
-            },
-            Kind::Closes | Kind::Quotes | Kind::Escapes | Kind::Control | Kind::Plain => return Reached::To(i),
+            }
+        } else {
+            return Reached::To(i);
         }
     }
     Reached::To(s.len())
@@ -128,16 +159,10 @@ pub fn quoted(s: &[u8], at: usize) -> Reached
 {
     let mut i = at;
     while i < s.len() {
-        match kind_of(s[i]) {
-            Kind::Quotes => return Reached::To(i + 1),
-            Kind::Control => return Reached::Unreadable,
-            Kind::Escapes => {
-                if !takes(s, i + 1) {
-                    return Reached::Unreadable;
-                }
-                i += 2;
-            }
-            Kind::Blank | Kind::Opens | Kind::Closes | Kind::Plain => i += 1,
+        match step_in(b'"', s, i) {
+            Step::On(n) => i = n,
+            Step::Ends(n) => return Reached::To(n),
+            Step::Stops => return Reached::Unreadable,
         }
     }
     Reached::Unreadable

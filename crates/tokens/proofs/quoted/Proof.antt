@@ -1,94 +1,57 @@
-use lib.ListN.{length}
 use Prim.Native.Nat.{_-_}
-use borrow.Author.Needs.{needs}
+use lib.ListN.{length}
 use Rattle.tokens.proofs.quoted.Statement.{statement}
 use Rattle.tokens.proofs.quoted.Tie as tie
 use Rattle.tokens.proofs.quoted.Reads as reads
 use Rattle.tokens.proofs.quoted.Lts as lts
-use Rattle.tokens.proofs.kind_of.Reads as kind-of-reads
-use Rattle.tokens.proofs.takes.Reads as takes-reads
+use Rattle.tokens.proofs.step_in.Reads as step-in-reads
+use Rattle.tokens.proofs.Quoting.{Quoting, quoting}
 
 abbrev Inv-loop : tie.InvT-loop
-Inv-loop s at i₀ i = Unit {0}
+Inv-loop s at i₀ i = Quoting s at i
 
 abbrev μ-loop : tie.MeasureT-loop
 μ-loop s at i₀ i = length s - i
 
--- src/lib.rt:130:5
+-- src/lib.rt:161:5
 loop-holds : tie.Need-loop-holds Inv-loop μ-loop
-loop-holds c = search needs
+loop-holds c = search quoting
 
--- src/lib.rt:131:23
-shared-slice-read-kind-of : tie.Need-shared-slice-read-kind-of Inv-loop μ-loop
-shared-slice-read-kind-of c = search needs
+-- src/lib.rt:162:15
+step-in-requires : tie.Need-step-in-requires Inv-loop μ-loop
+step-in-requires c κs = search quoting
 
--- src/lib.rt:131:15
-kind-of-requires : tie.Need-kind-of-requires Inv-loop μ-loop
-kind-of-requires c κs = search needs
+-- src/lib.rt:163:22
+enum-known-n : tie.Need-enum-known-n Inv-loop μ-loop
+enum-known-n c = search quoting
 
--- src/lib.rt:132:48
-enum-told : tie.Need-enum-told Inv-loop μ-loop
-enum-told c = search needs
-
--- src/lib.rt:132:48
-add-t9 : tie.Need-add-t9 Inv-loop μ-loop
-add-t9 c = search needs
-
--- src/lib.rt:132:29
-returns : tie.Need-returns Inv-loop μ-loop
-returns c = let k = c .enum-told .given in ?
-
--- src/lib.rt:133:30
-enum-told-2 : tie.Need-enum-told-2 Inv-loop μ-loop
-enum-told-2 c = search needs
-
--- src/lib.rt:133:30
-returns-2 : tie.Need-returns-2 Inv-loop μ-loop
-returns-2 c = search needs
-
--- src/lib.rt:135:30
-enum-told-3 : tie.Need-enum-told-3 Inv-loop μ-loop
-enum-told-3 c = search needs
-
--- src/lib.rt:135:30
-add-takes : tie.Need-add-takes Inv-loop μ-loop
-add-takes c = search needs
-
--- src/lib.rt:135:21
-takes-requires : tie.Need-takes-requires Inv-loop μ-loop
-takes-requires c κs = search needs
-
--- src/lib.rt:136:21
-returns-3 : tie.Need-returns-3 Inv-loop μ-loop
-returns-3 c = let k = c .if1 .taken in ?
-
--- src/lib.rt:138:17
-add-i : tie.Need-add-i Inv-loop μ-loop
-add-i c = search needs
-
--- src/lib.rt:130:5
+-- src/lib.rt:161:5
 loop-less : tie.Need-loop-less Inv-loop μ-loop
-loop-less c = search needs
+loop-less c = search quoting
 
--- src/lib.rt:130:5
+-- src/lib.rt:161:5
 loop-again : tie.Need-loop-again Inv-loop μ-loop
-loop-again c = search needs
+loop-again c = search quoting
 
--- src/lib.rt:140:71
-add-i-2 : tie.Need-add-i-2 Inv-loop μ-loop
-add-i-2 c = search needs
+-- src/lib.rt:164:24
+enum-known-n-2 : tie.Need-enum-known-n-2 Inv-loop μ-loop
+enum-known-n-2 c = search quoting
 
--- src/lib.rt:130:5
-loop-less-2 : tie.Need-loop-less-2 Inv-loop μ-loop
-loop-less-2 c = search needs
+-- src/lib.rt:164:30
+returns : tie.Need-returns Inv-loop μ-loop
+returns c = search quoting
 
--- src/lib.rt:130:5
-loop-again-2 : tie.Need-loop-again-2 Inv-loop μ-loop
-loop-again-2 c = let k = c .match .keys4 in ?
+-- src/lib.rt:165:28
+enum-told : tie.Need-enum-told Inv-loop μ-loop
+enum-told c = search quoting
 
--- src/lib.rt:126:1
-returns-4 : tie.Need-returns-4 Inv-loop μ-loop
-returns-4 c = search needs
+-- src/lib.rt:165:28
+returns-2 : tie.Need-returns-2 Inv-loop μ-loop
+returns-2 c = search quoting
+
+-- src/lib.rt:157:1
+returns-3 : tie.Need-returns-3 Inv-loop μ-loop
+returns-3 c = search quoting
 
 pub quoted-spec : {M : Type 1} → statement M
 quoted-spec =
@@ -97,21 +60,12 @@ quoted-spec =
     Inv-loop
     μ-loop
     loop-holds
-    shared-slice-read-kind-of
-    kind-of-requires
-    enum-told
-    add-t9
-    returns
-    enum-told-2
-    returns-2
-    enum-told-3
-    add-takes
-    takes-requires
-    returns-3
-    add-i
+    step-in-requires
+    enum-known-n
     loop-less
     loop-again
-    add-i-2
-    loop-less-2
-    loop-again-2
-    returns-4)
+    enum-known-n-2
+    returns
+    enum-told
+    returns-2
+    returns-3)

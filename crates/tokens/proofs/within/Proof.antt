@@ -1,4 +1,3 @@
-use borrow.Author.Needs.{needs}
 use Rattle.tokens.proofs.within.Statement.{statement}
 use Rattle.tokens.proofs.within.Tie as tie
 use Rattle.tokens.proofs.within.Reads as reads
@@ -6,50 +5,51 @@ use Rattle.tokens.proofs.within.Lts as lts
 use Rattle.tokens.proofs.digit.Reads as digit-reads
 use Rattle.tokens.proofs.letter.Reads as letter-reads
 use Rattle.tokens.proofs.sign.Reads as sign-reads
+use Rattle.tokens.proofs.Telling.{telling}
 
--- src/lib.rt:170:25
+-- src/lib.rt:195:25
 enum-told : tie.Need-enum-told
-enum-told c = search needs
+enum-told c = search telling
 
--- src/lib.rt:170:25
+-- src/lib.rt:195:25
 digit-requires : tie.Need-digit-requires
-digit-requires c κs = search needs
+digit-requires c κs = search telling
 
--- src/lib.rt:171:26
+-- src/lib.rt:196:26
 enum-told-2 : tie.Need-enum-told-2
-enum-told-2 c = search needs
+enum-told-2 c = search telling
 
--- src/lib.rt:171:26
+-- src/lib.rt:196:26
 letter-requires : tie.Need-letter-requires
-letter-requires c κs = search needs
+letter-requires c κs = search telling
 
--- src/lib.rt:172:24
+-- src/lib.rt:197:24
 enum-told-3 : tie.Need-enum-told-3
-enum-told-3 c = search needs
+enum-told-3 c = search telling
 
--- src/lib.rt:172:24
+-- src/lib.rt:197:24
 letter-requires-2 : tie.Need-letter-requires-2
-letter-requires-2 c κs = search needs
+letter-requires-2 c κs = search telling
 
--- src/lib.rt:172:36
+-- src/lib.rt:197:36
 digit-requires-2 : tie.Need-digit-requires-2
-digit-requires-2 c κs = search needs
+digit-requires-2 c κs = search telling
 
--- src/lib.rt:172:47
+-- src/lib.rt:197:47
 sign-requires : tie.Need-sign-requires
-sign-requires c κs = search needs
+sign-requires c κs = search telling
 
--- src/lib.rt:166:1
+-- src/lib.rt:191:1
 returns : tie.Need-returns
-returns c = search needs
+returns c = search telling
 
--- src/lib.rt:166:1
+-- src/lib.rt:191:1
 returns-2 : tie.Need-returns-2
-returns-2 c = search needs
+returns-2 c = search telling
 
--- src/lib.rt:166:1
+-- src/lib.rt:191:1
 returns-3 : tie.Need-returns-3
-returns-3 c = search needs
+returns-3 c = search telling
 
 pub within-spec : {M : Type 1} → statement M
 within-spec =
