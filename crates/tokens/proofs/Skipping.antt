@@ -2,9 +2,9 @@
 --     Skipping s at i              what is left behind them is the same from `at` and from i
 --     skipping-begin .. skipping-end    the loop's steps
 --     stays                        an octet that is neither blank nor "(" is where what is left begins
---     past-suffix                  what is left is a part of the text
+--     skipped-suffix               what is left is a part of the text
 --     skipped-again                behind what was skipped nothing is left to skip
---     left-opens                   so what is left opens neither with a blank nor with "("
+--     left-not-blank, left-not-opens    so what is left opens neither with a blank nor with "("
 --     skip-to                      an answer `To n`: what is left is the text from n on, and n is not before `at`
 --     skip-unreadable              an answer Unreadable: nothing is left
 -- Assumes nothing.
@@ -99,11 +99,51 @@ reads (suc n) false x s = go (eqb x 40) refl
     go true q = room q (ltb (suc n) depth) refl
     go false q = inside q (kindOf 41 x) refl
 
-pub past-suffix : (n : ℕ) (taken : Bool) (s rest : List ℕ) → past n taken s ≡ some rest → Suffix rest s
+-- what is left is a part of the text, and nothing is left to skip in it
+left-behind : (n : ℕ) (taken : Bool) (s rest : List ℕ) → past n taken s ≡ some rest → Suffix rest s × (skipped rest ≡ some rest)
 unfolding past
-past-suffix zero taken [] rest e = let q : _≡_ {A = List ℕ} [] rest = cc in rw q whole
-past-suffix (suc n) taken [] rest e = absurd (none-or-some _ rest refl e)
-past-suffix n taken (x ∷ s) rest e = ?
+left-behind zero taken [] rest e = let q : _≡_ {A = List ℕ} [] rest = cc in rw (← q) (whole, refl)
+left-behind (suc n) taken [] rest e = absurd (none-or-some none rest refl e)
+left-behind n taken (x ∷ s) rest e = go (λ m next. left-behind m next s rest) (reads n taken x s)
+  where
+    go :
+        ((m : ℕ) (next : Bool) → past m next s ≡ some rest → Suffix rest s × (skipped rest ≡ some rest)) → Reads n taken x s
+        → Suffix rest (x ∷ s) × (skipped rest ≡ some rest)
+    go more (stuck p) = absurd (none-or-some (past n taken (x ∷ s)) rest p e)
+    go more (begins q p) = let r : x ∷ s ≡ rest = cc in rw (← r) (whole, q)
+    go more (goes m next p) = let r : _ = more m next (sym p ∙ e) in (behind x (r .0), r .1)
 
-pub skipped-again : (n : ℕ) (taken : Bool) (s rest : List ℕ) → past n taken s ≡ some rest → skipped rest ≡ some rest
-skipped-again n taken s rest e = ?
+module _ (s rest : List ℕ) (e : skipped s ≡ some rest) where
+  pub skipped-suffix : Suffix rest s
+  skipped-suffix = left-behind 0 false s rest e .0
+
+  pub skipped-again : skipped rest ≡ some rest
+  skipped-again = left-behind 0 false s rest e .1
+
+-- a list is no part of its own tail
+not-behind : (x : ℕ) (s : List ℕ) → Suffix (x ∷ s) s → ⊥
+not-behind x s h = omega (arith, suffix-length h)
+
+module _ (x : ℕ) (s rest : List ℕ) (e : skipped s ≡ some (x ∷ rest)) where
+  pub left-not-blank : blank x ≡ false
+  unfolding past
+  left-not-blank = go (blank x) refl
+    where
+      go : (b : Bool) → blank x ≡ b → b ≡ false
+      go true p = absurd (not-behind x rest (skipped-suffix rest (x ∷ rest) (rw (past, p) at (skipped-again s (x ∷ rest) e))))
+      go false p = refl
+
+  pub left-not-opens : x ≡ 40 → ⊥
+  unfolding past
+  left-not-opens p =
+      let inside : past 1 false rest ≡ some (x ∷ rest) =
+          rw (past, left-not-blank, eq-eqb x 40 p) at (skipped-again s (x ∷ rest) e)
+      in
+      not-behind x rest (left-behind 1 false rest (x ∷ rest) inside .0)
+
+module _ (s : List ℕ) (at : ℕ) where
+  pub skip-to : (n : ℕ) → at ≤ length s → To n ≡ reached s (skipped (drop at s)) → Left s at n (skipped (drop at s))
+  skip-to n l e = reached-to s at n (skipped (drop at s)) l (λ rest p. skipped-suffix (drop at s) rest p) e
+
+  pub skip-unreadable : Unreadable ≡ reached s (skipped (drop at s)) → skipped (drop at s) ≡ none
+  skip-unreadable e = reached-none s (skipped (drop at s)) e
