@@ -5,7 +5,8 @@
 --     skipped-suffix               what is left is a part of the text
 --     skipped-again                behind what was skipped nothing is left to skip
 --     left-not-blank, left-not-opens    so what is left opens neither with a blank nor with "("
---     skip-to                      an answer `To n`: what is left is the text from n on, and n is not before `at`
+--     skip-to                      an answer `To n`: what is left is the text from n on, and n is not before `at`; skip-from, skip-upto
+--                                  and skip-left say it one by one
 --     skip-unreadable              an answer Unreadable: nothing is left
 -- Assumes nothing.
 use Prim.Native.Nat.{ℕ, suc, zero, _+_, _-_, _<_, _≤_}
@@ -141,9 +142,20 @@ module _ (x : ℕ) (s rest : List ℕ) (e : skipped s ≡ some (x ∷ rest)) whe
       in
       not-behind x rest (left-behind 1 false rest (x ∷ rest) inside .0)
 
-module _ (s : List ℕ) (at : ℕ) where
-  pub skip-to : (n : ℕ) → at ≤ length s → To n ≡ reached s (skipped (drop at s)) → Left s at n (skipped (drop at s))
-  skip-to n l e = reached-to s at n (skipped (drop at s)) l (λ rest p. skipped-suffix (drop at s) rest p) e
+-- what a caller of `skip` learns from its answer r
+module _ (s : List ℕ) (at : ℕ) (r : Reached) (e : r ≡ reached s (skipped (drop at s))) where
+  module _ (n : ℕ) (q : r ≡ To n) (l : at ≤ length s) where
+    pub skip-to : Left s at n (skipped (drop at s))
+    skip-to = reached-to s at n (skipped (drop at s)) l (λ rest p. skipped-suffix (drop at s) rest p) (sym q ∙ e)
 
-  pub skip-unreadable : Unreadable ≡ reached s (skipped (drop at s)) → skipped (drop at s) ≡ none
-  skip-unreadable e = reached-none s (skipped (drop at s)) e
+    pub skip-from : at ≤ n
+    skip-from = skip-to .from
+
+    pub skip-upto : n ≤ length s
+    skip-upto = skip-to .upto
+
+    pub skip-left : skipped (drop at s) ≡ some (drop n s)
+    skip-left = skip-to .left
+
+  pub skip-unreadable : r ≡ Unreadable → skipped (drop at s) ≡ none
+  skip-unreadable q = reached-none s (skipped (drop at s)) (sym q ∙ e)

@@ -7,7 +7,7 @@ use mathlib.Core.List.{List, [], _∷_, _++_}
 use mathlib.Core.Option.{Option, some, none}
 use lib.ListN.{replicate}
 use Rattle.octets.specs.Octets.{ascii, octet}
-use Rattle.tokens.specs.Tokens.{control, blank, kindOf, tab, past, skipped, afterQuote, sign, belongs, runLength}
+use Rattle.tokens.specs.Tokens.{control, blank, kindOf, tab, past, skipped, afterQuote, belongs, runLength}
 use Rattle.tokens.specs.Answers.{reached}
 use Rattle.tokens.specs.declared.Class.the-variants.{Digit, Letter, Atom}
 use Rattle.tokens.specs.declared.Reached.the-variants.{To, Unreadable}
@@ -114,9 +114,9 @@ unfolding runLength belongs
 letters = refl
 
 atoms : runLength Atom (ascii "a!#$%&'*+-/=?^_`{|}~9.b") ≡ 21
-unfolding runLength belongs sign
+unfolding runLength belongs
 atoms = refl
 
 high : runLength Atom (195 ∷ 164 ∷ 127 ∷ []) ≡ 2
-unfolding runLength belongs sign
+unfolding runLength belongs
 high = refl

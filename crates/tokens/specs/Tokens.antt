@@ -81,22 +81,19 @@ digit x = leb (octet "0") x && leb x (octet "9")
 abbrev pub letter : ℕ → Bool
 letter x = (leb (octet "A") x && leb x (octet "Z")) || (leb (octet "a") x && leb x (octet "z"))
 
-abbrev pub among : List ℕ → ℕ → Bool
-among [] x = false
-among (y ∷ s) x = eqb x y || among s x
-
 -- RFC 5322, 3.2.3: what may stand in an atom besides letters and digits
 abbrev pub signs : List ℕ
 signs = ascii "!#$%&'*+-/=?^_`{|}~"
 
-unfoldable pub sign : ℕ → Bool
-sign x = among signs x
+abbrev pub among : List ℕ → ℕ → Bool
+among [] x = false
+among (y ∷ s) x = eqb x y || among s x
 
 -- "Octets of 128 and above may stand in atoms"
 unfoldable pub belongs : Class → ℕ → Bool
 belongs Digit x = digit x
 belongs Letter x = letter x
-belongs Atom x = letter x || digit x || sign x || leb 128 x
+belongs Atom x = letter x || digit x || among signs x || leb 128 x
 
 -- how many octets of the class the list opens with
 unfoldable pub runLength : Class → List ℕ → ℕ
