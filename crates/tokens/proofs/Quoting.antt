@@ -103,6 +103,7 @@ module _ (s : List ℕ) (at : ℕ) (r : Reached) (e : r ≡ reached s (afterQuot
         here l =
             reached-to s (at + 1) n (afterQuote false (drop at s)) (omega arith)
             (λ rest p. rw drop-drop at (quote-suffix false (drop at s) rest p)) (sym q ∙ e)
+
         beyond : length s ≤ at → Left s (at + 1) n (afterQuote false (drop at s))
         beyond l = let z : _≡_ {A = ℕ} 0 1 = cc (drop-done s at l) in absurd (omega arith)
 

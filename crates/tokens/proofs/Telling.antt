@@ -1,17 +1,17 @@
 -- What single octets are: the laws behind the tests on one octet.
 --     kind-closes .. kind-plain    the four kinds of an octet inside a comment or a quoted string, by the tests in their order
 --     takes-end, takes-octet       whether a backslash may take what stands at a place
---     atom-ranges                  the ranges of the octets of atoms, at each of the 256 octets
+--     atom-high, atom-capital, atom-low    the ranges of the octets of atoms, held to their definition at each of the 256 octets
 --     of-class                     what the test of a class says
 -- Assumes nothing.
 use Prim.Native.Nat.{ℕ, zero, suc, _<_, _≤_}
 use mathlib.Core.Path.{_≡_, refl, sym, ap, _∙_}
-use mathlib.Core.Bool.{Bool, true, false, not, _&&_, _||_, Bool·beq, and-eq-true-iff}
+use mathlib.Core.Bool.{Bool, true, false, cond, not, _&&_, _||_, Bool·beq, and-eq-true-iff}
 use mathlib.Core.Logic.{⊎-elim}
 use mathlib.Core.List.{List}
 use native.Mathlib.Omega.{arith}
 use borrow.Author.Needs.{needs}
-use borrow.Author.Tests.{eq-eqb, ne-eqb}
+use borrow.Author.Tests.{eq-eqb, ne-eqb, le-leb, lt-leb}
 use lib.Dec.{leb, eqb}
 use lib.ListN.{length, getD, drop}
 use Rattle.octets.proofs.Lists.{lt-or-le, drop-one, drop-done}
@@ -65,20 +65,31 @@ same-bool true false e = sym e
 same-bool false true e = e
 same-bool false false e = refl
 
--- the octets of atoms as the code tests for them
+-- the octets of atoms as the code tests for them: those below "A", and all
+abbrev lowest : ℕ → Bool
+lowest x = leb 47 x && leb x 57 || leb 42 x && leb x 43 || leb 35 x && leb x 39 || eqb x 45 || eqb x 33 || eqb x 61 || eqb x 63
+
 abbrev ranges : ℕ → Bool
-ranges x =
-    eqb x 33 || leb 35 x && leb x 39 || leb 42 x && leb x 43 || eqb x 45 || leb 47 x && leb x 57 || eqb x 61 || eqb x 63
-    || leb 65 x && leb x 90 || leb 94 x && not (eqb x 127)
+ranges x = cond (leb 94 x) (not (eqb x 127)) (cond (leb 65 x) (leb x 90) (lowest x))
 
 alike : ℕ → Bool
 alike x = Bool·beq (ranges x) (belongs Atom x)
 
-pub atom-ranges : (x : ℕ) → x < 256 → ranges x ≡ belongs Atom x
-unfolding alike belongs
-atom-ranges x h = same-bool (ranges x) (belongs Atom x) (all-below alike 256 refl x h)
+module _ (x : ℕ) (h : x < 256) where
+  atom-ranges : ranges x ≡ belongs Atom x
+  unfolding alike belongs
+  atom-ranges = same-bool (ranges x) (belongs Atom x) (all-below alike 256 refl x h)
+
+  pub atom-high : 94 ≤ x → not (eqb x 127) ≡ belongs Atom x
+  atom-high l = rw (le-leb 94 x l) at atom-ranges
+
+  pub atom-capital : x < 94 → 65 ≤ x → leb x 90 ≡ belongs Atom x
+  atom-capital l k = rw (lt-leb 94 x l, le-leb 65 x k) at atom-ranges
+
+  pub atom-low : x < 94 → x < 65 → lowest x ≡ belongs Atom x
+  atom-low l k = rw (lt-leb 94 x l, lt-leb 65 x k) at atom-ranges
 
 pub of-class : (class k : Class) (x : ℕ) (r : Bool) → class ≡ k → r ≡ belongs k x → r ≡ belongs class x
 of-class class k x r q e = rw q e
 
-pub ruleset telling = (kind-closes, kind-escapes, kind-control, kind-plain, takes-end, takes-octet, of-class, needs)
+pub ruleset telling = (kind-closes, kind-escapes, kind-control, kind-plain, takes-end, takes-octet, atom-high, atom-capital, atom-low, of-class, needs)

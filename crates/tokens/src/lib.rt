@@ -180,20 +180,24 @@ fn letter(x: u8) -> bool
     ((b'A' <= x) & (x <= b'Z')) | ((b'a' <= x) & (x <= b'z'))
 }
 
-// Letters, digits, the signs ! # $ % & ' * + - / = ? ^ _ ` { | } ~ and the octets of 128 and above, as ranges: tests
-// that do not branch, few enough that this runs at the speed of a table.
+// Letters, digits, the signs ! # $ % & ' * + - / = ? ^ _ ` { | } ~ and the octets of 128 and above, as ranges. Small letters,
+// the most of what stands in atoms, are known by the first of them.
 fn atom(x: u8) -> bool
     ensures { λ r. ⌜ r ≡ belongs Class.Atom x ⌝ }
 {
-    (x == b'!')
-        | ((b'#' <= x) & (x <= b'\''))
+    if b'^' <= x {
+        return x != 127;
+    }
+    if b'A' <= x {
+        return x <= b'Z';
+    }
+    ((b'/' <= x) & (x <= b'9'))
         | ((b'*' <= x) & (x <= b'+'))
+        | ((b'#' <= x) & (x <= b'\''))
         | (x == b'-')
-        | ((b'/' <= x) & (x <= b'9'))
+        | (x == b'!')
         | (x == b'=')
         | (x == b'?')
-        | ((b'A' <= x) & (x <= b'Z'))
-        | ((b'^' <= x) & (x != 127))
 }
 
 // Does the octet belong to the class?
