@@ -8,18 +8,17 @@
 --     comment-full, comment-whole    a comment where no more may be open, and one around its content
 -- Assumes nothing.
 use Prim.Native.Nat.{ℕ, suc, zero, _+_, _-_, _<_, _≤_}
-use mathlib.Core.Path.{_≡_, refl, sym, ap, _∙_}
-use mathlib.Core.Bool.{Bool, true, false, not}
-use mathlib.Core.List.{List, [], _∷_}
-use mathlib.Core.Option.{Option, some, none}
+use mathlib.Core.Path.{_≡_, refl, sym, _∙_}
+use mathlib.Core.Bool.{false, not}
+use mathlib.Core.List.{List}
+use mathlib.Core.Option.{none}
 use native.Mathlib.Omega.{arith}
 use native.Mathlib.Numerals.{add-one}
 use borrow.Author.Needs.{needs}
-use borrow.Author.Tests.{ne-eqb, lt-ltb, not-true, not-false}
-use lib.Dec.{ltb, eqb}
+use borrow.Author.Tests.{ne-eqb, lt-ltb}
 use lib.ListN.{length, getD, drop}
-use Rattle.octets.proofs.Lists.{lt-or-le, drop-one, drop-done}
-use Rattle.tokens.specs.Tokens.{control, blank, kindOf, past}
+use Rattle.octets.proofs.Lists.{drop-one, drop-done}
+use Rattle.tokens.specs.Tokens.{blank, past}
 use Rattle.tokens.specs.Answers.{stepIn, opened, Opening, Passing, Passed}
 use Rattle.tokens.proofs.Stepping.{Moved, moved}
 use Rattle.tokens.specs.declared.Step.{Step}
