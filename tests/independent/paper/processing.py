@@ -56,12 +56,13 @@ def process(table: bytes, receipt: int, outer: bytes, payload: bytes,
     # "8: more new addresses than free slots, each distinct address counted once"
     held = tables.entries(table)
     new = newcomers(held, sender, accepted)
-    if len(new) > held.count(None):
+    free = tables.free_slots(held)
+    if len(new) > len(free):
         return 8, 0, table
     # "A sender or accepted gossip address without an entry takes the lowest free slot,
     # sender first, then gossip addresses as first accepted."
-    for address in new:
-        held[tables.lowest_free(held)] = Entry(address)
+    for address, lowest in zip(new, free):
+        held[lowest] = Entry(address)
     at = tables.find(held, sender)
     held[at] = with_sender(held[at], effective, counted)
     # "Gossip fields are read in order from the payload."

@@ -226,9 +226,6 @@ def find(held: list[Entry | None], address: bytes) -> int | None:
     return None
 
 
-def lowest_free(held: list[Entry | None]) -> int | None:
-    """The index of the lowest free slot; None where all are used."""
-    for index, entry in enumerate(held):
-        if entry is None:
-            return index
-    return None
+def free_slots(held: list[Entry | None]) -> list[int]:
+    """The indexes of the free slots, the lowest first."""
+    return [index for index, entry in enumerate(held) if entry is None]

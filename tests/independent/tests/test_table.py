@@ -5,8 +5,7 @@ import unittest
 
 from paper import table
 from paper.table import (ADDRESS_AT, BITS_AT, DIRECT_KEY_AT, GOSSIP_KEY_AT, SLOT, TIME_LIMIT, Entry,
-                         check, entries, entry_of, find, is_sound_alone, lowest_free, slot_of,
-                         table_of)
+                         check, entries, entry_of, find, free_slots, is_sound_alone, slot_of, table_of)
 
 FULL = Entry(b"a@b.example", 2000, 1000, b"direct", True, 3000, b"gossip key")
 SENDER = Entry(b"a@b.example", 2000, 1000, b"direct")
@@ -263,7 +262,7 @@ class Tables(unittest.TestCase):
         held = [Entry(b"a%d@b" % place) for place in range(256)]
         self.assertEqual(check(table_of(held)), (0, 0))
         self.assertEqual(entries(table_of(held)), held)
-        self.assertIsNone(lowest_free(held))
+        self.assertEqual(free_slots(held), [])
         self.assertEqual(find(held, b"A255@B"), 255)
 
     def test_finding(self):
@@ -271,8 +270,7 @@ class Tables(unittest.TestCase):
         self.assertEqual(find(held, b"a@b"), 1)
         self.assertEqual(find(held, b"C@D"), 3)
         self.assertIsNone(find(held, b"e@f"))
-        self.assertEqual(lowest_free(held), 0)
-        self.assertEqual(lowest_free(held[1:]), 1)
+        self.assertEqual(free_slots(held), [0, 2])
 
     def test_there_and_back(self):
         source = random.Random(3)
