@@ -99,14 +99,14 @@ class Cases:
 
     def key(self) -> bytes:
         """A key argument: mostly 1 to 2,048 octets, both ends and beyond among them."""
-        kind = self.random.randrange(10)
-        if kind < 6:
+        kind = self.random.randrange(20)
+        if kind < 15:
             return self.random.randbytes(self.random.randint(1, 60))
-        if kind == 6:
+        if kind == 15:
             return self.random.randbytes(self.random.randint(1, KEY_LIMIT))
-        if kind == 7:
+        if kind == 16:
             return self.random.randbytes(self.near(KEY_LIMIT))
-        if kind == 8:
+        if kind < 19:
             return self.random.randbytes(self.near(0))
         # All zero or all ones, which the unused bits and the ends of keys may hide.
         return self.one([b"\0", b"\xff"]) * self.random.randint(1, 5)
@@ -267,7 +267,9 @@ class Cases:
         days, rest = divmod(local, DAY)
         hour, rest = divmod(rest, HOUR)
         minute, second = divmod(rest, MINUTE)
-        year, month = 1970, 1
+        # 400 years have 146,097 days.
+        cycles, days = divmod(days, 146_097)
+        year, month = 1970 + 400 * cycles, 1
         while days >= days_in_year(year):
             days -= days_in_year(year)
             year += 1
@@ -295,7 +297,8 @@ class Cases:
         """The tokens of a date with one part at, beside or beyond its limit."""
         day, month, year = b"15", b"Jun", b"2000"
         hour, minute, second, zone = b"12", b"30", b"30", b"+0100"
-        part = self.random.randrange(9)
+        colon = b":"
+        part = self.random.randrange(10)
         if part == 0:
             # The last days of every month, in leap years and others.
             month = self.name(self.one(MONTH_NAMES))
@@ -321,6 +324,8 @@ class Cases:
             zone = self.any_case(zone)
         elif part == 7:
             month = self.one([b"Juni", b"Ju", b"6", b"Jux", b"J\xc3n", b"JUN", b"jun"])
+        elif part == 8:
+            colon = self.one([b",", b".", b"::", b"", b":"])
         else:
             # Around the start and the end of time.
             day, month, year = self.one([(b"1", b"Jan", b"1970"), (b"31", b"Dec", b"1969"),
@@ -328,9 +333,9 @@ class Cases:
             hour, minute, second = self.one([(b"00", b"00", b"00"), (b"00", b"30", b"00"),
                                              (b"23", b"59", b"59"), (b"23", b"59", b"60")])
             zone = self.one([b"+0000", b"+0030", b"-0030", b"+0031", b"+0029", b"GMT", b"-0001"])
-        tokens = [day, month, year, hour, b":", minute]
+        tokens = [day, month, year, hour, self.one([b":", colon]), minute]
         if self.chance(0.8):
-            tokens += [b":", second]
+            tokens += [self.one([b":", colon]), second]
         tokens.append(zone)
         if self.chance(0.4):
             names = [self.name(self.one(DAY_NAMES)), b"Monday", b"Mo", b"Jun", b"1", b"M\xc3n"]
@@ -341,8 +346,7 @@ class Cases:
         """The value of a Date field, unfolded."""
         kind = self.random.randrange(10)
         if kind == 0:
-            return self.one([b"", b" ", b"now", b"0", b"()", b"1970-01-01T00:00:00Z", b"Thu, ",
-                             b"Thu Jan  1 00:00:00 1970", self.comment_text()])
+            return self.bad_date()
         tokens = self.edge_date() if kind < 5 else self.date_of(self.moment())
         text = self.spaced(tokens)
         if kind == 9:
@@ -350,6 +354,14 @@ class Cases:
         if kind == 8 and self.chance(0.5):
             text += self.comment_text()
         return text
+
+    def bad_date(self) -> bytes:
+        """A value that is no date, as a rule."""
+        good = self.spaced(self.date_of(self.moment()))
+        return self.one([b"", b" ", b"now", b"0", b"()", b"1970-01-01T00:00:00Z", b"Thu, ",
+                         b"Thu Jan  1 00:00:00 1970", self.comment_text(), good + b" x", good + good,
+                         good.replace(b":", b"."), good.replace(b":", b","), good.replace(b":", b" "),
+                         b"Mon " + good, b"Mon, " + good, good[:-1], good[1:]])
 
     def spaced(self, tokens: list[bytes]) -> bytes:
         """The tokens with fillers between them; two runs of digits seldom touch."""
@@ -667,12 +679,15 @@ class Cases:
     def broken_slot(self) -> bytes:
         """A slot that breaks one condition of soundness, as a rule exactly one."""
         entry = self.entry(self.one(PEERS))
-        kind = self.random.randrange(14)
+        kind = self.random.randrange(15)
         if kind == 0:
             entry.address = self.address()[:256]
         elif kind == 12:
             # Mutual without a direct key.
             entry = Entry(entry.address, entry.last_seen, mutual=True)
+        elif kind == 13:
+            # A direct key at 0 without last seen.
+            entry = Entry(entry.address, None, 0, self.good_key(), self.chance(0.5))
         slot = bytearray(slot_of(entry))
         if kind == 1:
             slot[0:2] = self.one([b"\0\0", b"\x41\x32", b"\x31\x41", b"\x41\0", self.random.randbytes(2)])

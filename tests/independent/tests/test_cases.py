@@ -92,7 +92,8 @@ class Readers(unittest.TestCase):
         found = [date.seconds(value) for value in values]
         self.both(Counter(seconds is None for seconds in found), 3000)
         available = set(found)
-        self.assertLessEqual({0, 1, 999, 1000, 1001, table.TIME_LIMIT, table.TIME_LIMIT + 1}, available)
+        self.assertLessEqual({0, 1, 999, 1000, 1001, table.TIME_LIMIT}, available)
+        self.assertGreater(max(available - {None}), table.TIME_LIMIT)
         effective = Counter()
         for _ in range(600):
             dates, receipt = cases.dates(), cases.moment()
@@ -163,7 +164,7 @@ class Calls(unittest.TestCase):
     def test_processing(self):
         cases = Cases(SEED)
         numbers, events = Counter(), Counter()
-        for _ in range(1500):
+        for _ in range(1200):
             octets, receipt, outer, payload, gossip = cases.processing()
             number, index, after = processing.process(octets, receipt, outer, payload, gossip)
             numbers[number] += 1
@@ -193,8 +194,8 @@ class Calls(unittest.TestCase):
                     before.gossip_key is not None and before.gossip_key != now.gossip_key
                     and before.gossip_timestamp == now.gossip_timestamp)
         self.assertEqual(set(numbers), set(range(9)))
-        self.assertGreater(min(numbers.values()), 30)
-        self.assertGreater(numbers[0], 400)
+        self.assertGreater(min(numbers.values()), 20)
+        self.assertGreater(numbers[0], 300)
         for event in ("newcomer", "untouched", "last seen raised", "direct key new",
                       "direct key replaced", "replaced at an equal date", "preference cleared",
                       "gossip new", "gossip replaced", "gossip at an equal date"):
@@ -236,7 +237,7 @@ class Calls(unittest.TestCase):
             if number == 0:
                 room[length - len(field)] += 1
         for spare in (-1, 0, 1):
-            self.assertGreater(room[spare], 10)
+            self.assertGreater(room[spare], 3)
 
     def test_listing(self):
         cases = Cases(SEED)
@@ -285,20 +286,23 @@ class EveryLine(unittest.TestCase):
 
         cases = Cases(SEED)
         rounds = [
-            (200, base64.decode, lambda: (cases.base64_text(),)),
+            (150, base64.decode, lambda: (cases.base64_text(),)),
             (200, tokens.skip, lambda: (cases.comment_text(), 0)),
             (200, tokens.quoted, lambda: (cases.quoted_text(), 0)),
-            (500, date.seconds, lambda: (cases.date_value(),)),
-            (300, header.fields, lambda: (cases.header_block(),)),
-            (1000, address.addresses, lambda: (cases.address_list(),)),
-            (300, address.is_plain, lambda: (cases.address(),)),
+            (200, date.seconds, lambda: (cases.date_value(),)),
+            (600, date.seconds, lambda: (cases.spaced(cases.edge_date()),)),
+            (200, header.fields, lambda: (cases.header_block(),)),
+            (20, header.fields, lambda: (cases.sized(cases.header_block()),)),
+            (300, address.addresses, lambda: (cases.address_list(),)),
+            (900, address.addresses, lambda: (cases.bad_list(),)),
+            (500, address.is_plain, lambda: (cases.edge_address(),)),
             (200, keyfield.read, lambda: (cases.field_value(),)),
-            (200, table.check, lambda: (cases.broken_slot(),)),
+            (300, table.check, lambda: (cases.broken_slot(),)),
             (200, processing.process, cases.processing),
             (200, recommending.target_key, cases.target),
-            (50, writing.write_autocrypt, cases.writing),
-            (50, writing.write_gossip, cases.writing_gossip),
-            (50, listing.listing, lambda: (cases.listing_input(),)),
+            (60, writing.write_autocrypt, cases.writing),
+            (60, writing.write_gossip, cases.writing_gossip),
+            (60, listing.listing, lambda: (cases.listing_input(),)),
         ]
         before = sys.gettrace()
         for count, call, draw in rounds:
@@ -311,7 +315,7 @@ class EveryLine(unittest.TestCase):
                 sys.settrace(before)
         for path, lines in sorted(reached.items()):
             missing = sorted(function_lines(pathlib.Path(path)) - lines)
-            self.assertEqual(missing, [], path)
+            self.assertEqual(missing, [], pathlib.Path(path).name)
 
 
 if __name__ == "__main__":
