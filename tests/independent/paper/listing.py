@@ -1,5 +1,7 @@
 """The listing program."""
 
+import sys
+
 from paper import table as tables
 from paper.table import SLOT, Entry
 
@@ -47,3 +49,7 @@ def time(seconds: int | None) -> bytes:
 def length(key: bytes | None) -> bytes:
     # "absent lengths 0"
     return b"0" if key is None else b"%d" % len(key)
+
+
+if __name__ == "__main__":
+    sys.stdout.buffer.write(listing(sys.stdin.buffer.read()))
