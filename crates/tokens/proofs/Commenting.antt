@@ -108,8 +108,10 @@ module _ (s : List ℕ) (at room : ℕ) (p : Opening s at room) where
       where
         k : 15 - (room - 1) ≡ 16 - room
         k = omega arith
+
         opened : past (suc (16 - room)) false (drop (at + 1) s) ≡ past (16 - room) false (drop at s)
         opened = sym (past-opens s at (p .0) (16 - room) (p .1) (omega arith))
+
         go : (r : Reached) → Passed s (at + 1) (suc (16 - room)) (16 - room) r → Passed s at (16 - room) (16 - room) r
         go (To n) c = record { beyond = omega arith; upto = c .upto; same = sym opened ∙ c .same }
         go Unreadable c = sym opened ∙ c

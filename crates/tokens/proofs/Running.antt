@@ -43,6 +43,7 @@ module _ (s : List ℕ) (at : ℕ) (class : Class) (i : ℕ) (h : Running s at c
       where
         one : runLength class (drop i s) ≡ suc (runLength class (drop (i + 1) s))
         one = rw (drop-one s i l, runLength, sym e ∙ not-false b f)
+
         step : i + runLength class (drop i s) ≡ (i + 1) + runLength class (drop (i + 1) s)
         step = omega (arith, one)
 

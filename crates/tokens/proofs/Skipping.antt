@@ -90,11 +90,13 @@ reads (suc n) false x s = go (eqb x 40) refl
     room : eqb x 40 ≡ true → (b : Bool) → ltb (suc n) depth ≡ b → Reads (suc n) false x s
     room q true e = goes (suc (suc n)) false (rw (past, q, e))
     room q false e = stuck (rw (past, q, e))
+
     inside : eqb x 40 ≡ false → (k : Kind) → kindOf 41 x ≡ k → Reads (suc n) false x s
     inside q Closes e = goes n false (rw (past, q, e))
     inside q Escapes e = goes (suc n) true (rw (past, q, e))
     inside q Control e = stuck (rw (past, q, e))
     inside q Plain e = goes (suc n) false (rw (past, q, e))
+
     go : (c : Bool) → eqb x 40 ≡ c → Reads (suc n) false x s
     go true q = room q (ltb (suc n) depth) refl
     go false q = inside q (kindOf 41 x) refl
@@ -137,7 +139,7 @@ module _ (x : ℕ) (s rest : List ℕ) (e : skipped s ≡ some (x ∷ rest)) whe
   unfolding past
   left-not-opens p =
       let inside : past 1 false rest ≡ some (x ∷ rest) =
-          rw (past, left-not-blank, eq-eqb x 40 p) at (skipped-again s (x ∷ rest) e)
+      rw (past, left-not-blank, eq-eqb x 40 p) at (skipped-again s (x ∷ rest) e)
       in
       not-behind x rest (left-behind 1 false rest (x ∷ rest) inside .0)
 

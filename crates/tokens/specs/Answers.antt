@@ -30,10 +30,10 @@ unfoldable pub stepIn : ℕ → ℕ → List ℕ → Step
 stepIn closing at [] = Stops
 stepIn closing at (x ∷ s) =
     elim (kindOf closing x) [
-      Closes ↦ Ends (at + 1)
-    | Escapes ↦ elim (takes s) [ true ↦ On (at + 2) | false ↦ Stops ]
-    | Control ↦ Stops
-    | Plain ↦ On (at + 1)
+      | Closes ↦ Ends (at + 1)
+      | Escapes ↦ elim (takes s) [ true ↦ On (at + 2) | false ↦ Stops ]
+      | Control ↦ Stops
+      | Plain ↦ On (at + 1)
     ]
 
 -- a comment opens at the place `at` of s, and up to `room` more may be open

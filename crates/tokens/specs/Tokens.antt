@@ -44,18 +44,18 @@ past zero taken [] = some []
 past (suc n) taken [] = none
 past zero taken (x ∷ s) =
     elim (blank x) [
-      true ↦ past zero false s
-    | false ↦ elim (eqb x (octet "(")) [ true ↦ past 1 false s | false ↦ some (x ∷ s) ]
+      | true ↦ past zero false s
+      | false ↦ elim (eqb x (octet "(")) [ true ↦ past 1 false s | false ↦ some (x ∷ s) ]
     ]
 past (suc n) true (x ∷ s) = elim (control x) [ true ↦ none | false ↦ past (suc n) false s ]
 past (suc n) false (x ∷ s) =
     elim (eqb x (octet "(")) [
-      true ↦ elim (ltb (suc n) depth) [ true ↦ past (suc (suc n)) false s | false ↦ none ]
-    | false ↦ elim (kindOf (octet ")") x) [
-        Closes ↦ past n false s
-      | Escapes ↦ past (suc n) true s
-      | Control ↦ none
-      | Plain ↦ past (suc n) false s
+      | true ↦ elim (ltb (suc n) depth) [ true ↦ past (suc (suc n)) false s | false ↦ none ]
+      | false ↦ elim (kindOf (octet ")") x) [
+        | Closes ↦ past n false s
+        | Escapes ↦ past (suc n) true s
+        | Control ↦ none
+        | Plain ↦ past (suc n) false s
       ]
     ]
 
@@ -69,10 +69,10 @@ afterQuote taken [] = none
 afterQuote true (x ∷ s) = elim (control x) [ true ↦ none | false ↦ afterQuote false s ]
 afterQuote false (x ∷ s) =
     elim (kindOf (octet "\"") x) [
-      Closes ↦ some s
-    | Escapes ↦ afterQuote true s
-    | Control ↦ none
-    | Plain ↦ afterQuote false s
+      | Closes ↦ some s
+      | Escapes ↦ afterQuote true s
+      | Control ↦ none
+      | Plain ↦ afterQuote false s
     ]
 
 abbrev pub digit : ℕ → Bool

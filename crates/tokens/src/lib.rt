@@ -183,8 +183,25 @@ fn letter(x: u8) -> bool
 fn sign(x: u8) -> bool
     ensures { λ r. ⌜ r ≡ signOf x ⌝ }
 {
-    (x == b'!') | (x == b'#') | (x == b'$') | (x == b'%') | (x == b'&') | (x == b'\'') | (x == b'*') | (x == b'+') | (x == b'-') | (x == b'/')
-        | (x == b'=') | (x == b'?') | (x == b'^') | (x == b'_') | (x == b'`') | (x == b'{') | (x == b'|') | (x == b'}') | (x == b'~')
+    (x == b'!')
+        | (x == b'#')
+        | (x == b'$')
+        | (x == b'%')
+        | (x == b'&')
+        | (x == b'\'')
+        | (x == b'*')
+        | (x == b'+')
+        | (x == b'-')
+        | (x == b'/')
+        | (x == b'=')
+        | (x == b'?')
+        | (x == b'^')
+        | (x == b'_')
+        | (x == b'`')
+        | (x == b'{')
+        | (x == b'|')
+        | (x == b'}')
+        | (x == b'~')
 }
 
 // Does the octet belong to the class? No test here branches, so that the compiler makes one of them all.
