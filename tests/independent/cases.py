@@ -41,7 +41,7 @@ class Cases:
     def __init__(self, seed: int) -> None:
         self.random = random.Random(seed)
 
-    # Small helpers.
+    # Drawing by chance.
 
     def chance(self, share: float) -> bool:
         return self.random.random() < share

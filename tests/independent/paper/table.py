@@ -8,9 +8,9 @@ from paper.address import canonical, is_plain
 SLOT = 4_392
 SLOTS_LIMIT = 256
 
-# "A two-octet mark opens each slot: 41 31 used, 00 00 free."
+# "A two-octet mark opens each slot: 41 31 used, 00 00 free." A free slot is all zero,
+# so its mark needs no look of its own.
 USED = b"\x41\x31"
-FREE = b"\x00\x00"
 
 # "Times are seconds since 1970-01-01 UTC, 0 to 253,402,300,799."
 TIME_LIMIT = 253_402_300_799
@@ -103,10 +103,8 @@ def is_sound_alone(slot: bytes) -> bool:
     # "A two-octet mark opens each slot: 41 31 used"
     if octets(slot, MARK_AT) != USED:
         return False
-    # "its address is canonical": at most 254 octets, though 256 would fit (T5).
-    length = number(slot, ADDRESS_LENGTH_AT)
-    if length > ADDRESS_AT[1] - ADDRESS_AT[0]:
-        return False
+    # "its address is canonical": at most 254 octets, though 256 would fit (T5). A length
+    # beyond the area gives all 256 octets of it, which are no plain address.
     address = address_of(slot)
     if not is_plain(address) or canonical(address) != address:
         return False

@@ -49,6 +49,11 @@ class Case(unittest.TestCase):
         self.assertEqual(process(octets, receipt, outer, payload, gossip), (expected, index, octets))
 
 
+class Settings(unittest.TestCase):
+    def test_the_numbers_of_the_gossip_setting(self):
+        self.assertEqual((UNSET, TAKE, SKIP), (0, 1, 2))
+
+
 class Refusals(Case):
     GOOD = mail(A, 1000)
 

@@ -26,6 +26,9 @@ class Advice(unittest.TestCase):
         self.assertEqual((number, index), (0, 0))
         return advice
 
+    def test_the_numbers_of_the_advices(self):
+        self.assertEqual((DISABLE, DISCOURAGE, AVAILABLE, ENCRYPT), (1, 2, 3, 4))
+
     def test_one_recipient(self):
         rows = [
             # recipient, plain, mutual, reply, both
