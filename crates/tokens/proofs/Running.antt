@@ -4,7 +4,7 @@
 --     run-length                   a run is no longer than the list
 --     run-belongs, run-stops       each octet of it belongs to the class, the one behind it does not
 --     run-append                   a run before another list
---     run-upto, run-all, run-next  the same of the run that begins at a place of a text
+--     run-from, run-upto, run-all, run-next    the same of the run that begins at a place of a text, by the place behind it
 -- Assumes nothing.
 use Prim.Native.Nat.{ℕ, suc, zero, _+_, _-_, _<_, _≤_}
 use mathlib.Core.Path.{_≡_, refl, sym, _∙_}
