@@ -1,0 +1,83 @@
+-- What the private functions answer: the steps between the rule of `Base64` and the code's places.
+--     codeOf, Signs    a sign as a number, and a table that has the number of each octet's sign
+--     letters, Past    what a text without its blanks is from a place on, as `next_letter` answers it
+--     stepOf           what a text goes on with whose next four characters are a group
+--     worth, Behind    what a text decodes to from a place on, as `next_group` answers it
+--     sizeOf, Room     how many octets a text stands for, and that they have room
+--     lineBreak, after    the line break before a group of four letters, and how many groups the line takes behind it
+use Prim.Native.Nat.{ℕ, zero, suc, _+_, _<_, _≤_}
+use mathlib.Core.Path.{_≡_}
+use mathlib.Core.List.{List, [], _∷_, _++_}
+use mathlib.Core.Option.{Option, some, none}
+use lib.ListN.{length, getD, drop}
+use Rattle.base64.specs.Base64.{signOf, before, decode, withoutBlanks, cr, lf, space}
+use Rattle.base64.specs.declared.Sign.{Sign}
+use Rattle.base64.specs.declared.Sign.the-variants.{Value, Pad, Other}
+use Rattle.base64.specs.declared.Group.{Group}
+use Rattle.base64.specs.declared.Group.the-variants.{Three as GThree, Two as GTwo, One as GOne, Broken as GBroken}
+use Rattle.base64.specs.declared.Letter.{Letter}
+use Rattle.base64.specs.declared.Letter.the-variants.{End as Over, At}
+use Rattle.base64.specs.declared.Next.{Next}
+use Rattle.base64.specs.declared.Next.the-variants.{Three, Two, One, End, Broken}
+use Rattle.base64.specs.declared.Size.{Size}
+use Rattle.base64.specs.declared.Size.the-variants.{Of, Wrong}
+
+-- the value, or 64 for a pad and 65 for all else
+unfoldable pub codeOf : Sign → ℕ
+codeOf (Value v) = v
+codeOf Pad = 64
+codeOf Other = 65
+
+pub record Signs (table : List ℕ) : Type 0 where
+  pub at : (x : ℕ) → x < 256 → getD table x 0 ≡ codeOf (signOf x)
+
+-- the text that the answer stands for, and that the place lies behind the one asked for
+unfoldable pub letters : List ℕ → Letter → List ℕ
+letters s Over = []
+letters s (At x n) = x ∷ withoutBlanks (drop n s)
+
+abbrev pub Past : List ℕ → ℕ → Letter → Type 0
+Past s at Over = Unit
+Past s at (At x n) = (at < n) × (n ≤ length s)
+
+-- a group, the place behind it and the characters that follow: with pads it is the last
+unfoldable pub stepOf : Group → ℕ → List ℕ → Next
+stepOf (GThree x y z) n rest = Three x y z n
+stepOf (GTwo x y) n [] = Two x y
+stepOf (GTwo x y) n (c ∷ rest) = Broken
+stepOf (GOne x) n [] = One x
+stepOf (GOne x) n (c ∷ rest) = Broken
+stepOf GBroken n rest = Broken
+
+-- the octets that the answer stands for, and that the place lies behind the four characters
+unfoldable pub worth : List ℕ → Next → Option (List ℕ)
+worth s (Three x y z n) = before (x ∷ y ∷ z ∷ []) (decode (withoutBlanks (drop n s)))
+worth s (Two x y) = some (x ∷ y ∷ [])
+worth s (One x) = some (x ∷ [])
+worth s End = some []
+worth s Broken = none
+
+abbrev pub Behind : List ℕ → ℕ → Next → Type 0
+Behind s at (Three x y z n) = (at + 4 ≤ n) × (n ≤ length s)
+Behind s at (Two x y) = Unit
+Behind s at (One x) = Unit
+Behind s at End = Unit
+Behind s at Broken = Unit
+
+unfoldable pub sizeOf : Option (List ℕ) → Size
+sizeOf none = Wrong
+sizeOf (some w) = Of (length w)
+
+abbrev pub Room : Option (List ℕ) → ℕ → Type 0
+Room none n = ⊥
+Room (some w) n = length w ≤ n
+
+-- what ends a line that takes no group more and begins the next
+unfoldable pub lineBreak : ℕ → List ℕ
+lineBreak zero = cr ∷ lf ∷ space ∷ []
+lineBreak (suc n) = []
+
+-- a line takes 19 groups
+unfoldable pub after : ℕ → ℕ
+after zero = 18
+after (suc n) = n
