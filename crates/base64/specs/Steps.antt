@@ -1,5 +1,6 @@
 -- What the private functions answer: the steps between the rule of `Base64` and the code's places.
 --     codeOf, Signs    a sign as a number, and a table that has the number of each octet's sign
+--     Low              a sign whose value, if it has one, is below 64
 --     letters, Past    what a text without its blanks is from a place on, as `next_letter` answers it
 --     stepOf           what a text goes on with whose next four characters are a group
 --     worth, Behind    what a text decodes to from a place on, as `next_group` answers it
@@ -30,6 +31,12 @@ codeOf Other = 65
 
 pub record Signs (table : List ℕ) : Type 0 where
   pub at : (x : ℕ) → x < 256 → getD table x 0 ≡ codeOf (signOf x)
+
+-- a value is below 64
+abbrev pub Low : Sign → Type 0
+Low (Value v) = v < 64
+Low Pad = Unit
+Low Other = Unit
 
 -- the text that the answer stands for, and that the place lies behind the one asked for
 unfoldable pub letters : List ℕ → Letter → List ℕ

@@ -5,9 +5,9 @@ ghost use mathlib.Core.Path.{_≡_};
 ghost use mathlib.Core.List.{[], _∷_};
 ghost use lib.ListN.{length, drop};
 ghost use Rattle.octets.specs.Written.{putAt};
-ghost use Rattle.base64.specs.Base64.{letter, signOf, closed, groupOf, decode as octetsOf, blank, withoutBlanks, encode, lines};
+ghost use Rattle.base64.specs.Base64.{letter, signOf, closed, grouped, groupOf, decode as octetsOf, blank, withoutBlanks, encode, lines};
 ghost use Rattle.base64.specs.Answers.{decodedOf, leftIn};
-ghost use Rattle.base64.specs.Steps.{Signs, letters, Past, stepOf, worth, Behind, sizeOf, Room, lineBreak, after};
+ghost use Rattle.base64.specs.Steps.{Signs, Low, letters, Past, stepOf, worth, Behind, sizeOf, Room, lineBreak, after};
 
 // What a character stands for.
 pub enum Sign {
@@ -61,13 +61,13 @@ fn letter_of(value: u8) -> u8
     ensures { λ r. ⌜ r ≡ letter value ⌝ }
 {
     if value < 26 {
-        return value + b'A';
+        return b'A' + value;
     }
     if value < 52 {
-        return value - 26 + b'a';
+        return b'a' + (value - 26);
     }
     if value < 62 {
-        return value - 52 + b'0';
+        return b'0' + (value - 52);
     }
     if value == 62 {
         return b'+';
@@ -93,7 +93,7 @@ fn signs() -> [u8; 256]
 
 fn sign_of(table: &[u8; 256], x: u8) -> Sign
     requires { ⌜ Signs (now table) ⌝ }
-    ensures { λ r. ⌜ r ≡ signOf x ⌝ }
+    ensures { λ r. ⌜ (r ≡ signOf x) × Low r ⌝ }
 {
     let at = x as usize;
     let value = table[at];
@@ -135,29 +135,53 @@ fn one(p: u8, q: u8) -> Group
     }
 }
 
-fn group_of(table: &[u8; 256], a: u8, b: u8, c: u8, d: u8) -> Group
-    requires { ⌜ Signs (now table) ⌝ }
-    ensures { λ r. ⌜ r ≡ groupOf a b c d ⌝ }
+// Two values and the signs of two characters more.
+fn closed_group(p: u8, q: u8, third: Sign, fourth: Sign) -> Group
+    requires { ⌜ (p < 64) × (q < 64) × Low third × Low fourth ⌝ }
+    ensures { λ g. ⌜ g ≡ closed p q third fourth ⌝ }
 {
-    let Sign::Value(p) = sign_of(table, a) else {
-        return Group::Broken;
-    };
-    let Sign::Value(q) = sign_of(table, b) else {
-        return Group::Broken;
-    };
-    match sign_of(table, c) {
-        Sign::Value(r) => match sign_of(table, d) {
+    match third {
+        Sign::Value(r) => match fourth {
             Sign::Value(s) => three(p, q, r, s),
             Sign::Pad => two(p, q, r),
             Sign::Other => Group::Broken,
         },
-        Sign::Pad => match sign_of(table, d) {
+        Sign::Pad => match fourth {
             Sign::Value(_) => Group::Broken,
             Sign::Pad => one(p, q),
             Sign::Other => Group::Broken,
         },
         Sign::Other => Group::Broken,
     }
+}
+
+// The signs of four characters.
+fn signed_group(first: Sign, second: Sign, third: Sign, fourth: Sign) -> Group
+    requires { ⌜ Low first × Low second × Low third × Low fourth ⌝ }
+    ensures { λ g. ⌜ g ≡ grouped first second third fourth ⌝ }
+{
+    match first {
+        Sign::Value(p) => match second {
+            Sign::Value(q) => closed_group(p, q, third, fourth),
+            Sign::Pad => Group::Broken,
+            Sign::Other => Group::Broken,
+        },
+        Sign::Pad => Group::Broken,
+        Sign::Other => Group::Broken,
+    }
+}
+
+// What four characters stand for.
+fn group_of(table: &[u8; 256], a: u8, b: u8, c: u8, d: u8) -> Group
+    requires { ⌜ Signs (now table) ⌝ }
+    ensures { λ r. ⌜ r ≡ groupOf a b c d ⌝ }
+{
+    signed_group(
+        sign_of(table, a),
+        sign_of(table, b),
+        sign_of(table, c),
+        sign_of(table, d),
+    )
 }
 
 fn is_blank(x: u8) -> bool

@@ -4,11 +4,11 @@ use Rattle.base64.proofs.is_blank.Tie as tie
 use Rattle.base64.proofs.is_blank.Reads as reads
 use Rattle.base64.proofs.is_blank.Lts as lts
 
--- src/lib.rt:167:9
+-- src/lib.rt:191:9
 returns : tie.Need-returns
 returns c = search needs
 
--- src/lib.rt:163:1
+-- src/lib.rt:187:1
 returns-2 : tie.Need-returns-2
 returns-2 c = search needs
 

@@ -4,27 +4,27 @@ use Rattle.base64.proofs.lines_length.Tie as tie
 use Rattle.base64.proofs.lines_length.Reads as reads
 use Rattle.base64.proofs.lines_length.Lts as lts
 
--- src/lib.rt:322:17
+-- src/lib.rt:346:17
 add-text : tie.Need-add-text
 add-text c = search needs
 
--- src/lib.rt:322:16
+-- src/lib.rt:346:16
 mul-text : tie.Need-mul-text
 mul-text c = search needs
 
--- src/lib.rt:323:13
+-- src/lib.rt:347:13
 add-result : tie.Need-add-result
 add-result c = search needs
 
--- src/lib.rt:323:12
+-- src/lib.rt:347:12
 mul-result : tie.Need-mul-result
 mul-result c = search needs
 
--- src/lib.rt:323:5
+-- src/lib.rt:347:5
 add-result-2 : tie.Need-add-result-2
 add-result-2 c = search needs
 
--- src/lib.rt:319:1
+-- src/lib.rt:343:1
 returns : tie.Need-returns
 returns c = search needs
 

@@ -4,39 +4,39 @@ use Rattle.base64.proofs.put_four.Tie as tie
 use Rattle.base64.proofs.put_four.Reads as reads
 use Rattle.base64.proofs.put_four.Lts as lts
 
--- src/lib.rt:373:5
+-- src/lib.rt:397:5
 slice-write-out : tie.Need-slice-write-out
 slice-write-out c = search needs
 
--- src/lib.rt:374:9
+-- src/lib.rt:398:9
 add-out : tie.Need-add-out
 add-out c = search needs
 
--- src/lib.rt:374:5
+-- src/lib.rt:398:5
 slice-write-out-2 : tie.Need-slice-write-out-2
 slice-write-out-2 c = search needs
 
--- src/lib.rt:375:9
+-- src/lib.rt:399:9
 add-out-2 : tie.Need-add-out-2
 add-out-2 c = search needs
 
--- src/lib.rt:375:5
+-- src/lib.rt:399:5
 slice-write-out-3 : tie.Need-slice-write-out-3
 slice-write-out-3 c = search needs
 
--- src/lib.rt:376:9
+-- src/lib.rt:400:9
 add-out-3 : tie.Need-add-out-3
 add-out-3 c = search needs
 
--- src/lib.rt:376:5
+-- src/lib.rt:400:5
 slice-write-out-4 : tie.Need-slice-write-out-4
 slice-write-out-4 c = search needs
 
--- src/lib.rt:369:1
+-- src/lib.rt:393:1
 same-length : tie.Need-same-length
 same-length c = search needs
 
--- src/lib.rt:369:1
+-- src/lib.rt:393:1
 returns : tie.Need-returns
 returns c = search needs
 
