@@ -1,2 +1,4 @@
 pub mod Alphabet
 pub mod Groups
+pub mod Blanks
+pub mod Nexts

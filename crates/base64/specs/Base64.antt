@@ -75,19 +75,20 @@ unfoldable pub atEnd : List ℕ → List ℕ → Option (List ℕ)
 atEnd w [] = some w
 atEnd w (x ∷ rest) = none
 
--- "padded Base64 with zero unused bits": groups of four, of which only the last has pads
+-- a group, the characters behind it and what those give: only the last group has pads
+unfoldable pub follow : Group → List ℕ → Option (List ℕ) → Option (List ℕ)
+follow (Three x y z) rest octets = before (x ∷ y ∷ z ∷ []) octets
+follow (Two x y) rest octets = atEnd (x ∷ y ∷ []) rest
+follow (One x) rest octets = atEnd (x ∷ []) rest
+follow Broken rest octets = none
+
+-- "padded Base64 with zero unused bits", in groups of four
 unfoldable pub decode : List ℕ → Option (List ℕ)
 decode [] = some []
 decode (a ∷ []) = none
 decode (a ∷ b ∷ []) = none
 decode (a ∷ b ∷ c ∷ []) = none
-decode (a ∷ b ∷ c ∷ d ∷ rest) =
-    elim (groupOf a b c d) [
-      | Three x y z ↦ before (x ∷ y ∷ z ∷ []) (decode rest)
-      | Two x y ↦ atEnd (x ∷ y ∷ []) rest
-      | One x ↦ atEnd (x ∷ []) rest
-      | Broken ↦ none
-    ]
+decode (a ∷ b ∷ c ∷ d ∷ rest) = follow (groupOf a b c d) rest (decode rest)
 
 unfoldable pub blank : ℕ → Bool
 blank x = eqb x (octet " ") || eqb x (octet "\t")

@@ -1,9 +1,9 @@
 -- What the private functions answer: the steps between the rule of `Base64` and the code's places.
 --     codeOf, Signs    a sign as a number, and a table that has the number of each octet's sign
 --     Low              a sign whose value, if it has one, is below 64
---     letters, Past    what a text without its blanks is from a place on, as `next_letter` answers it
+--     NextLetter       what `next_letter` answers
 --     stepOf           what a text goes on with whose next four characters are a group
---     worth, Behind    what a text decodes to from a place on, as `next_group` answers it
+--     NextGroup        what `next_group` answers
 --     sizeOf, Room     how many octets a text stands for, and that they have room
 --     lineBreak, after    the line break before a group of four letters, and how many groups the line takes behind it
 use Prim.Native.Nat.{ℕ, zero, suc, _+_, _<_, _≤_}
@@ -38,14 +38,10 @@ Low (Value v) = v < 64
 Low Pad = Unit
 Low Other = Unit
 
--- the text that the answer stands for, and that the place lies behind the one asked for
-unfoldable pub letters : List ℕ → Letter → List ℕ
-letters s Over = []
-letters s (At x n) = x ∷ withoutBlanks (drop n s)
-
-abbrev pub Past : List ℕ → ℕ → Letter → Type 0
-Past s at Over = Unit
-Past s at (At x n) = (at < n) × (n ≤ length s)
+-- x is the next character of s from the place `at` on that is no blank, and n the place behind it; or there are only blanks
+unfoldable pub NextLetter : List ℕ → ℕ → Letter → Type 0
+NextLetter s at Over = withoutBlanks (drop at s) ≡ []
+NextLetter s at (At x n) = (withoutBlanks (drop at s) ≡ x ∷ withoutBlanks (drop n s)) × (at < n) × (n ≤ length s)
 
 -- a group, the place behind it and the characters that follow: with pads it is the last
 unfoldable pub stepOf : Group → ℕ → List ℕ → Next
@@ -56,20 +52,14 @@ stepOf (GOne x) n [] = One x
 stepOf (GOne x) n (c ∷ rest) = Broken
 stepOf GBroken n rest = Broken
 
--- the octets that the answer stands for, and that the place lies behind the four characters
-unfoldable pub worth : List ℕ → Next → Option (List ℕ)
-worth s (Three x y z n) = before (x ∷ y ∷ z ∷ []) (decode (withoutBlanks (drop n s)))
-worth s (Two x y) = some (x ∷ y ∷ [])
-worth s (One x) = some (x ∷ [])
-worth s End = some []
-worth s Broken = none
-
-abbrev pub Behind : List ℕ → ℕ → Next → Type 0
-Behind s at (Three x y z n) = (at + 4 ≤ n) × (n ≤ length s)
-Behind s at (Two x y) = Unit
-Behind s at (One x) = Unit
-Behind s at End = Unit
-Behind s at Broken = Unit
+-- what s stands for from the place `at` on: three octets and what it stands for from the place n on, or its last octets, or nothing
+unfoldable pub NextGroup : List ℕ → ℕ → Next → Type 0
+NextGroup s at (Three x y z n) =
+    (decode (withoutBlanks (drop at s)) ≡ before (x ∷ y ∷ z ∷ []) (decode (withoutBlanks (drop n s)))) × (at + 4 ≤ n) × (n ≤ length s)
+NextGroup s at (Two x y) = decode (withoutBlanks (drop at s)) ≡ some (x ∷ y ∷ [])
+NextGroup s at (One x) = decode (withoutBlanks (drop at s)) ≡ some (x ∷ [])
+NextGroup s at End = decode (withoutBlanks (drop at s)) ≡ some []
+NextGroup s at Broken = decode (withoutBlanks (drop at s)) ≡ none
 
 unfoldable pub sizeOf : Option (List ℕ) → Size
 sizeOf none = Wrong

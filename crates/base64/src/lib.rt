@@ -7,7 +7,7 @@ ghost use lib.ListN.{length, drop};
 ghost use Rattle.octets.specs.Written.{putAt};
 ghost use Rattle.base64.specs.Base64.{letter, signOf, closed, grouped, groupOf, decode as octetsOf, blank, withoutBlanks, encode, lines};
 ghost use Rattle.base64.specs.Answers.{decodedOf, leftIn};
-ghost use Rattle.base64.specs.Steps.{Signs, Low, letters, Past, stepOf, worth, Behind, sizeOf, Room, lineBreak, after};
+ghost use Rattle.base64.specs.Steps.{Signs, Low, NextLetter, stepOf, NextGroup, sizeOf, Room, lineBreak, after};
 
 // What a character stands for.
 pub enum Sign {
@@ -195,8 +195,7 @@ fn is_blank(x: u8) -> bool
 
 // The next character from the place `at` on that is no blank.
 fn next_letter(src: &[u8], at: usize) -> Letter
-    ensures { λ r. ⌜ withoutBlanks (drop at (now (src .entry))) ≡ letters (now (src .entry)) r ⌝ }
-    ensures { λ r. ⌜ Past (now (src .entry)) at r ⌝ }
+    ensures { λ r. ⌜ NextLetter (now (src .entry)) at r ⌝ }
 {
     let mut i = at;
     while i < src.len() {
@@ -231,8 +230,7 @@ fn step(src: &[u8], group: Group, n: usize) -> Next
 // What the text goes on with from the place `at` on, with blanks anywhere.
 fn next_spaced(table: &[u8; 256], src: &[u8], at: usize) -> Next
     requires { ⌜ Signs (now table) ⌝ }
-    ensures { λ r. ⌜ octetsOf (withoutBlanks (drop at (now (src .entry)))) ≡ worth (now (src .entry)) r ⌝ }
-    ensures { λ r. ⌜ Behind (now (src .entry)) at r ⌝ }
+    ensures { λ r. ⌜ NextGroup (now (src .entry)) at r ⌝ }
 {
     let Letter::At(a, i) = next_letter(src, at) else {
         return Next::End;
@@ -253,8 +251,7 @@ fn next_spaced(table: &[u8; 256], src: &[u8], at: usize) -> Next
 // octet was compared with a blank.
 fn next_group(table: &[u8; 256], src: &[u8], at: usize) -> Next
     requires { ⌜ Signs (now table) × (at ≤ length (now src)) ⌝ }
-    ensures { λ r. ⌜ octetsOf (withoutBlanks (drop at (now (src .entry)))) ≡ worth (now (src .entry)) r ⌝ }
-    ensures { λ r. ⌜ Behind (now (src .entry)) at r ⌝ }
+    ensures { λ r. ⌜ NextGroup (now (src .entry)) at r ⌝ }
 {
     if src.len() - at < 4 {
         return next_spaced(table, src, at);

@@ -1,0 +1,116 @@
+-- What a text goes on with: its next letters, its next group.
+--     got, ended       what an answer of `next_letter` says of the text
+--     decode-short, decode-four    one step of the rule
+--     the rulesets     stepping for `step`, spacing for `next_spaced`, nearing for `next_group`
+-- Assumes nothing.
+use Prim.Native.Nat.{ℕ, _+_, _-_, _<_, _≤_}
+use mathlib.Core.Path.{_≡_, refl, sym, ap, _∙_}
+use mathlib.Core.Bool.{Bool, true, false}
+use mathlib.Core.List.{List, [], _∷_}
+use mathlib.Core.Option.{Option, some, none}
+use native.Mathlib.Omega.{arith}
+use borrow.Author.Needs.{needs}
+use lib.ListN.{length, getD, drop}
+use Rattle.octets.proofs.Lists.{drop-one}
+use Rattle.base64.specs.Base64.{signOf, grouped, groupOf, before, atEnd, follow, decode, blank, withoutBlanks}
+use Rattle.base64.specs.Steps.{NextLetter, stepOf, NextGroup}
+use Rattle.base64.specs.declared.Sign.{Sign}
+use Rattle.base64.specs.declared.Sign.the-variants.{Value, Pad, Other}
+use Rattle.base64.specs.declared.Group.{Group}
+use Rattle.base64.specs.declared.Group.the-variants.{Three as GThree, Two as GTwo, One as GOne, Broken as GBroken}
+use Rattle.base64.specs.declared.Letter.{Letter}
+use Rattle.base64.specs.declared.Letter.the-variants.{End as Over, At}
+use Rattle.base64.specs.declared.Next.{Next}
+use Rattle.base64.specs.declared.Next.the-variants.{Three, Two, One, End, Broken}
+
+-- `next_letter`'s answer, read
+module _ (s : List ℕ) (at : ℕ) (r : Letter) (h : NextLetter s at r) where
+  pub over : r ≡ Over → withoutBlanks (drop at s) ≡ []
+  unfolding NextLetter
+  over e = rw e at h
+
+  pub got : (x n : ℕ) → r ≡ At x n → (withoutBlanks (drop at s) ≡ x ∷ withoutBlanks (drop n s)) × (at < n) × (n ≤ length s)
+  unfolding NextLetter
+  got x n e = rw e at h
+
+-- `step`'s answer is the next group
+module _ (s : List ℕ) (at n : ℕ) (l : at + 4 ≤ n) (k : n ≤ length s) where
+  stepped-by : (g : Group) (rest : List ℕ) → withoutBlanks (drop n s) ≡ rest
+      → decode (withoutBlanks (drop at s)) ≡ follow g rest (decode rest) → NextGroup s at (stepOf g n rest)
+  unfolding follow atEnd stepOf NextGroup
+  stepped-by (GThree x y z) rest e h = (rw (← e) at h, l, k)
+  stepped-by (GTwo x y) [] e h = h
+  stepped-by (GTwo x y) (c ∷ rest) e h = h
+  stepped-by (GOne x) [] e h = h
+  stepped-by (GOne x) (c ∷ rest) e h = h
+  stepped-by GBroken rest e h = h
+
+-- four letters from the place `at` to the place n
+module _ (s : List ℕ) (at n a b c d : ℕ) (t : withoutBlanks (drop at s) ≡ a ∷ b ∷ c ∷ d ∷ withoutBlanks (drop n s)) (l : at + 4 ≤ n) (k : n ≤ length s) where
+  pub grouped-at : NextGroup s at (stepOf (groupOf a b c d) n (withoutBlanks (drop n s)))
+  unfolding decode
+  grouped-at = stepped-by s at n l k (groupOf a b c d) (withoutBlanks (drop n s)) refl (ap decode t)
+
+-- `step`
+module _ (g : Group) (n : ℕ) where
+  pub step-three : (rest : List ℕ) (x y z : ℕ) → g ≡ GThree x y z → Three x y z n ≡ stepOf g n rest
+  unfolding stepOf
+  step-three rest x y z e = rw e
+
+  pub step-broken : (rest : List ℕ) → g ≡ GBroken → Broken ≡ stepOf g n rest
+  unfolding stepOf
+  step-broken rest e = rw e
+
+  module _ (s : List ℕ) (r : Letter) (h : NextLetter s n r) where
+    pub step-two : (x y : ℕ) → g ≡ GTwo x y → r ≡ Over → Two x y ≡ stepOf g n (withoutBlanks (drop n s))
+    unfolding stepOf
+    step-two x y e o = rw (e, over s n r h o)
+
+    pub step-one : (x : ℕ) → g ≡ GOne x → r ≡ Over → One x ≡ stepOf g n (withoutBlanks (drop n s))
+    unfolding stepOf
+    step-one x e o = rw (e, over s n r h o)
+
+    module _ (c m : ℕ) (o : r ≡ At c m) where
+      pub two-goes-on : (x y : ℕ) → g ≡ GTwo x y → Broken ≡ stepOf g n (withoutBlanks (drop n s))
+      unfolding stepOf
+      two-goes-on x y e = rw (e, got s n r h c m o .0)
+
+      pub one-goes-on : (x : ℕ) → g ≡ GOne x → Broken ≡ stepOf g n (withoutBlanks (drop n s))
+      unfolding stepOf
+      one-goes-on x e = rw (e, got s n r h c m o .0)
+
+pub ruleset stepping = (step-three, step-broken, step-two, step-one, two-goes-on, one-goes-on, needs)
+
+-- `next_spaced`
+module _ (s : List ℕ) (at : ℕ) (r₁ : Letter) (h₁ : NextLetter s at r₁) where
+  pub no-letter : r₁ ≡ Over → NextGroup s at End
+  unfolding NextGroup decode
+  no-letter e = rw (over s at r₁ h₁ e)
+
+  module _ (a i : ℕ) (e₁ : r₁ ≡ At a i) (r₂ : Letter) (h₂ : NextLetter s i r₂) where
+    pub one-letter : r₂ ≡ Over → NextGroup s at Broken
+    unfolding NextGroup decode
+    one-letter e = rw (got s at r₁ h₁ a i e₁ .0, over s i r₂ h₂ e)
+
+    module _ (b j : ℕ) (e₂ : r₂ ≡ At b j) (r₃ : Letter) (h₃ : NextLetter s j r₃) where
+      pub two-letters : r₃ ≡ Over → NextGroup s at Broken
+      unfolding NextGroup decode
+      two-letters e = rw (got s at r₁ h₁ a i e₁ .0, got s i r₂ h₂ b j e₂ .0, over s j r₃ h₃ e)
+
+      module _ (c k : ℕ) (e₃ : r₃ ≡ At c k) (r₄ : Letter) (h₄ : NextLetter s k r₄) where
+        pub three-letters : r₄ ≡ Over → NextGroup s at Broken
+        unfolding NextGroup decode
+        three-letters e =
+            rw (got s at r₁ h₁ a i e₁ .0, got s i r₂ h₂ b j e₂ .0, got s j r₃ h₃ c k e₃ .0, over s k r₄ h₄ e)
+
+        pub four-letters : (d n : ℕ) → r₄ ≡ At d n → (g : Group) → g ≡ groupOf a b c d → (r : Next)
+          → r ≡ stepOf g n (withoutBlanks (drop n s)) → NextGroup s at r
+        four-letters d n e₄ g eg r er =
+            let g₁ = got s at r₁ h₁ a i e₁ in
+            let g₂ = got s i r₂ h₂ b j e₂ in
+            let g₃ = got s j r₃ h₃ c k e₃ in
+            let g₄ = got s k r₄ h₄ d n e₄ in
+            rw (er, eg) (grouped-at s at n a b c d (rw (g₁ .0, g₂ .0, g₃ .0, g₄ .0)) (omega arith) (g₄ .2))
+
+pub ruleset spacing = (no-letter, one-letter, two-letters, three-letters, four-letters, needs)
+
