@@ -6,16 +6,17 @@
 -- Assumes nothing.
 use Prim.Native.Nat.{ℕ, _+_, _<_, _≤_}
 use mathlib.Core.Path.{_≡_, refl, sym, _∙_}
-use mathlib.Core.Bool.{Bool, true, false, not}
+use mathlib.Core.Bool.{Bool, true, false, _||_}
 use mathlib.Core.List.{List, [], _∷_}
 use native.Mathlib.Omega.{arith}
 use borrow.Author.Needs.{needs}
-use borrow.Author.Tests.{eq-eqb, ne-eqb, not-true, not-false}
+use borrow.Author.Tests.{eqb-true, eq-eqb, ne-eqb, not-true, not-false}
 use lib.Dec.{eqb}
 use lib.ListN.{length, getD, drop}
 use Rattle.octets.proofs.Lists.{drop-one, drop-done}
-use Rattle.base64.specs.Base64.{blank, withoutBlanks}
+use Rattle.base64.specs.Base64.{signOf, blank, withoutBlanks}
 use Rattle.base64.specs.Steps.{NextLetter}
+use Rattle.base64.specs.declared.Sign.the-variants.{Other}
 use Rattle.base64.specs.declared.Letter.the-variants.{End, At}
 
 pub is-space : (x : ℕ) → x ≡ 32 → true ≡ blank x
@@ -25,6 +26,15 @@ is-space x e = rw (eq-eqb x 32 e)
 pub is-tab : (x : ℕ) → (x ≡ 32 → ⊥) → eqb x 9 ≡ blank x
 unfolding blank
 is-tab x e = rw (ne-eqb x 32 e)
+
+-- a blank stands for nothing
+pub blank-other : (x : ℕ) → blank x ≡ true → signOf x ≡ Other
+unfolding blank signOf
+blank-other x e = go (eqb x 32) refl e
+  where
+    go : (b : Bool) → eqb x 32 ≡ b → (b || eqb x 9) ≡ true → signOf x ≡ Other
+    go true q t = rw (eqb-true x 32 q)
+    go false q t = rw (eqb-true x 9 t)
 
 pub without-blank : (x : ℕ) (s : List ℕ) → blank x ≡ true → withoutBlanks (x ∷ s) ≡ withoutBlanks s
 unfolding withoutBlanks

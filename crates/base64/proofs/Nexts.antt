@@ -12,7 +12,8 @@ use native.Mathlib.Omega.{arith}
 use borrow.Author.Needs.{needs}
 use lib.ListN.{length, getD, drop}
 use Rattle.octets.proofs.Lists.{drop-one}
-use Rattle.base64.specs.Base64.{signOf, grouped, groupOf, before, atEnd, follow, decode, blank, withoutBlanks}
+use Rattle.base64.proofs.Blanks.{without-one, blank-other}
+use Rattle.base64.specs.Base64.{signOf, closed, grouped, groupOf, before, atEnd, follow, decode, blank, withoutBlanks}
 use Rattle.base64.specs.Steps.{NextLetter, stepOf, NextGroup}
 use Rattle.base64.specs.declared.Sign.{Sign}
 use Rattle.base64.specs.declared.Sign.the-variants.{Value, Pad, Other}
@@ -114,3 +115,64 @@ module _ (s : List ℕ) (at : ℕ) (r₁ : Letter) (h₁ : NextLetter s at r₁)
 
 pub ruleset spacing = (no-letter, one-letter, two-letters, three-letters, four-letters, needs)
 
+-- a character that stands for nothing breaks its group
+broken-at-1 : (q r s : Sign) → grouped Other q r s ≡ GBroken
+unfolding grouped
+broken-at-1 q r s = refl
+
+broken-at-2 : (p r s : Sign) → grouped p Other r s ≡ GBroken
+unfolding grouped
+broken-at-2 (Value p) r s = refl
+broken-at-2 Pad r s = refl
+broken-at-2 Other r s = refl
+
+broken-at-3 : (p q s : Sign) → grouped p q Other s ≡ GBroken
+unfolding grouped closed
+broken-at-3 (Value p) (Value q) s = refl
+broken-at-3 (Value p) Pad s = refl
+broken-at-3 (Value p) Other s = refl
+broken-at-3 Pad q s = refl
+broken-at-3 Other q s = refl
+
+broken-at-4 : (p q r : Sign) → grouped p q r Other ≡ GBroken
+unfolding grouped closed
+broken-at-4 (Value p) (Value q) (Value r) = refl
+broken-at-4 (Value p) (Value q) Pad = refl
+broken-at-4 (Value p) (Value q) Other = refl
+broken-at-4 (Value p) Pad r = refl
+broken-at-4 (Value p) Other r = refl
+broken-at-4 Pad q r = refl
+broken-at-4 Other q r = refl
+
+-- so there is no blank where four characters stand for three octets
+no-blank : (x : ℕ) (g : Group) (u v w : ℕ) → g ≡ GThree u v w → (signOf x ≡ Other → g ≡ GBroken) → blank x ≡ false
+no-blank x g u v w e f = go (blank x) refl
+  where
+    go : (b : Bool) → blank x ≡ b → b ≡ false
+    go false q = refl
+    go true q = let z : _≡_ {A = ℕ} 0 1 = (let h = f (blank-other x q) in cc) in absurd (omega arith)
+
+drop-four : (s : List ℕ) (at : ℕ) → at + 4 ≤ length s
+  → drop at s ≡ getD s at 0 ∷ getD s (at + 1) 0 ∷ getD s (at + 2) 0 ∷ getD s (at + 3) 0 ∷ drop (at + 4) s
+drop-four s at h =
+    let e₂ : at + 1 + 1 ≡ at + 2 = omega arith in
+    let e₃ : at + 2 + 1 ≡ at + 3 = omega arith in
+    let e₄ : at + 3 + 1 ≡ at + 4 = omega arith in
+    rw (drop-one s at (omega arith), drop-one s (at + 1) (omega arith), e₂, drop-one s (at + 2) (omega arith), e₃, drop-one s (at + 3) (omega arith), e₄)
+
+-- `next_group`: the next four octets make three
+pub near-three : (s : List ℕ) (at : ℕ) → at ≤ length s → 4 ≤ length s - at → (g : Group)
+  → g ≡ groupOf (getD s at 0) (getD s (at + 1) 0) (getD s (at + 2) 0) (getD s (at + 3) 0)
+  → (x y z : ℕ) → g ≡ GThree x y z → NextGroup s at (Three x y z (at + 4))
+unfolding stepOf
+near-three s at l k g e x y z t =
+    let b₁ = no-blank (getD s at 0) g x y z t (λ o. e ∙ rw o (broken-at-1 _ _ _)) in
+    let b₂ = no-blank (getD s (at + 1) 0) g x y z t (λ o. e ∙ rw o (broken-at-2 _ _ _)) in
+    let b₃ = no-blank (getD s (at + 2) 0) g x y z t (λ o. e ∙ rw o (broken-at-3 _ _ _)) in
+    let b₄ = no-blank (getD s (at + 3) 0) g x y z t (λ o. e ∙ rw o (broken-at-4 _ _ _)) in
+    let f = grouped-at s at (at + 4) (getD s at 0) (getD s (at + 1) 0) (getD s (at + 2) 0) (getD s (at + 3) 0)
+        (rw (drop-four s at (omega arith), without-one _ _ b₁, without-one _ _ b₂, without-one _ _ b₃, without-one _ _ b₄))
+        (omega arith) (omega arith) in
+    rw (sym e ∙ t) at f
+
+pub ruleset nearing = (near-three, needs)
