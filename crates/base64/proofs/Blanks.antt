@@ -60,7 +60,7 @@ module _ (s : List ℕ) (at i : ℕ) (h : Skipped s at i) where
     pub skipped-more : b ≡ true → Skipped s at (i + 1)
     skipped-more t = record {
       same = h .same ∙ rw (drop-one s i l) (without-blank _ _ (sym e ∙ t));
-      behind = omega (arith, h .behind)
+      behind = omega (arith, h .behind);
     }
 
     pub stays : b ≡ false → NextLetter s at (At (getD s i 0) (i + 1))

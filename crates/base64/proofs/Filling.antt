@@ -12,7 +12,8 @@ use borrow.Author.Needs.{needs}
 use borrow.Author.Tests.{le-leb, lt-leb}
 use lib.ListN.{length, drop, set, length-append, length-set}
 use Rattle.octets.specs.Written.{onto}
-use Rattle.octets.proofs.Writing.{Wrote, begin, kept, counted, room-at, put, done}
+use Rattle.octets.proofs.Writing.{Wrote, begin, kept, put, done}
+use Rattle.base64.proofs.Putting.{put-two, put-three, has-room}
 use Rattle.base64.specs.Base64.{before, decode, withoutBlanks}
 use Rattle.base64.specs.Answers.{decodedOf, leftIn}
 use Rattle.base64.specs.Steps.{NextGroup, sizeOf, Room}
@@ -42,23 +43,6 @@ unfolding octetsIn
 room-some none n h = absurd h
 room-some (some w) n h = (refl, h)
 
--- two and three octets written, as code has the places
-module _ (w d out : List ℕ) (o x y : ℕ) where
-  put-two : (rest : List ℕ) → Wrote w d out o (x ∷ y ∷ rest) → Wrote w d (set (set out o x) (o + 1) y) (o + 2) rest
-  put-two rest h =
-      let e : o + 1 + 1 ≡ o + 2 = omega arith in
-      rw e at (put w d (set out o x) (o + 1) y rest (put w d out o x (y ∷ rest) h))
-
-  put-three : (z : ℕ) (rest : List ℕ) → Wrote w d out o (x ∷ y ∷ z ∷ rest)
-    → Wrote w d (set (set (set out o x) (o + 1) y) (o + 2) z) (o + 3) rest
-  put-three z rest h =
-      let e : o + 2 + 1 ≡ o + 3 = omega arith in
-      rw e at (put w d (set (set out o x) (o + 1) y) (o + 2) z rest (put-two (z ∷ rest) h))
-
--- there is room for what is still to be written
-has-room : (w d out : List ℕ) (o : ℕ) (rest : List ℕ) → Wrote w d out o rest → o + length rest ≤ length out
-has-room w d out o rest h = omega (arith, kept w d out o rest h, counted w d out o rest h, h .room)
-
 -- all of it is written
 all-in : (s d out : List ℕ) (o : ℕ) → decode s ≡ some (octetsIn (decode s)) → Wrote (octetsIn (decode s)) d out o [] → out ≡ leftIn (decode s) d
 unfolding leftIn
@@ -83,7 +67,7 @@ module _ (s d out : List ℕ) (i o : ℕ) (h : Filled s d out i o) where
   module _ (g : Next) (k : NextGroup s i g) where
     module _ (x y z n : ℕ) (e : g ≡ Three x y z n) where
       text-three : (decode (withoutBlanks (drop n s)) ≡ some (octetsIn (decode (withoutBlanks (drop n s)))))
-        × (octetsIn (decode (withoutBlanks (drop i s))) ≡ x ∷ y ∷ z ∷ octetsIn (decode (withoutBlanks (drop n s))))
+          × (octetsIn (decode (withoutBlanks (drop i s))) ≡ x ∷ y ∷ z ∷ octetsIn (decode (withoutBlanks (drop n s))))
       text-three = behind-three (x ∷ y ∷ z ∷ []) _ _ (sym (read-three s i g k x y z n e .0) ∙ h .sound)
 
       to-write-three : Wrote (octetsIn (decode (withoutBlanks s))) d out o (x ∷ y ∷ z ∷ octetsIn (decode (withoutBlanks (drop n s))))
@@ -103,7 +87,7 @@ module _ (s d out : List ℕ) (i o : ℕ) (h : Filled s d out i o) where
             sound = text-three .0;
             whole = h .whole;
             upto = r .2;
-            few = omega (arith, h .few)
+            few = omega (arith, h .few);
           }
 
     module _ (x y : ℕ) (e : g ≡ Two x y) where

@@ -3,4 +3,7 @@ pub mod Groups
 pub mod Blanks
 pub mod Nexts
 pub mod Measuring
+pub mod Putting
 pub mod Filling
+pub mod Lengths
+pub mod Laying

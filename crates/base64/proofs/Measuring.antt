@@ -21,7 +21,7 @@ use Rattle.base64.specs.declared.Size.the-variants.{Of, Wrong}
 -- `next_group`'s answer, read
 module _ (s : List ℕ) (at : ℕ) (g : Next) (h : NextGroup s at g) where
   pub read-three : (x y z n : ℕ) → g ≡ Three x y z n
-    → (decode (withoutBlanks (drop at s)) ≡ before (x ∷ y ∷ z ∷ []) (decode (withoutBlanks (drop n s)))) × (at + 4 ≤ n) × (n ≤ length s)
+      → (decode (withoutBlanks (drop at s)) ≡ before (x ∷ y ∷ z ∷ []) (decode (withoutBlanks (drop n s)))) × (at + 4 ≤ n) × (n ≤ length s)
   unfolding NextGroup
   read-three x y z n e = rw e at h
 

@@ -105,7 +105,7 @@ module _ (s : List ℕ) (at : ℕ) (r₁ : Letter) (h₁ : NextLetter s at r₁)
             rw (got s at r₁ h₁ a i e₁ .0, got s i r₂ h₂ b j e₂ .0, got s j r₃ h₃ c k e₃ .0, over s k r₄ h₄ e)
 
         pub four-letters : (d n : ℕ) → r₄ ≡ At d n → (g : Group) → g ≡ groupOf a b c d → (r : Next)
-          → r ≡ stepOf g n (withoutBlanks (drop n s)) → NextGroup s at r
+            → r ≡ stepOf g n (withoutBlanks (drop n s)) → NextGroup s at r
         four-letters d n e₄ g eg r er =
             let g₁ = got s at r₁ h₁ a i e₁ in
             let g₂ = got s i r₂ h₂ b j e₂ in
@@ -153,7 +153,7 @@ no-blank x g u v w e f = go (blank x) refl
     go true q = let z : _≡_ {A = ℕ} 0 1 = (let h = f (blank-other x q) in cc) in absurd (omega arith)
 
 drop-four : (s : List ℕ) (at : ℕ) → at + 4 ≤ length s
-  → drop at s ≡ getD s at 0 ∷ getD s (at + 1) 0 ∷ getD s (at + 2) 0 ∷ getD s (at + 3) 0 ∷ drop (at + 4) s
+    → drop at s ≡ getD s at 0 ∷ getD s (at + 1) 0 ∷ getD s (at + 2) 0 ∷ getD s (at + 3) 0 ∷ drop (at + 4) s
 drop-four s at h =
     let e₂ : at + 1 + 1 ≡ at + 2 = omega arith in
     let e₃ : at + 2 + 1 ≡ at + 3 = omega arith in
@@ -162,8 +162,8 @@ drop-four s at h =
 
 -- `next_group`: the next four octets make three
 pub near-three : (s : List ℕ) (at : ℕ) → at ≤ length s → 4 ≤ length s - at → (g : Group)
-  → g ≡ groupOf (getD s at 0) (getD s (at + 1) 0) (getD s (at + 2) 0) (getD s (at + 3) 0)
-  → (x y z : ℕ) → g ≡ GThree x y z → NextGroup s at (Three x y z (at + 4))
+    → g ≡ groupOf (getD s at 0) (getD s (at + 1) 0) (getD s (at + 2) 0) (getD s (at + 3) 0)
+    → (x y z : ℕ) → g ≡ GThree x y z → NextGroup s at (Three x y z (at + 4))
 unfolding stepOf
 near-three s at l k g e x y z t =
     let b₁ = no-blank (getD s at 0) g x y z t (λ o. e ∙ rw o (broken-at-1 _ _ _)) in
@@ -171,8 +171,8 @@ near-three s at l k g e x y z t =
     let b₃ = no-blank (getD s (at + 2) 0) g x y z t (λ o. e ∙ rw o (broken-at-3 _ _ _)) in
     let b₄ = no-blank (getD s (at + 3) 0) g x y z t (λ o. e ∙ rw o (broken-at-4 _ _ _)) in
     let f = grouped-at s at (at + 4) (getD s at 0) (getD s (at + 1) 0) (getD s (at + 2) 0) (getD s (at + 3) 0)
-        (rw (drop-four s at (omega arith), without-one _ _ b₁, without-one _ _ b₂, without-one _ _ b₃, without-one _ _ b₄))
-        (omega arith) (omega arith) in
+    (rw (drop-four s at (omega arith), without-one _ _ b₁, without-one _ _ b₂, without-one _ _ b₃, without-one _ _ b₄))
+    (omega arith) (omega arith) in
     rw (sym e ∙ t) at f
 
 pub ruleset nearing = (near-three, needs)

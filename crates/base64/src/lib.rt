@@ -2,12 +2,12 @@
 // the lines of a field. What is right is said by specs/Base64.antt.
 ghost use Prim.Native.Nat.{_+_, _*_, _≤_, _<_};
 ghost use mathlib.Core.Path.{_≡_};
-ghost use mathlib.Core.List.{[], _∷_};
+ghost use mathlib.Core.List.{[], _∷_, _++_};
 ghost use lib.ListN.{length, drop};
 ghost use Rattle.octets.specs.Written.{putAt};
-ghost use Rattle.base64.specs.Base64.{letter, signOf, closed, grouped, groupOf, decode as octetsOf, blank, withoutBlanks, encode, lines};
+ghost use Rattle.base64.specs.Base64.{letter, signOf, closed, grouped, groupOf, decode as octetsOf, blank, withoutBlanks, encode, laid, lines};
 ghost use Rattle.base64.specs.Answers.{decodedOf, leftIn};
-ghost use Rattle.base64.specs.Steps.{Signs, Low, NextLetter, stepOf, NextGroup, sizeOf, Room, lineBreak, after};
+ghost use Rattle.base64.specs.Steps.{Signs, Low, NextLetter, stepOf, NextGroup, sizeOf, Room, characters, lineBreak, piece, after};
 
 // What a character stands for.
 pub enum Sign {
@@ -344,26 +344,26 @@ pub fn lines_length(key: &[u8]) -> usize
     text + (text + 75) / 76 * 3
 }
 
-// The four characters of the group that begins at the place `at`.
-fn four_at(key: &[u8], at: usize) -> Four
-    requires { ⌜ at < length (now key) ⌝ }
-    ensures { λ r. ⌜ encode (drop at (now (key .entry))) ≡ r .0 ∷ r .1 ∷ r .2 ∷ r .3 ∷ encode (drop (at + 3) (now (key .entry))) ⌝ }
+fn four_of_one(a: u8) -> Four
+    ensures { λ r. ⌜ characters r ≡ encode (a ∷ []) ⌝ }
 {
-    let left = key.len() - at;
-    let a = key[at];
-    if left == 1 {
-        return Four(letter_of(a / 4), letter_of(a % 4 * 16), b'=', b'=');
-    }
-    let b = key[at + 1];
-    if left == 2 {
-        return Four(
-            letter_of(a / 4),
-            letter_of(a % 4 * 16 + b / 16),
-            letter_of(b % 16 * 4),
-            b'=',
-        );
-    }
-    let c = key[at + 2];
+    Four(letter_of(a / 4), letter_of(a % 4 * 16), b'=', b'=')
+}
+
+fn four_of_two(a: u8, b: u8) -> Four
+    ensures { λ r. ⌜ characters r ≡ encode (a ∷ b ∷ []) ⌝ }
+{
+    Four(
+        letter_of(a / 4),
+        letter_of(a % 4 * 16 + b / 16),
+        letter_of(b % 16 * 4),
+        b'=',
+    )
+}
+
+fn four_of_three(a: u8, b: u8, c: u8) -> Four
+    ensures { λ r. ⌜ characters r ≡ encode (a ∷ b ∷ c ∷ []) ⌝ }
+{
     Four(
         letter_of(a / 4),
         letter_of(a % 4 * 16 + b / 16),
@@ -372,10 +372,25 @@ fn four_at(key: &[u8], at: usize) -> Four
     )
 }
 
+// The four characters of the group that begins at the place `at`.
+fn four_at(key: &[u8], at: usize) -> Four
+    requires { ⌜ at < length (now key) ⌝ }
+    ensures { λ r. ⌜ encode (drop at (now (key .entry))) ≡ characters r ++ encode (drop (at + 3) (now (key .entry))) ⌝ }
+{
+    let left = key.len() - at;
+    if left == 1 {
+        return four_of_one(key[at]);
+    }
+    if left == 2 {
+        return four_of_two(key[at], key[at + 1]);
+    }
+    four_of_three(key[at], key[at + 1], key[at + 2])
+}
+
 // Ends a line that takes no group more, and begins the next. The answer is the place behind.
 fn break_line(out: &mut [u8], at: usize, takes: usize) -> usize
     requires { ⌜ at + length (lineBreak takes) ≤ length (now out) ⌝ }
-    ensures { λ r. ⌜ r ≡ at + length (lineBreak takes) ⌝ }
+    ensures { λ r. ⌜ (r ≡ at + length (lineBreak takes)) × (r ≤ at + 3) ⌝ }
     ensures { λ _. ⌜ now (out .exit) ≡ putAt (now (out .entry)) at (lineBreak takes) ⌝ }
 {
     if takes != 0 {
@@ -389,7 +404,7 @@ fn break_line(out: &mut [u8], at: usize, takes: usize) -> usize
 
 fn put_four(out: &mut [u8], at: usize, f: Four)
     requires { ⌜ at + 4 ≤ length (now out) ⌝ }
-    ensures { λ _. ⌜ now (out .exit) ≡ putAt (now (out .entry)) at (f .0 ∷ f .1 ∷ f .2 ∷ f .3 ∷ []) ⌝ }
+    ensures { λ _. ⌜ now (out .exit) ≡ putAt (now (out .entry)) at (characters f) ⌝ }
 {
     out[at] = f.0;
     out[at + 1] = f.1;
@@ -404,6 +419,39 @@ fn takes_after(takes: usize) -> usize
     if takes == 0 { 18 } else { takes - 1 }
 }
 
+// Writes the group that begins at the place `i` of the key, behind the line break that it may want.
+// The answer is the place behind.
+fn put_group(key: &[u8], i: usize, out: &mut [u8], at: usize, takes: usize) -> usize
+    requires { ⌜ (i < length (now key)) × (at + length (piece (now key) i takes) ≤ length (now out)) ⌝ }
+    ensures { λ r. ⌜ (r ≡ at + length (piece (now (key .entry)) i takes)) × (r ≤ at + 7) ⌝ }
+    ensures { λ _. ⌜ now (out .exit) ≡ putAt (now (out .entry)) at (piece (now (key .entry)) i takes) ⌝ }
+{
+    let four = four_at(key, i);
+    let o = break_line(&mut *out, at, takes);
+    put_four(&mut *out, o, four);
+    o + 4
+}
+
+// Writes a key as lines from the place `at` on, behind the space that opens the first one. A group never
+// stands on two lines, since 76 is a multiple of 4. The answer is the place behind.
+fn lay(key: &[u8], out: &mut [u8], at: usize) -> usize
+    requires { ⌜ at + length (laid 76 (encode (now key))) ≤ length (now out) ⌝ }
+    ensures { λ r. ⌜ r ≡ at + length (laid 76 (encode (now (key .entry)))) ⌝ }
+    ensures { λ _. ⌜ now (out .exit) ≡ putAt (now (out .entry)) at (laid 76 (encode (now (key .entry)))) ⌝ }
+{
+    let mut o = at;
+    let mut i: usize = 0;
+    let mut takes: usize = 19;
+    while i < key.len() {
+        o = put_group(key, i, &mut *out, o, takes);
+        takes = takes_after(takes);
+        i += 3;
+    }
+    out[o] = b'\r';
+    out[o + 1] = b'\n';
+    o + 2
+}
+
 // Writes a key as the lines of a field from the place `at` on, and answers the place behind them.
 pub fn write_lines(key: &[u8], out: &mut [u8], at: usize) -> usize
     requires { ⌜ at + length (lines (encode (now key))) ≤ length (now out) ⌝ }
@@ -414,18 +462,5 @@ pub fn write_lines(key: &[u8], out: &mut [u8], at: usize) -> usize
         return at;
     }
     out[at] = b' ';
-    let mut o = at + 1;
-    let mut i: usize = 0;
-    let mut takes: usize = 19;
-    while i < key.len() {
-        let four = four_at(key, i);
-        o = break_line(&mut *out, o, takes);
-        put_four(&mut *out, o, four);
-        takes = takes_after(takes);
-        o += 4;
-        i += 3;
-    }
-    out[o] = b'\r';
-    out[o + 1] = b'\n';
-    o + 2
+    lay(key, out, at + 1)
 }
