@@ -85,6 +85,36 @@ pub extern "C" fn probe_put_number(out: &mut [u8], at: usize, width: usize, n: u
     true
 }
 
+// kind 0: the octets decoded; 1: no Base64; 2: too little room
+#[no_mangle]
+pub extern "C" fn probe_decode(text: &[u8], out: &mut [u8]) -> Answer {
+    match base64::decode(text, out) {
+        base64::Decoded::Octets(n) => Answer {
+            kind: 0,
+            value: n as u64,
+        },
+        base64::Decoded::NotBase64 => Answer { kind: 1, value: 0 },
+        base64::Decoded::NoRoom => Answer { kind: 2, value: 0 },
+    }
+}
+
+// kind 0: the place behind the lines; 2: too little room
+#[no_mangle]
+pub extern "C" fn probe_lines(key: &[u8], out: &mut [u8], at: usize) -> Answer {
+    let n = base64::lines_length(key);
+    if out.len() < n {
+        return Answer { kind: 2, value: 0 };
+    }
+    if out.len() - n < at {
+        return Answer { kind: 2, value: 0 };
+    }
+    let end = base64::write_lines(key, out, at);
+    Answer {
+        kind: 0,
+        value: end as u64,
+    }
+}
+
 fn place(r: tokens::Reached) -> Answer {
     match r {
         tokens::Reached::To(n) => Answer {
