@@ -1,0 +1,5 @@
+pub mod Pieces
+pub mod Running
+pub mod Labels
+pub mod Atoms
+pub mod Plain
