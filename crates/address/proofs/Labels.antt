@@ -5,14 +5,16 @@
 -- Assumes nothing.
 use Prim.Native.Nat.{ℕ, suc, zero, _+_, _-_, _<_, _≤_}
 use mathlib.Core.Path.{_≡_, refl, sym, ap, _∙_}
-use mathlib.Core.Bool.{Bool, true, false, not, _&&_, _||_, false≢true, and-assoc, and-comm}
+use mathlib.Core.Bool.{Bool, true, false, not, _&&_, _||_, and-assoc, and-comm, and-false}
 use mathlib.Core.List.{List, [], _∷_, _++_, append-nil}
 use native.Mathlib.Omega.{arith}
 use borrow.Author.Needs.{needs}
-use borrow.Author.Tests.{not-true, not-false}
+use borrow.Author.Tests.{not-true, not-false, le-leb, lt-leb}
+use lib.Dec.{eqb}
 use lib.ListN.{length, getD, take, drop}
 use Rattle.octets.proofs.Lists.{drop-one, drop-done}
 use Rattle.tokens.specs.Tokens.{belongs}
+use Rattle.tokens.specs.declared.Class.the-variants.{Letter, Digit}
 use Rattle.address.specs.Pieces.{every, pieces, onFirst, run}
 use Rattle.address.specs.Address.{oneTo, longestLabel, labelOctet, freeEnds, label, domain}
 use Rattle.address.specs.Answers.{labelShape}
@@ -27,6 +29,26 @@ is-label p =
 pub labels : Cut labelOctet 46 label labelShape
 unfolding labelOctet belongs
 labels = record { out = refl; is = is-label }
+
+-- the answers on one octet, and on the shape
+pub label-octet : (x : ℕ) (a b : Bool) → a ≡ belongs Letter x → b ≡ belongs Digit x → ((a || b) || eqb x 45) ≡ labelOctet x
+unfolding labelOctet
+label-octet x a b p q = rw (p, q)
+
+module _ (p : List ℕ) where
+  pub shape-none : length p ≡ 0 → false ≡ labelShape p
+  unfolding labelShape
+  shape-none e = rw e
+
+  pub shape-long : 63 < length p → false ≡ labelShape p
+  unfolding labelShape
+  shape-long l = rw (lt-leb (length p) 63 l, and-false)
+
+  pub shape-ends : (length p ≡ 0 → ⊥) → length p ≤ 63 → (not (eqb (getD p 0 0) 45) && not (eqb (getD p (length p - 1) 0) 45)) ≡ labelShape p
+  unfolding labelShape freeEnds
+  shape-ends n l = rw (le-leb 1 (length p) (omega arith), le-leb (length p) 63 l)
+
+pub ruleset shaping = (label-octet, shape-none, shape-long, shape-ends, needs)
 
 pub record Labels (s : List ℕ) (at i : ℕ) : Type 0 where
   pub so-far : domain (drop at s) ≡ domain (drop i s)

@@ -3,3 +3,4 @@ pub mod Running
 pub mod Labels
 pub mod Atoms
 pub mod Plain
+pub mod Forms

@@ -9,6 +9,8 @@ use mathlib.Core.List.{List, [], _∷_}
 use native.Mathlib.Omega.{arith}
 use borrow.Author.Needs.{needs}
 use borrow.Author.Tests.{le-leb, lt-leb, ltb-true, ltb-false}
+use mir.Syntax.{w64}
+use mir.Val.{Fits}
 use lib.Dec.{ltb}
 use lib.ListN.{length, drop}
 use Rattle.octets.proofs.Lists.{drop-done}
@@ -53,6 +55,9 @@ module _ (s : List ℕ) where
         let h : (opens ≡ true) × (n ≡ length (before 64 s)) = part-is n p in
         omega (arith, h .1, ltb-true (length (before 64 s)) (length s) (and-left (ltb (length (before 64 s)) (length s)) _ (h .0)))
 
+    pub part-fits : (n : ℕ) → length s ≤ 254 → g ≡ Part n → Fits w64 (n + 1)
+    part-fits n l p = omega (arith, part-within n p)
+
     pub plain-whole : (n : ℕ) (b : Bool) → length s ≤ 254 → g ≡ Part n → b ≡ domain (drop (n + 1) s) → b ≡ plain s
     unfolding plain
     plain-whole n b l p d =
@@ -70,4 +75,4 @@ module _ (s : List ℕ) where
         (λ k. rw (no-domain (ltb-false (length (before 64 s)) (length s) k), and-false)))
         (λ f. rw (f, and-false))
 
-pub ruleset being-plain = (plain-long, part-within, plain-whole, plain-none, needs)
+pub ruleset being-plain = (plain-long, part-fits, plain-whole, plain-none, needs)
