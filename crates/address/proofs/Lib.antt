@@ -3,4 +3,5 @@ pub mod Running
 pub mod Labels
 pub mod Atoms
 pub mod Plain
+pub mod Sides
 pub mod Forms

@@ -64,6 +64,18 @@ behind-drop d [] = refl
 behind-drop d (x ∷ s) =
     by-test (eqb x d) (λ e. rw (behind, before, e)) (λ e. rw (behind, before, e, behind-drop d s, add-one (length (before d s)), add-one (suc (length (before d s)))))
 
+-- where there is such an octet, the others are the pieces of what stands behind it
+others-behind : (d : ℕ) (s : List ℕ) → length (before d s) < length s → others d s ≡ pieces d (behind d s)
+unfolding others behind before
+others-behind d [] l = absurd (omega arith)
+others-behind d (x ∷ s) l =
+    by-test (eqb x d)
+    (λ e. rw (others, behind, e))
+    (λ e. rw (others, behind, e) (let k : suc (length (before d s)) < suc (length s) = rw (before, e) at l in others-behind d s (omega arith)))
+
+pub pieces-sides : (d : ℕ) (s : List ℕ) → length (before d s) < length s → pieces d s ≡ before d s ∷ pieces d (behind d s)
+pieces-sides d s l = pieces-first d s ∙ rw (others-behind d s l)
+
 -- runs of octets of which q holds
 module _ (q : ℕ → Bool) where
   pub run-short : (u : List ℕ) → run q u ≤ length u
@@ -183,6 +195,10 @@ module _ (q : ℕ → Bool) (d : ℕ) (out : q d ≡ false) where
   pub pieces-into : (a b : List ℕ) → every q a ≡ true → pieces d (a ++ b) ≡ (a ++ before d b) ∷ others d b
   pieces-into a b e = pieces-first d (a ++ b) ∙ rw (before-into a b e, others-into a b e)
 
+  pub pieces-whole : (a : List ℕ) → every q a ≡ true → pieces d a ≡ a ∷ []
+  unfolding before others
+  pieces-whole a e = ap (pieces d) (sym (append-nil a)) ∙ pieces-into a [] e ∙ rw append-nil
+
 -- What a test of pieces asks: each octet is one of which q holds, which the octet d at which the text is cut is not, and the piece has a shape.
 pub record Cut (q : ℕ → Bool) (d : ℕ) (test shape : List ℕ → Bool) : Type 0 where
   pub out : q d ≡ false
@@ -193,10 +209,8 @@ module _ {q : ℕ → Bool} {d : ℕ} {test shape : List ℕ → Bool} (c : Cut 
   well a e = c .is a ∙ rw e (and-true (shape a))
 
   pub all-end : (a : List ℕ) → every q a ≡ true → every test (pieces d a) ≡ shape a
-  unfolding every before others
-  all-end a e =
-      ap (λ (l : List ℕ). every test (pieces d l)) (sym (append-nil a))
-      ∙ rw (pieces-into q d (c .out) a [] e, append-nil, well a e) (and-true (shape a))
+  unfolding every
+  all-end a e = rw (pieces-whole q d (c .out) a e, well a e) (and-true (shape a))
 
   pub all-on : (a b : List ℕ) → every q a ≡ true → every test (pieces d (a ++ d ∷ b)) ≡ (shape a && every test (pieces d b))
   unfolding every before others
@@ -214,3 +228,7 @@ module _ {q : ℕ → Bool} {d : ℕ} {test shape : List ℕ → Bool} (c : Cut 
       by-test (eqb x d)
       (λ h. rw (eqb-true x d h) (all-on a b e ∙ rw f))
       (λ h. all-bad a b x e (eqb-false x d h) (run-zero q x b z))
+
+  pub cut-octets : (s : List ℕ) → every test (pieces d s) ≡ true → every (λ x. q x || eqb x d) s ≡ true
+  cut-octets s e =
+      pieces-octets q d s (every-weaker test (every q) (λ p t. and-right (shape p) (every q p) (sym (c .is p) ∙ t)) (pieces d s) e)
