@@ -3,23 +3,22 @@
 --     Atoms s i                 whether a local part stands before the "@" comes to whether atoms stand from i on
 --     atoms-begin .. atoms-end      the loop's steps
 -- Assumes nothing.
-use Prim.Native.Nat.{ℕ, suc, zero, _+_, _-_, _<_, _≤_}
-use mathlib.Core.Path.{_≡_, refl, sym, ap, _∙_}
-use mathlib.Core.Bool.{Bool, true, false, _&&_, and-false}
+use Prim.Native.Nat.{ℕ, _+_, _-_, _<_, _≤_}
+use mathlib.Core.Path.{_≡_, refl, ap, _∙_}
+use mathlib.Core.Bool.{Bool, true, false, and-false}
 use mathlib.Core.List.{List, [], _∷_, _++_, append-nil}
 use native.Mathlib.Omega.{arith}
 use borrow.Author.Needs.{needs}
-use borrow.Author.Tests.{eq-eqb, ne-eqb, le-leb, lt-leb, lt-ltb, le-ltb}
+use borrow.Author.Tests.{ne-eqb, le-leb, lt-leb, lt-ltb, le-ltb}
 use lib.Dec.{leb}
 use lib.ListN.{length, getD, take, drop, length-append}
-use Rattle.octets.proofs.Lists.{drop-one, drop-done}
+use Rattle.octets.proofs.Lists.{drop-one}
 use Rattle.tokens.specs.Tokens.{sign, belongs, runLength}
 use Rattle.tokens.specs.declared.Class.{Class}
 use Rattle.tokens.specs.declared.Class.the-variants.{Atom}
 use Rattle.address.specs.Pieces.{every, pieces, before, run}
 use Rattle.address.specs.Address.{atom, localPart}
 use Rattle.address.specs.Answers.{localOf}
-use Rattle.address.specs.declared.Local.{Local}
 use Rattle.address.specs.declared.Local.the-variants.{Part, NoPart}
 use Rattle.address.proofs.Pieces.{by-test, Cut, Ran, ran, run-zero, run-before, before-into, all-end, all-on, all-bad, all-shapeless}
 

@@ -4,16 +4,16 @@
 --     room-written .. none-kept      what is answered and left where the form is written
 --     same-address                   two texts in canonical form
 -- Assumes nothing.
-use Prim.Native.Nat.{ℕ, suc, zero, _+_, _-_, _<_, _≤_}
-use mathlib.Core.Path.{_≡_, refl, sym, ap, _∙_}
-use mathlib.Core.Bool.{Bool, true, false, not, _&&_}
-use mathlib.Core.List.{List, [], _∷_}
+use Prim.Native.Nat.{ℕ, _+_, _<_, _≤_}
+use mathlib.Core.Path.{_≡_, sym, ap, _∙_}
+use mathlib.Core.Bool.{Bool, true, false, not}
+use mathlib.Core.List.{List}
 use native.Mathlib.Omega.{arith}
 use native.Mathlib.Nat.{zero-add}
 use borrow.Author.Needs.{needs}
-use borrow.Author.Tests.{eqb-true, eqb-false, not-true, not-false, le-leb, lt-leb}
+use borrow.Author.Tests.{eqb-true, eqb-false, not-true, not-false}
 use lib.Dec.{eqb}
-use lib.ListN.{length, getD, drop}
+use lib.ListN.{length, getD}
 use Rattle.octets.specs.Octets.{sameOctets, sameName, lower, lowered}
 use Rattle.octets.specs.Written.{putAt, onto}
 use Rattle.octets.proofs.Letters.{length-lowered, getD-lowered}
@@ -21,6 +21,7 @@ use Rattle.octets.proofs.Comparing.{Same, same-begin, same-next, same-stop, sam
 use Rattle.address.specs.Address.{plain, canonical, isCanonical}
 use Rattle.address.specs.Answers.{writtenOf, ontoIfFits}
 use Rattle.address.specs.declared.Written.the-variants.{Length, NoRoom}
+use Rattle.address.proofs.Room.{written-fits, written-none, onto-fits, onto-none}
 
 pub small-is : (x y : ℕ) → y ≡ lower x → eqb y x ≡ eqb (lower x) x
 small-is x y e = rw e
@@ -57,7 +58,7 @@ module _ (s : List ℕ) (p : Bool) (e : p ≡ plain s) where
 
 pub ruleset being-canonical = (canonical-whole, canonical-part, needs)
 
--- today the form is as long as the text
+-- today the form is as long as the text, and the code counts on it
 same-length : (s : List ℕ) → length (canonical s) ≡ length s
 unfolding canonical
 same-length s = length-lowered s
@@ -65,24 +66,21 @@ same-length s = length-lowered s
 module _ (s d : List ℕ) where
   module _ (l : length d < length s) where
     pub none-written : NoRoom ≡ writtenOf (canonical s) (length d)
-    unfolding writtenOf
-    none-written = rw (same-length s, lt-leb (length s) (length d) l)
+    none-written = sym (written-none (canonical s) (length d) (rw same-length l))
 
     pub none-kept : d ≡ ontoIfFits (canonical s) d
-    unfolding ontoIfFits
-    none-kept = rw (same-length s, lt-leb (length s) (length d) l)
+    none-kept = sym (onto-none (canonical s) d (rw same-length l))
 
   module _ (l : length s ≤ length d) where
     pub room-asked : 0 + length s ≤ length d
     room-asked = omega arith
 
     pub room-written : Length (length s) ≡ writtenOf (canonical s) (length d)
-    unfolding writtenOf
-    room-written = rw (same-length s, le-leb (length s) (length d) l)
+    room-written = ap Length (sym (same-length s)) ∙ sym (written-fits (canonical s) (length d) (rw same-length l))
 
     pub room-kept : (out : List ℕ) → out ≡ putAt d 0 (lowered s) → out ≡ ontoIfFits (canonical s) d
-    unfolding ontoIfFits onto putAt canonical
-    room-kept out e = e ∙ rw (length-lowered s, le-leb (length s) (length d) l, zero-add)
+    unfolding canonical putAt onto
+    room-kept out e = e ∙ rw zero-add (sym (onto-fits (lowered s) d (rw length-lowered l)))
 
 pub ruleset writing-canonical = (none-written, none-kept, room-asked, room-written, room-kept, needs)
 

@@ -3,10 +3,10 @@
 --     Labels s at i              whether a domain stands from `at` on comes to whether one stands from i on
 --     labels-begin .. labels-end     the loop's steps
 -- Assumes nothing.
-use Prim.Native.Nat.{ℕ, suc, zero, _+_, _-_, _<_, _≤_}
-use mathlib.Core.Path.{_≡_, refl, sym, ap, _∙_}
+use Prim.Native.Nat.{ℕ, _+_, _-_, _<_, _≤_}
+use mathlib.Core.Path.{_≡_, refl, sym, _∙_}
 use mathlib.Core.Bool.{Bool, true, false, not, _&&_, _||_, and-assoc, and-comm, and-false}
-use mathlib.Core.List.{List, [], _∷_, _++_, append-nil}
+use mathlib.Core.List.{List, append-nil}
 use native.Mathlib.Omega.{arith}
 use borrow.Author.Needs.{needs}
 use borrow.Author.Tests.{not-true, not-false, le-leb, lt-leb}
@@ -15,7 +15,7 @@ use lib.ListN.{length, getD, take, drop}
 use Rattle.octets.proofs.Lists.{drop-one, drop-done}
 use Rattle.tokens.specs.Tokens.{belongs}
 use Rattle.tokens.specs.declared.Class.the-variants.{Letter, Digit}
-use Rattle.address.specs.Pieces.{every, pieces, onFirst, run}
+use Rattle.address.specs.Pieces.{every, pieces, run}
 use Rattle.address.specs.Address.{oneTo, longestLabel, labelOctet, freeEnds, label, domain}
 use Rattle.address.specs.Answers.{labelShape}
 use Rattle.address.proofs.Pieces.{Cut, Ran, ran, run-zero, all-end, all-on, all-bad, all-shapeless}

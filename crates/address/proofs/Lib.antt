@@ -4,4 +4,7 @@ pub mod Labels
 pub mod Atoms
 pub mod Plain
 pub mod Sides
+pub mod Room
 pub mod Forms
+pub mod Spelling
+pub mod Worked

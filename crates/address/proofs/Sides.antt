@@ -3,21 +3,23 @@
 --     plain-least, plain-most      its length
 --     plain-octets                 every octet of it is one of an atom, a dot or "@"
 --     plain-at, plain-without      the same at a place; so what is none of these stands nowhere in it
+--     low-apart                    spaces, tabs and all other octets below 33 are none of these
 --     plain-pieces                 it has one "@", which parts it
 -- Assumes nothing.
-use Prim.Native.Nat.{ℕ, suc, zero, _+_, _-_, _<_, _≤_}
+use Prim.Native.Nat.{ℕ, suc, zero, _+_, _<_, _≤_}
 use mathlib.Core.Path.{_≡_, refl, sym, ap, _∙_}
-use mathlib.Core.Bool.{Bool, true, false, _&&_, _||_, false≢true, or-true, or-false}
+use mathlib.Core.Logic.{⊎-elim}
+use mathlib.Core.Bool.{Bool, true, false, not, _&&_, _||_, false≢true, or-true, or-false}
 use mathlib.Core.List.{List, [], _∷_}
 use native.Mathlib.Omega.{arith}
-use borrow.Author.Tests.{leb-true, eqb-true}
+use borrow.Author.Tests.{leb-true, eqb-true, not-true}
 use lib.Dec.{leb, eqb}
-use lib.ListN.{length, getD, drop, length-drop}
+use lib.ListN.{length, getD, length-drop}
+use Rattle.octets.proofs.Lists.{lt-or-le}
 use Rattle.tokens.specs.Tokens.{letter, digit, sign, belongs}
-use Rattle.tokens.specs.declared.Class.the-variants.{Digit, Letter, Atom}
+use Rattle.tokens.specs.declared.Class.the-variants.{Atom}
 use Rattle.address.specs.Pieces.{every, pieces, before, behind}
-use Rattle.address.specs.Address.{oneTo, longestLocal, atom, localPart, labelOctet, label, domain, plain, addressOctet}
-use Rattle.address.specs.Answers.{labelShape}
+use Rattle.address.specs.Address.{oneTo, longestLocal, localPart, labelOctet, label, domain, plain, addressOctet}
 use Rattle.address.proofs.Pieces.{by-test, and-left, and-right, every-weaker, every-at, behind-drop, pieces-sides, pieces-whole, sides-octets, cut-octets}
 use Rattle.address.proofs.Atoms.{atoms}
 use Rattle.address.proofs.Labels.{labels}
@@ -93,3 +95,21 @@ module _ (s : List ℕ) (p : plain s ≡ true) where
   plain-pieces =
       pieces-sides 64 s (omega (arith, counted))
       ∙ rw (pieces-whole (λ x. labelOctet x || eqb x 46) 64 refl (behind 64 s) right-octets)
+
+-- a test of every number below n
+allBelow : (ℕ → Bool) → ℕ → Bool
+allBelow test zero = true
+allBelow test (suc n) = test n && allBelow test n
+
+below-at : (test : ℕ → Bool) (n : ℕ) → allBelow test n ≡ true → (x : ℕ) → x < n → test x ≡ true
+unfolding allBelow
+below-at test zero e x l = absurd (omega arith)
+below-at test (suc n) e x l =
+    ⊎-elim
+    (λ (k : x < n). below-at test n (and-right (test n) (allBelow test n) e) x k)
+    (λ (k : n ≤ x). let h : x ≡ n = omega arith in rw h (and-left (test n) (allBelow test n) e))
+    (lt-or-le x n)
+
+pub low-apart : (x : ℕ) → x < 33 → addressOctet x ≡ false
+unfolding allBelow addressOctet belongs sign
+low-apart x l = not-true (addressOctet x) (below-at (λ y. not (addressOctet y)) 33 refl x l)

@@ -7,7 +7,6 @@ ghost use Rattle.octets.specs.Octets.{sameOctets, lower as lowerOf, lowered};
 ghost use Rattle.address.specs.Pieces.{run};
 ghost use Rattle.address.specs.Address.{labelOctet, domain, plain, canonical as canonicalOf, isCanonical};
 ghost use Rattle.address.specs.Answers.{localOf, labelShape, writtenOf, ontoIfFits};
-
 use tokens::Class;
 
 // "A plain address has at most 254 octets."

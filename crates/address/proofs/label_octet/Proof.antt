@@ -1,19 +1,14 @@
+-- `address::label_octet` meets its contract: the laws of `Labels` answer every need. Assumes nothing.
 use Rattle.address.proofs.label_octet.Statement.{statement}
 use Rattle.address.proofs.label_octet.Tie as tie
-use Rattle.address.proofs.label_octet.Reads as reads
-use Rattle.address.proofs.label_octet.Lts as lts
-use Rattle.tokens.proofs.within.Reads as within-reads
 use Rattle.address.proofs.Labels.{shaping}
 
--- src/lib.rt:64:5
 within-requires : tie.Need-within-requires
 within-requires c κs = search shaping
 
--- src/lib.rt:64:40
 within-requires-2 : tie.Need-within-requires-2
 within-requires-2 c κs = search shaping
 
--- src/lib.rt:61:1
 returns : tie.Need-returns
 returns c = search shaping
 
