@@ -20,7 +20,10 @@ use Rattle.address.specs.Pieces.{every, pieces, before, run}
 use Rattle.address.specs.Address.{atom, localPart}
 use Rattle.address.specs.Answers.{localOf}
 use Rattle.address.specs.declared.Local.the-variants.{Part, NoPart}
-use Rattle.address.proofs.Pieces.{by-test, Cut, Ran, ran, run-zero, run-before, before-into, all-end, all-on, all-bad, all-shapeless}
+use Rattle.address.proofs.Every.{by-test}
+use Rattle.address.proofs.Pieces.{before-into}
+use Rattle.address.proofs.Running.{Ran, ran, run-zero, run-before}
+use Rattle.address.proofs.Joined.{Cut, all-end, all-on, all-bad, all-shapeless}
 
 abbrev filled : List ℕ → Bool
 filled p = leb 1 (length p)

@@ -18,7 +18,8 @@ use Rattle.tokens.specs.declared.Class.the-variants.{Letter, Digit}
 use Rattle.address.specs.Pieces.{every, pieces, run}
 use Rattle.address.specs.Address.{oneTo, longestLabel, labelOctet, freeEnds, label, domain}
 use Rattle.address.specs.Answers.{labelShape}
-use Rattle.address.proofs.Pieces.{Cut, Ran, ran, run-zero, all-end, all-on, all-bad, all-shapeless}
+use Rattle.address.proofs.Running.{Ran, ran, run-zero}
+use Rattle.address.proofs.Joined.{Cut, all-end, all-on, all-bad, all-shapeless}
 
 is-label : (p : List ℕ) → label p ≡ (labelShape p && every labelOctet p)
 unfolding label labelShape

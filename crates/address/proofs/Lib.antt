@@ -1,7 +1,9 @@
+pub mod Every
 pub mod Pieces
 pub mod Running
-pub mod Labels
+pub mod Joined
 pub mod Atoms
+pub mod Labels
 pub mod Plain
 pub mod Sides
 pub mod Room

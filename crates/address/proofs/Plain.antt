@@ -19,7 +19,8 @@ use Rattle.address.specs.Address.{localPart, label, domain, plain}
 use Rattle.address.specs.Answers.{localOf}
 use Rattle.address.specs.declared.Local.{Local}
 use Rattle.address.specs.declared.Local.the-variants.{Part, NoPart}
-use Rattle.address.proofs.Pieces.{by-test, and-left, and-right, behind-drop}
+use Rattle.address.proofs.Every.{by-test, and-left, and-right}
+use Rattle.address.proofs.Pieces.{behind-drop}
 
 pub plain-long : (s : List ℕ) → 254 < length s → false ≡ plain s
 unfolding plain

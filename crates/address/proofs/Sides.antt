@@ -4,13 +4,13 @@
 --     plain-octets                 every octet of it is one of an atom, a dot or "@"
 --     plain-at, plain-without      the same at a place; so what is none of these stands nowhere in it
 --     low-apart                    spaces, tabs and all other octets below 33 are none of these
---     plain-pieces                 it has one "@", which parts it
+--     plain-pieces, plain-join     it has one "@", which parts it
 -- Assumes nothing.
 use Prim.Native.Nat.{ℕ, suc, zero, _+_, _<_, _≤_}
 use mathlib.Core.Path.{_≡_, refl, sym, ap, _∙_}
 use mathlib.Core.Logic.{⊎-elim}
 use mathlib.Core.Bool.{Bool, true, false, not, _&&_, _||_, false≢true, or-true, or-false}
-use mathlib.Core.List.{List, [], _∷_}
+use mathlib.Core.List.{List, [], _∷_, _++_}
 use native.Mathlib.Omega.{arith}
 use borrow.Author.Tests.{leb-true, eqb-true, not-true}
 use lib.Dec.{leb, eqb}
@@ -20,7 +20,9 @@ use Rattle.tokens.specs.Tokens.{letter, digit, sign, belongs}
 use Rattle.tokens.specs.declared.Class.the-variants.{Atom}
 use Rattle.address.specs.Pieces.{every, pieces, before, behind}
 use Rattle.address.specs.Address.{oneTo, longestLocal, localPart, labelOctet, label, domain, plain, addressOctet}
-use Rattle.address.proofs.Pieces.{by-test, and-left, and-right, every-weaker, every-at, behind-drop, pieces-sides, pieces-whole, sides-octets, cut-octets}
+use Rattle.address.proofs.Every.{by-test, and-left, and-right, every-weaker, every-at}
+use Rattle.address.proofs.Pieces.{behind-drop, pieces-sides, sides-join, pieces-whole, sides-octets}
+use Rattle.address.proofs.Joined.{cut-octets}
 use Rattle.address.proofs.Atoms.{atoms}
 use Rattle.address.proofs.Labels.{labels}
 
@@ -95,6 +97,9 @@ module _ (s : List ℕ) (p : plain s ≡ true) where
   plain-pieces =
       pieces-sides 64 s (omega (arith, counted))
       ∙ rw (pieces-whole (λ x. labelOctet x || eqb x 46) 64 refl (behind 64 s) right-octets)
+
+  pub plain-join : s ≡ before 64 s ++ (64 ∷ behind 64 s)
+  plain-join = sides-join 64 s (omega (arith, counted))
 
 -- a test of every number below n
 allBelow : (ℕ → Bool) → ℕ → Bool

@@ -24,7 +24,8 @@ use Rattle.tokens.specs.declared.Class.{Class}
 use Rattle.tokens.specs.declared.Class.the-variants.{Digit, Letter, Atom}
 use Rattle.address.specs.Pieces.{every, pieces, before, behind}
 use Rattle.address.specs.Address.{atom, localPart, labelOctet, freeEnds, label, domain, plain, canonical, isCanonical}
-use Rattle.address.proofs.Pieces.{and-left, and-right, every-map, before-map, behind-map, pieces-map}
+use Rattle.address.proofs.Every.{and-left, and-right, every-map}
+use Rattle.address.proofs.Pieces.{before-map, behind-map, pieces-map}
 use Rattle.address.proofs.Sides.{plain-most}
 
 pub canonical-twice : (s : List ℕ) → canonical (canonical s) ≡ canonical s
