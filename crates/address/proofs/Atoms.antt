@@ -1,7 +1,7 @@
 -- The local part: what a loop knows that reads it atom by atom.
---     atoms                     an atom is a run of its octets that is not empty
---     Atoms s i                 whether a local part stands before the "@" comes to whether atoms stand from i on
---     atoms-begin .. atoms-end      the loop's steps
+--     atoms                       an atom is a run of its octets that is not empty; a dot (46) and "@" (64) are no such octets
+--     Atoms s i                   whether atoms stand before the "@" comes to whether they do from i on
+--     atoms-begin .. atoms-end    the loop's steps
 -- Assumes nothing.
 use Prim.Native.Nat.{ℕ, _+_, _-_, _<_, _≤_}
 use mathlib.Core.Path.{_≡_, refl, ap, _∙_}

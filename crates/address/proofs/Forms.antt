@@ -1,8 +1,9 @@
 -- The canonical form: what a loop knows that looks for capitals, and the answers of the code.
---     small-begin .. small-end       the loop's steps: the text is its own lower case
---     canonical-whole, canonical-part    a plain address is its own form, or another text
---     room-written .. none-kept      what is answered and left where the form is written
---     same-address                   two texts in canonical form
+--     small-is .. small-end              the loop's steps: the text is its own lower case
+--     canonical-whole, canonical-part    the answer on a plain address, and on another text
+--     same-length                        how long the form is today
+--     none-written .. room-kept          what is answered and left where the form is written
+--     same-address                       two texts in canonical form
 -- Assumes nothing.
 use Prim.Native.Nat.{ℕ, _+_, _<_, _≤_}
 use mathlib.Core.Path.{_≡_, sym, ap, _∙_}

@@ -1,7 +1,8 @@
 -- The domain: what a loop knows that reads it label by label.
---     is-label                   a label is a run of its octets with a label's length and ends
---     Labels s at i              whether a domain stands from `at` on comes to whether one stands from i on
---     labels-begin .. labels-end     the loop's steps
+--     labels                        a label is a run of its octets with a label's length and ends; a dot (46) is no such octet
+--     label-octet .. shape-ends     the answers on an octet, a hyphen (45) being one, and on a run
+--     Labels s at i                 whether a domain stands from `at` on comes to whether one stands from i on
+--     labels-begin .. labels-end    the loop's steps
 -- Assumes nothing.
 use Prim.Native.Nat.{ℕ, _+_, _-_, _<_, _≤_}
 use mathlib.Core.Path.{_≡_, refl, sym, _∙_}
@@ -31,7 +32,6 @@ pub labels : Cut labelOctet 46 label labelShape
 unfolding labelOctet belongs
 labels = record { out = refl; is = is-label }
 
--- the answers on one octet, and on the shape
 pub label-octet : (x : ℕ) (a b : Bool) → a ≡ belongs Letter x → b ≡ belongs Digit x → ((a || b) || eqb x 45) ≡ labelOctet x
 unfolding labelOctet
 label-octet x a b p q = rw (p, q)
@@ -66,21 +66,23 @@ module _ (s : List ℕ) (at i : ℕ) (h : Labels s at i) where
     here : Ran labelOctet s i e
     here = ran labelOctet s i e (omega arith) r
 
+    abbrev piece : List ℕ
+    piece = take (e - i) (drop i s)
+
     pub label-from : i ≤ e
     label-from = here .from
 
     pub label-upto : e ≤ length s
     label-upto = here .upto
 
-    module _ (b : Bool) (p : b ≡ labelShape (take (e - i) (drop i s))) where
+    module _ (b : Bool) (p : b ≡ labelShape piece) where
       pub label-shapeless : not b ≡ true → false ≡ domain (drop at s)
       unfolding domain
       label-shapeless n =
           sym
           (h .so-far
           ∙ rw (here .split)
-          (all-shapeless labels (take (e - i) (drop i s)) (drop e s) (here .all) (here .stop)
-          (sym p ∙ not-true b n)))
+          (all-shapeless labels piece (drop e s) (here .all) (here .stop) (sym p ∙ not-true b n)))
 
       pub label-last : not b ≡ false → length s ≤ e → true ≡ domain (drop at s)
       unfolding domain
@@ -88,7 +90,7 @@ module _ (s : List ℕ) (at i : ℕ) (h : Labels s at i) where
           sym
           (h .so-far
           ∙ rw (here .split, drop-done s e k, append-nil)
-          (all-end labels (take (e - i) (drop i s)) (here .all) ∙ sym p ∙ not-false b n))
+          (all-end labels piece (here .all) ∙ sym p ∙ not-false b n))
 
       pub label-next : not b ≡ false → e < length s → getD s e 0 ≡ 46 → Labels s at (e + 1)
       unfolding domain
@@ -97,8 +99,7 @@ module _ (s : List ℕ) (at i : ℕ) (h : Labels s at i) where
             so-far =
                 h .so-far
                 ∙ rw (here .split, drop-one s e k, d)
-                (all-on labels (take (e - i) (drop i s)) (drop (e + 1) s) (here .all)
-                ∙ rw (sym p ∙ not-false b n));
+                (all-on labels piece (drop (e + 1) s) (here .all) ∙ rw (sym p ∙ not-false b n));
           }
 
     pub label-stop : e < length s → (getD s e 0 ≡ 46 → ⊥) → false ≡ domain (drop at s)
@@ -107,7 +108,7 @@ module _ (s : List ℕ) (at i : ℕ) (h : Labels s at i) where
         sym
         (h .so-far
         ∙ rw (here .split, drop-one s e k)
-        (all-bad labels (take (e - i) (drop i s)) (drop (e + 1) s) (getD s e 0) (here .all) n
+        (all-bad labels piece (drop (e + 1) s) (getD s e 0) (here .all) n
         (run-zero labelOctet (getD s e 0) (drop (e + 1) s) (rw (drop-one s e k) at (here .stop)))))
 
 pub ruleset labelling = (labels-begin, label-from, label-upto, label-shapeless, label-last, label-next, label-stop, labels-end, needs)

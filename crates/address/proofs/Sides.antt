@@ -1,4 +1,4 @@
--- What a plain address is made of.
+-- What a plain address is made of, as callers ask for it. ("@" is 64, a dot 46.)
 --     Sides s, sides               it is not too long, and has a local part and a domain
 --     plain-least, plain-most      its length
 --     plain-octets                 every octet of it is one of an atom, a dot or "@"
