@@ -10,7 +10,7 @@
 --     reached-none      the answer is Unreadable only where nothing is left
 -- Assumes nothing.
 use Prim.Native.Nat.{ℕ, suc, _+_, _-_, _≤_}
-use mathlib.Core.Path.{_≡_, refl, sym, ap, _∙_}
+use mathlib.Core.Path.{_≡_, refl, ap, _∙_}
 use mathlib.Core.List.{List, [], _∷_}
 use mathlib.Core.Option.{Option, some, none}
 use native.Mathlib.Omega.{arith}
@@ -49,7 +49,7 @@ reached-at s i h = let e : length s - length (drop i s) ≡ i = omega (arith, le
 pub record Left (s : List ℕ) (at n : ℕ) (found : Option (List ℕ)) : Type 0 where
   pub from : at ≤ n
   pub upto : n ≤ length s
-  pub rest : found ≡ some (drop n s)
+  pub left : found ≡ some (drop n s)
 
 pub reached-to :
     (s : List ℕ) (at n : ℕ) (found : Option (List ℕ)) → at ≤ length s
@@ -63,7 +63,7 @@ reached-to s at n (some rest) l part e =
     record {
       from = omega (arith, suffix-length h, length-drop at s);
       upto = omega arith;
-      rest = ap some (suffix-drop h ∙ rw (drop-drop, k));
+      left = ap some (suffix-drop h ∙ rw (drop-drop, k));
     }
 
 pub reached-none : (s : List ℕ) (found : Option (List ℕ)) → Unreadable ≡ reached s found → found ≡ none

@@ -7,12 +7,11 @@
 --     run-upto, run-all, run-next  the same of the run that begins at a place of a text
 -- Assumes nothing.
 use Prim.Native.Nat.{ℕ, suc, zero, _+_, _-_, _<_, _≤_}
-use mathlib.Core.Path.{_≡_, refl, sym, ap, _∙_}
+use mathlib.Core.Path.{_≡_, refl, sym, _∙_}
 use mathlib.Core.Bool.{Bool, true, false, not}
 use mathlib.Core.List.{List, [], _∷_, _++_}
 use native.Mathlib.Omega.{arith}
 use native.Mathlib.Nat.{add-zero}
-use native.Mathlib.Numerals.{add-one}
 use borrow.Author.Needs.{needs}
 use borrow.Author.Tests.{not-true, not-false}
 use lib.ListN.{length, getD, drop, length-drop}
@@ -43,6 +42,7 @@ module _ (s : List ℕ) (at : ℕ) (class : Class) (i : ℕ) (h : Running s at c
       where
         one : runLength class (drop i s) ≡ suc (runLength class (drop (i + 1) s))
         one = rw (drop-one s i l, runLength, sym e ∙ not-false b f)
+
         step : i + runLength class (drop i s) ≡ (i + 1) + runLength class (drop (i + 1) s)
         step = omega (arith, one)
 

@@ -5,18 +5,19 @@
 --     skipped-suffix               what is left is a part of the text
 --     skipped-again                behind what was skipped nothing is left to skip
 --     left-not-blank, left-not-opens    so what is left opens neither with a blank nor with "("
---     skip-to                      an answer `To n`: what is left is the text from n on, and n is not before `at`
+--     skip-to                      an answer `To n`: what is left is the text from n on, and n is not before `at`; skip-from, skip-upto
+--                                  and skip-left say it one by one
 --     skip-unreadable              an answer Unreadable: nothing is left
 -- Assumes nothing.
 use Prim.Native.Nat.{ℕ, suc, zero, _+_, _-_, _<_, _≤_}
-use mathlib.Core.Path.{_≡_, refl, sym, ap, _∙_}
+use mathlib.Core.Path.{_≡_, refl, sym, _∙_}
 use mathlib.Core.Bool.{Bool, true, false}
 use mathlib.Core.List.{List, [], _∷_}
-use mathlib.Core.Option.{Option, some, none}
+use mathlib.Core.Option.{some, none}
 use native.Mathlib.Omega.{arith}
 use native.Mathlib.Nat.{sub-zero}
 use borrow.Author.Needs.{needs}
-use borrow.Author.Tests.{eq-eqb, ne-eqb, eqb-false}
+use borrow.Author.Tests.{eq-eqb, ne-eqb}
 use lib.Dec.{eqb, ltb}
 use lib.ListN.{length, getD, drop}
 use Rattle.octets.proofs.Lists.{drop-one, drop-done}
@@ -90,11 +91,13 @@ reads (suc n) false x s = go (eqb x 40) refl
     room : eqb x 40 ≡ true → (b : Bool) → ltb (suc n) depth ≡ b → Reads (suc n) false x s
     room q true e = goes (suc (suc n)) false (rw (past, q, e))
     room q false e = stuck (rw (past, q, e))
+
     inside : eqb x 40 ≡ false → (k : Kind) → kindOf 41 x ≡ k → Reads (suc n) false x s
     inside q Closes e = goes n false (rw (past, q, e))
     inside q Escapes e = goes (suc n) true (rw (past, q, e))
     inside q Control e = stuck (rw (past, q, e))
     inside q Plain e = goes (suc n) false (rw (past, q, e))
+
     go : (c : Bool) → eqb x 40 ≡ c → Reads (suc n) false x s
     go true q = room q (ltb (suc n) depth) refl
     go false q = inside q (kindOf 41 x) refl
@@ -137,13 +140,24 @@ module _ (x : ℕ) (s rest : List ℕ) (e : skipped s ≡ some (x ∷ rest)) whe
   unfolding past
   left-not-opens p =
       let inside : past 1 false rest ≡ some (x ∷ rest) =
-          rw (past, left-not-blank, eq-eqb x 40 p) at (skipped-again s (x ∷ rest) e)
+      rw (past, left-not-blank, eq-eqb x 40 p) at (skipped-again s (x ∷ rest) e)
       in
       not-behind x rest (left-behind 1 false rest (x ∷ rest) inside .0)
 
-module _ (s : List ℕ) (at : ℕ) where
-  pub skip-to : (n : ℕ) → at ≤ length s → To n ≡ reached s (skipped (drop at s)) → Left s at n (skipped (drop at s))
-  skip-to n l e = reached-to s at n (skipped (drop at s)) l (λ rest p. skipped-suffix (drop at s) rest p) e
+-- what a caller of `skip` learns from its answer r
+module _ (s : List ℕ) (at : ℕ) (r : Reached) (e : r ≡ reached s (skipped (drop at s))) where
+  module _ (n : ℕ) (q : r ≡ To n) (l : at ≤ length s) where
+    pub skip-to : Left s at n (skipped (drop at s))
+    skip-to = reached-to s at n (skipped (drop at s)) l (λ rest p. skipped-suffix (drop at s) rest p) (sym q ∙ e)
 
-  pub skip-unreadable : Unreadable ≡ reached s (skipped (drop at s)) → skipped (drop at s) ≡ none
-  skip-unreadable e = reached-none s (skipped (drop at s)) e
+    pub skip-from : at ≤ n
+    skip-from = skip-to .from
+
+    pub skip-upto : n ≤ length s
+    skip-upto = skip-to .upto
+
+    pub skip-left : skipped (drop at s) ≡ some (drop n s)
+    skip-left = skip-to .left
+
+  pub skip-unreadable : r ≡ Unreadable → skipped (drop at s) ≡ none
+  skip-unreadable q = reached-none s (skipped (drop at s)) (sym q ∙ e)

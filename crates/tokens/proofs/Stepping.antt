@@ -5,9 +5,9 @@
 -- Assumes nothing.
 use Prim.Native.Nat.{ℕ, _+_, _<_, _≤_}
 use mathlib.Core.Path.{_≡_, refl, sym, subst, _∙_}
-use mathlib.Core.Bool.{Bool, true, false, not, false≢true}
+use mathlib.Core.Bool.{Bool, true, false, false≢true}
 use mathlib.Core.List.{List, [], _∷_}
-use mathlib.Core.Option.{Option, some, none}
+use mathlib.Core.Option.{Option, none}
 use native.Mathlib.Omega.{arith}
 use borrow.Author.Needs.{needs}
 use borrow.Author.Tests.{not-true, not-false}
@@ -74,10 +74,10 @@ module _ (read : Bool → List ℕ → Option (List ℕ)) (close : List ℕ → 
     module _ (closing : ℕ) (l : i < length s)
         (here : read false (drop i s)
         ≡ elim (kindOf closing (getD s i 0)) [
-          Closes ↦ close (drop (i + 1) s)
-        | Escapes ↦ read true (drop (i + 1) s)
-        | Control ↦ none
-        | Plain ↦ read false (drop (i + 1) s)
+          | Closes ↦ close (drop (i + 1) s)
+          | Escapes ↦ read true (drop (i + 1) s)
+          | Control ↦ none
+          | Plain ↦ read false (drop (i + 1) s)
         ])
         (end : read true [] ≡ none)
         (taken : (x : ℕ) (r : List ℕ) → read true (x ∷ r) ≡ elim (control x) [ true ↦ none | false ↦ read false r ]) where
@@ -91,6 +91,7 @@ module _ (read : Bool → List ℕ → Option (List ℕ)) (close : List ℕ → 
               subst Moved (step-taken closing s i l _ refl e _ refl f)
               (omega arith, omega (arith, t .0, length-drop (i + 1) s), here ∙ rw e (t .1 ∙ rw (drop-drop, two)))
           by-takes false f e = subst Moved (step-refused closing s i l _ refl e _ refl f) (here ∙ rw e (takes-false end taken (drop (i + 1) s) f))
+
           by-kind : (k : Kind) → kindOf closing (getD s i 0) ≡ k → Moved (stepIn closing i (drop i s))
           by-kind Closes e = subst Moved (step-closes closing s i l _ refl e) (omega arith, omega arith, here ∙ rw e)
           by-kind Escapes e = by-takes (takes (drop (i + 1) s)) refl e

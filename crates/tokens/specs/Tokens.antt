@@ -44,18 +44,18 @@ past zero taken [] = some []
 past (suc n) taken [] = none
 past zero taken (x ∷ s) =
     elim (blank x) [
-      true ↦ past zero false s
-    | false ↦ elim (eqb x (octet "(")) [ true ↦ past 1 false s | false ↦ some (x ∷ s) ]
+      | true ↦ past zero false s
+      | false ↦ elim (eqb x (octet "(")) [ true ↦ past 1 false s | false ↦ some (x ∷ s) ]
     ]
 past (suc n) true (x ∷ s) = elim (control x) [ true ↦ none | false ↦ past (suc n) false s ]
 past (suc n) false (x ∷ s) =
     elim (eqb x (octet "(")) [
-      true ↦ elim (ltb (suc n) depth) [ true ↦ past (suc (suc n)) false s | false ↦ none ]
-    | false ↦ elim (kindOf (octet ")") x) [
-        Closes ↦ past n false s
-      | Escapes ↦ past (suc n) true s
-      | Control ↦ none
-      | Plain ↦ past (suc n) false s
+      | true ↦ elim (ltb (suc n) depth) [ true ↦ past (suc (suc n)) false s | false ↦ none ]
+      | false ↦ elim (kindOf (octet ")") x) [
+        | Closes ↦ past n false s
+        | Escapes ↦ past (suc n) true s
+        | Control ↦ none
+        | Plain ↦ past (suc n) false s
       ]
     ]
 
@@ -69,10 +69,10 @@ afterQuote taken [] = none
 afterQuote true (x ∷ s) = elim (control x) [ true ↦ none | false ↦ afterQuote false s ]
 afterQuote false (x ∷ s) =
     elim (kindOf (octet "\"") x) [
-      Closes ↦ some s
-    | Escapes ↦ afterQuote true s
-    | Control ↦ none
-    | Plain ↦ afterQuote false s
+      | Closes ↦ some s
+      | Escapes ↦ afterQuote true s
+      | Control ↦ none
+      | Plain ↦ afterQuote false s
     ]
 
 abbrev pub digit : ℕ → Bool
@@ -81,22 +81,19 @@ digit x = leb (octet "0") x && leb x (octet "9")
 abbrev pub letter : ℕ → Bool
 letter x = (leb (octet "A") x && leb x (octet "Z")) || (leb (octet "a") x && leb x (octet "z"))
 
-abbrev pub among : List ℕ → ℕ → Bool
-among [] x = false
-among (y ∷ s) x = eqb x y || among s x
-
 -- RFC 5322, 3.2.3: what may stand in an atom besides letters and digits
 abbrev pub signs : List ℕ
 signs = ascii "!#$%&'*+-/=?^_`{|}~"
 
-unfoldable pub sign : ℕ → Bool
-sign x = among signs x
+abbrev pub among : List ℕ → ℕ → Bool
+among [] x = false
+among (y ∷ s) x = eqb x y || among s x
 
 -- "Octets of 128 and above may stand in atoms"
 unfoldable pub belongs : Class → ℕ → Bool
 belongs Digit x = digit x
 belongs Letter x = letter x
-belongs Atom x = letter x || digit x || sign x || leb 128 x
+belongs Atom x = letter x || digit x || among signs x || leb 128 x
 
 -- how many octets of the class the list opens with
 unfoldable pub runLength : Class → List ℕ → ℕ

@@ -1,3 +1,5 @@
+-- `tokens::comment` and `tokens::content` meet their contracts: the laws of `Commenting` keep the loop's invariant and answer every need.
+-- They end since `room` falls from a comment to its content, and `comment` at a room comes before `content` at the same. Assumes nothing.
 use Rattle.tokens.proofs.Commenting.{Inside, commenting}
 use lib.ListN.{length}
 use Prim.Native.Nat.{ℕ, _+_, _*_, _-_, _<_}
@@ -19,6 +21,7 @@ abbrev μ-comment : Measures 1 comment-kinds.ps ℕ
 abbrev μ-content : Measures 1 content-kinds.ps ℕ
 μ-content κs a = 2 * a .1 .1 .0 + 1
 
+-- what each is given at the measure t, and what a call of it asks below t
 abbrev comment-at : ℕ → In 1 comment-kinds.ps
 comment-at t = and 1 comment-kinds.ps (is 1 comment-kinds.ps μ-comment t) comment.Pre
 
@@ -31,35 +34,12 @@ content-at t = and 1 content-kinds.ps (is 1 content-kinds.ps μ-content t) conte
 abbrev content-below : ℕ → In 1 content-kinds.ps
 content-below t = and 1 content-kinds.ps (falls 1 content-kinds.ps _<_ μ-content t) content.Pre
 
--- src/lib.rt:108:9
-comment-returns :
-    (t : ℕ) → comment-lts.Need-returns (content-below t, content.Post) (comment-at t) comment.Post
-comment-returns t c = search commenting
+-- what each asks and learns of the functions that it calls
+abbrev comment-calls : ℕ → comment-lts.Claims
+comment-calls t = (content-below t, content.Post)
 
--- src/lib.rt:110:16
-comment-add-content :
-    (t : ℕ) →
-    comment-lts.Need-add-content (content-below t, content.Post) (comment-at t) comment.Post
-comment-add-content t c = search commenting
-
--- src/lib.rt:110:24
-comment-sub-content :
-    (t : ℕ) →
-    comment-lts.Need-sub-content (content-below t, content.Post) (comment-at t) comment.Post
-comment-sub-content t c = search commenting
-
--- src/lib.rt:110:5
-comment-content-requires : (t : ℕ) → comment-lts.Need-content-requires (
-  content-below t,
-  content.Post,
-) (comment-at t) comment.Post
-comment-content-requires t c κs = search commenting
-
--- src/lib.rt:103:1
-comment-returns-2 :
-    (t : ℕ) →
-    comment-lts.Need-returns-2 (content-below t, content.Post) (comment-at t) comment.Post
-comment-returns-2 t c = search commenting
+abbrev content-calls : ℕ → content-lts.Claims
+content-calls t = (comment-below t, comment.Post, step-in-reads.Asked, step-in-reads.Learnt)
 
 abbrev content-Inv-loop : content-lts.InvT-loop
 content-Inv-loop s at room i₀ i = Inside s at room i
@@ -67,164 +47,75 @@ content-Inv-loop s at room i₀ i = Inside s at room i
 abbrev content-μ-loop : content-lts.MeasureT-loop
 content-μ-loop s at room i₀ i = length s - i
 
--- src/lib.rt:119:5
-content-loop-holds : (t : ℕ) → content-lts.Need-loop-holds (
-  comment-below t,
-  comment.Post,
-  step-in-reads.Asked,
-  step-in-reads.Learnt,
-) (content-at t) content.Post content-Inv-loop content-μ-loop
-content-loop-holds t c = search commenting
+module _ (t : ℕ) where
+  comment-returns : comment-lts.Need-returns (comment-calls t) (comment-at t) comment.Post
+  comment-returns c = search commenting
 
--- src/lib.rt:120:12
-content-shared-slice-read-if1 : (t : ℕ) → content-lts.Need-shared-slice-read-if1 (
-  comment-below t,
-  comment.Post,
-  step-in-reads.Asked,
-  step-in-reads.Learnt,
-) (content-at t) content.Post content-Inv-loop content-μ-loop
-content-shared-slice-read-if1 t c = search commenting
+  comment-add-content : comment-lts.Need-add-content (comment-calls t) (comment-at t) comment.Post
+  comment-add-content c = search commenting
 
--- src/lib.rt:121:19
-content-comment-requires : (t : ℕ) → content-lts.Need-comment-requires (
-  comment-below t,
-  comment.Post,
-  step-in-reads.Asked,
-  step-in-reads.Learnt,
-) (content-at t) content.Post content-Inv-loop content-μ-loop
-content-comment-requires t c κs = search commenting
+  comment-sub-content : comment-lts.Need-sub-content (comment-calls t) (comment-at t) comment.Post
+  comment-sub-content c = search commenting
 
--- src/lib.rt:122:29
-content-enum-known-n : (t : ℕ) → content-lts.Need-enum-known-n (
-  comment-below t,
-  comment.Post,
-  step-in-reads.Asked,
-  step-in-reads.Learnt,
-) (content-at t) content.Post content-Inv-loop content-μ-loop
-content-enum-known-n t c = search commenting
+  comment-content-requires : comment-lts.Need-content-requires (comment-calls t) (comment-at t) comment.Post
+  comment-content-requires c κs = search commenting
 
--- src/lib.rt:119:5
-content-loop-less : (t : ℕ) → content-lts.Need-loop-less (
-  comment-below t,
-  comment.Post,
-  step-in-reads.Asked,
-  step-in-reads.Learnt,
-) (content-at t) content.Post content-Inv-loop content-μ-loop
-content-loop-less t c = search commenting
+  comment-returns-2 : comment-lts.Need-returns-2 (comment-calls t) (comment-at t) comment.Post
+  comment-returns-2 c = search commenting
 
--- src/lib.rt:119:5
-content-loop-again : (t : ℕ) → content-lts.Need-loop-again (
-  comment-below t,
-  comment.Post,
-  step-in-reads.Asked,
-  step-in-reads.Learnt,
-) (content-at t) content.Post content-Inv-loop content-μ-loop
-content-loop-again t c = search commenting
+  content-loop-holds : content-lts.Need-loop-holds (content-calls t) (content-at t) content.Post content-Inv-loop content-μ-loop
+  content-loop-holds c = search commenting
 
--- src/lib.rt:123:40
-content-enum-told : (t : ℕ) → content-lts.Need-enum-told (
-  comment-below t,
-  comment.Post,
-  step-in-reads.Asked,
-  step-in-reads.Learnt,
-) (content-at t) content.Post content-Inv-loop content-μ-loop
-content-enum-told t c = search commenting
+  content-shared-slice-read-if1 : content-lts.Need-shared-slice-read-if1 (content-calls t) (content-at t) content.Post content-Inv-loop content-μ-loop
+  content-shared-slice-read-if1 c = search commenting
 
--- src/lib.rt:123:40
-content-returns : (t : ℕ) → content-lts.Need-returns (
-  comment-below t,
-  comment.Post,
-  step-in-reads.Asked,
-  step-in-reads.Learnt,
-) (content-at t) content.Post content-Inv-loop content-μ-loop
-content-returns t c = search commenting
+  content-comment-requires : content-lts.Need-comment-requires (content-calls t) (content-at t) content.Post content-Inv-loop content-μ-loop
+  content-comment-requires c κs = search commenting
 
--- src/lib.rt:126:19
-content-step-in-requires : (t : ℕ) → content-lts.Need-step-in-requires (
-  comment-below t,
-  comment.Post,
-  step-in-reads.Asked,
-  step-in-reads.Learnt,
-) (content-at t) content.Post content-Inv-loop content-μ-loop
-content-step-in-requires t c κs = search commenting
+  content-enum-known-n : content-lts.Need-enum-known-n (content-calls t) (content-at t) content.Post content-Inv-loop content-μ-loop
+  content-enum-known-n c = search commenting
 
--- src/lib.rt:127:26
-content-enum-known-n-2 : (t : ℕ) → content-lts.Need-enum-known-n-2 (
-  comment-below t,
-  comment.Post,
-  step-in-reads.Asked,
-  step-in-reads.Learnt,
-) (content-at t) content.Post content-Inv-loop content-μ-loop
-content-enum-known-n-2 t c = search commenting
+  content-loop-less : content-lts.Need-loop-less (content-calls t) (content-at t) content.Post content-Inv-loop content-μ-loop
+  content-loop-less c = search commenting
 
--- src/lib.rt:119:5
-content-loop-less-2 : (t : ℕ) → content-lts.Need-loop-less-2 (
-  comment-below t,
-  comment.Post,
-  step-in-reads.Asked,
-  step-in-reads.Learnt,
-) (content-at t) content.Post content-Inv-loop content-μ-loop
-content-loop-less-2 t c = search commenting
+  content-loop-again : content-lts.Need-loop-again (content-calls t) (content-at t) content.Post content-Inv-loop content-μ-loop
+  content-loop-again c = search commenting
 
--- src/lib.rt:119:5
-content-loop-again-2 : (t : ℕ) → content-lts.Need-loop-again-2 (
-  comment-below t,
-  comment.Post,
-  step-in-reads.Asked,
-  step-in-reads.Learnt,
-) (content-at t) content.Post content-Inv-loop content-μ-loop
-content-loop-again-2 t c = search commenting
+  content-enum-told : content-lts.Need-enum-told (content-calls t) (content-at t) content.Post content-Inv-loop content-μ-loop
+  content-enum-told c = search commenting
 
--- src/lib.rt:128:28
-content-enum-known-n-3 : (t : ℕ) → content-lts.Need-enum-known-n-3 (
-  comment-below t,
-  comment.Post,
-  step-in-reads.Asked,
-  step-in-reads.Learnt,
-) (content-at t) content.Post content-Inv-loop content-μ-loop
-content-enum-known-n-3 t c = search commenting
+  content-returns : content-lts.Need-returns (content-calls t) (content-at t) content.Post content-Inv-loop content-μ-loop
+  content-returns c = search commenting
 
--- src/lib.rt:128:34
-content-returns-2 : (t : ℕ) → content-lts.Need-returns-2 (
-  comment-below t,
-  comment.Post,
-  step-in-reads.Asked,
-  step-in-reads.Learnt,
-) (content-at t) content.Post content-Inv-loop content-μ-loop
-content-returns-2 t c = search commenting
+  content-step-in-requires : content-lts.Need-step-in-requires (content-calls t) (content-at t) content.Post content-Inv-loop content-μ-loop
+  content-step-in-requires c κs = search commenting
 
--- src/lib.rt:129:32
-content-enum-told-2 : (t : ℕ) → content-lts.Need-enum-told-2 (
-  comment-below t,
-  comment.Post,
-  step-in-reads.Asked,
-  step-in-reads.Learnt,
-) (content-at t) content.Post content-Inv-loop content-μ-loop
-content-enum-told-2 t c = search commenting
+  content-enum-known-n-2 : content-lts.Need-enum-known-n-2 (content-calls t) (content-at t) content.Post content-Inv-loop content-μ-loop
+  content-enum-known-n-2 c = search commenting
 
--- src/lib.rt:129:32
-content-returns-3 : (t : ℕ) → content-lts.Need-returns-3 (
-  comment-below t,
-  comment.Post,
-  step-in-reads.Asked,
-  step-in-reads.Learnt,
-) (content-at t) content.Post content-Inv-loop content-μ-loop
-content-returns-3 t c = search commenting
+  content-loop-less-2 : content-lts.Need-loop-less-2 (content-calls t) (content-at t) content.Post content-Inv-loop content-μ-loop
+  content-loop-less-2 c = search commenting
 
--- src/lib.rt:114:1
-content-returns-4 : (t : ℕ) → content-lts.Need-returns-4 (
-  comment-below t,
-  comment.Post,
-  step-in-reads.Asked,
-  step-in-reads.Learnt,
-) (content-at t) content.Post content-Inv-loop content-μ-loop
-content-returns-4 t c = search commenting
+  content-loop-again-2 : content-lts.Need-loop-again-2 (content-calls t) (content-at t) content.Post content-Inv-loop content-μ-loop
+  content-loop-again-2 c = search commenting
+
+  content-enum-known-n-3 : content-lts.Need-enum-known-n-3 (content-calls t) (content-at t) content.Post content-Inv-loop content-μ-loop
+  content-enum-known-n-3 c = search commenting
+
+  content-returns-2 : content-lts.Need-returns-2 (content-calls t) (content-at t) content.Post content-Inv-loop content-μ-loop
+  content-returns-2 c = search commenting
+
+  content-enum-told-2 : content-lts.Need-enum-told-2 (content-calls t) (content-at t) content.Post content-Inv-loop content-μ-loop
+  content-enum-told-2 c = search commenting
+
+  content-returns-3 : content-lts.Need-returns-3 (content-calls t) (content-at t) content.Post content-Inv-loop content-μ-loop
+  content-returns-3 c = search commenting
+
+  content-returns-4 : content-lts.Need-returns-4 (content-calls t) (content-at t) content.Post content-Inv-loop content-μ-loop
+  content-returns-4 c = search commenting
 
 pub +comment+content-spec : {M : Type 1} → statement M
-+comment+content-spec = close μ-comment μ-content (λ t. comment-lts.spec (
-  content-below t,
-  content.Post,
-)
++comment+content-spec = close μ-comment μ-content (λ t. comment-lts.spec (comment-calls t)
     (comment-at t)
     comment.Post
     (comment-returns t)
@@ -233,7 +124,7 @@ pub +comment+content-spec : {M : Type 1} → statement M
     (comment-content-requires t)
     (comment-returns-2 t))
     λ t. content-lts.spec
-    (comment-below t, comment.Post, step-in-reads.Asked, step-in-reads.Learnt)
+    (content-calls t)
     (content-at t)
     content.Post
     content-Inv-loop

@@ -1,11 +1,9 @@
+-- `tokens::is_control` meets its contract, by computing. Assumes nothing.
 use borrow.Author.Needs.{needs}
 use Rattle.tokens.specs.Tokens.{control}
 use Rattle.tokens.proofs.is_control.Statement.{statement}
 use Rattle.tokens.proofs.is_control.Tie as tie
-use Rattle.tokens.proofs.is_control.Reads as reads
-use Rattle.tokens.proofs.is_control.Lts as lts
 
--- src/lib.rt:43:1
 returns : tie.Need-returns
 unfolding control
 returns c = search needs

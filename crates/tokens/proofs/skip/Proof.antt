@@ -1,11 +1,8 @@
+-- `tokens::skip` meets its contract: the laws of `Skipping` keep the loop's invariant and answer every need. Assumes nothing.
 use Prim.Native.Nat.{_-_}
 use lib.ListN.{length}
 use Rattle.tokens.proofs.skip.Statement.{statement}
 use Rattle.tokens.proofs.skip.Tie as tie
-use Rattle.tokens.proofs.skip.Reads as reads
-use Rattle.tokens.proofs.skip.Lts as lts
-use Rattle.tokens.proofs.comment.Reads as comment-reads
-use Rattle.tokens.proofs.is_blank.Reads as is-blank-reads
 use Rattle.tokens.proofs.Skipping.{Skipping, skipping}
 
 abbrev Inv-loop : tie.InvT-loop
@@ -14,63 +11,48 @@ Inv-loop s at i₀ i = Skipping s at i
 abbrev μ-loop : tie.MeasureT-loop
 μ-loop s at i₀ i = length s - i
 
--- src/lib.rt:141:5
 loop-holds : tie.Need-loop-holds Inv-loop μ-loop
 loop-holds c = search skipping
 
--- src/lib.rt:142:21
 shared-slice-read-is-blank : tie.Need-shared-slice-read-is-blank Inv-loop μ-loop
 shared-slice-read-is-blank c = search skipping
 
--- src/lib.rt:142:12
 is-blank-requires : tie.Need-is-blank-requires Inv-loop μ-loop
 is-blank-requires c κs = search skipping
 
--- src/lib.rt:143:13
 add-i : tie.Need-add-i Inv-loop μ-loop
 add-i c = search skipping
 
--- src/lib.rt:141:5
 loop-less : tie.Need-loop-less Inv-loop μ-loop
 loop-less c = search skipping
 
--- src/lib.rt:141:5
 loop-again : tie.Need-loop-again Inv-loop μ-loop
 loop-again c = search skipping
 
--- src/lib.rt:144:19
 shared-slice-read-if2 : tie.Need-shared-slice-read-if2 Inv-loop μ-loop
 shared-slice-read-if2 c = search skipping
 
--- src/lib.rt:145:19
 comment-requires : tie.Need-comment-requires Inv-loop μ-loop
 comment-requires c κs = search skipping
 
--- src/lib.rt:146:29
 enum-known-n : tie.Need-enum-known-n Inv-loop μ-loop
 enum-known-n c = search skipping
 
--- src/lib.rt:141:5
 loop-less-2 : tie.Need-loop-less-2 Inv-loop μ-loop
 loop-less-2 c = search skipping
 
--- src/lib.rt:141:5
 loop-again-2 : tie.Need-loop-again-2 Inv-loop μ-loop
 loop-again-2 c = search skipping
 
--- src/lib.rt:147:40
 enum-told : tie.Need-enum-told Inv-loop μ-loop
 enum-told c = search skipping
 
--- src/lib.rt:147:40
 returns : tie.Need-returns Inv-loop μ-loop
 returns c = search skipping
 
--- src/lib.rt:150:13
 returns-2 : tie.Need-returns-2 Inv-loop μ-loop
 returns-2 c = search skipping
 
--- src/lib.rt:137:1
 returns-3 : tie.Need-returns-3 Inv-loop μ-loop
 returns-3 c = search skipping
 
