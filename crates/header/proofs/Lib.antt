@@ -1,1 +1,7 @@
+mod Telling
+mod Counting
+pub mod Unfolding
+pub mod Stepping
+pub mod Fields
+mod Reporting
 mod Worked

@@ -12,7 +12,7 @@ use mathlib.Core.Option.{Option, some, none}
 use lib.ListN.{replicate}
 use Rattle.octets.specs.Octets.{ascii, octet, sameName, sameOctets, lowered, lower}
 use Rattle.header.specs.Header.{
-  FieldText, fields, fieldsOf, fieldsWithin, stepOf, textAt, inFront, unfolded, over, ofEnding, opensField, valueFrom, fieldLength, runLength, rawLength,
+  FieldText, fields, fieldsOf, fieldsWithin, inFront, unfolded, over, ofEnding, opensField, runLength, rawLength,
   belongs, closes, isReport, opensReport, mayFollow
 }
 
@@ -40,7 +40,7 @@ blocks :
     ∷ some []
     ∷ some []
     ∷ []
-unfolding field fieldsOf fields fieldsWithin stepOf textAt inFront unfolded over ofEnding opensField valueFrom fieldLength runLength rawLength belongs closes
+unfolding field fieldsOf fields fieldsWithin inFront unfolded over ofEnding opensField runLength rawLength belongs closes
 blocks = refl
 
 -- A continuation with no field above; a lone CR at the end, which is a line and no field; a blank between name and colon; no name; no colon; an
@@ -56,7 +56,7 @@ broken :
     ∷ ascii "From a@b Mon Jan 1"
     ∷ [])
     ≡ replicate 7 none
-unfolding fieldsOf fields fieldsWithin stepOf textAt inFront unfolded over ofEnding opensField valueFrom fieldLength runLength rawLength belongs closes
+unfolding fieldsOf fields fieldsWithin inFront unfolded over ofEnding opensField runLength rawLength belongs closes
 broken = refl
 
 reports :

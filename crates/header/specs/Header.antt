@@ -4,11 +4,12 @@
 --     ofEnding, over            line endings; the end of a block
 --     belongs, runLength        octets of a name, blanks, and how many of them open a text
 --     closes, rawLength         the end of a field, its continuations included
---     opensField, stepOf        what stands at the beginning of a line
+--     opensField, nameOf ..     a field at the beginning of a text
 --     unfolded                  a value without its line endings
 --     FieldText, fields         the fields of a block, its length aside
 --     fieldsOf, readable        the fields of a block, or none where it is unreadable
---     stepAt, fieldsFrom        the step and the fields at a place of a block
+--     fieldsFrom, stepAt        the fields from a place on, and what stands there
+--     fieldAt                   the field that stands at given places
 --     isReport                  "Multipart/report"
 use Prim.Native.Nat.{ℕ, zero, suc, _+_, _-_}
 use mathlib.Core.Bool.{Bool, true, false, not, _&&_, _||_}
@@ -64,21 +65,18 @@ rawLength (x ∷ s) = elim (closes x (getD s 0 0)) [ true ↦ 1 | false ↦ suc 
 unfoldable pub opensField : List ℕ → Bool
 opensField s = ltb 0 (runLength Name s) && eqb (getD s (runLength Name s) 0) (octet ":")
 
--- where the value of a field begins, and where the field ends
-unfoldable pub valueFrom : List ℕ → ℕ
-valueFrom s = runLength Name s + 1
+-- the field that opens a text: its name, what follows the colon, its value as it stands, and what follows the field
+abbrev pub nameOf : List ℕ → List ℕ
+nameOf s = take (runLength Name s) s
 
-unfoldable pub fieldLength : List ℕ → ℕ
-fieldLength s = valueFrom s + rawLength (drop (valueFrom s) s)
+abbrev pub afterColon : List ℕ → List ℕ
+afterColon s = drop (runLength Name s + 1) s
 
--- "Anything else before the empty line, a continuation with no field above included, is unreadable": neither a space nor a tab is of a
--- name, and a continuation of a field above belongs to that field.
-unfoldable pub stepOf : List ℕ → Step
-stepOf s =
-    elim (over s) [
-      true ↦ Over
-    | false ↦ elim (opensField s) [ true ↦ Field (runLength Name s) (valueFrom s) (fieldLength s) | false ↦ Broken ]
-    ]
+abbrev pub rawOf : List ℕ → List ℕ
+rawOf s = take (rawLength (afterColon s)) (afterColon s)
+
+abbrev pub restOf : List ℕ → List ℕ
+restOf s = drop (rawLength (afterColon s)) (afterColon s)
 
 -- "Unfolding drops line endings and keeps all other octets."
 unfoldable pub unfolded : List ℕ → List ℕ
@@ -90,26 +88,26 @@ pub record FieldText : Type 0 where
   pub name : List ℕ
   pub value : List ℕ
 
--- the field whose name lies from the place `at` to n, and its value, not unfolded yet, from v to e
-unfoldable pub textAt : List ℕ → ℕ → ℕ → ℕ → ℕ → FieldText
-textAt s at n v e = record { name = take (n - at) (drop at s); value = unfolded (take (e - v) (drop v s)) }
-
 -- a field in front of others, where these are readable
 unfoldable pub inFront : FieldText → Option (List FieldText) → Option (List FieldText)
 inFront f none = none
 inFront f (some fs) = some (f ∷ fs)
 
--- The fields of a text, in so many steps at most: "what follows" the empty line "isn't examined".
+-- The fields of a text, of so many lines at most. "Anything else before the empty line, a continuation with no field above included, is
+-- unreadable": a continuation of a field above belongs to that field, and neither space nor tab is of a name. What follows the empty line
+-- "isn't examined".
 unfoldable pub fieldsWithin : ℕ → List ℕ → Option (List FieldText)
 fieldsWithin zero s = some []
 fieldsWithin (suc k) s =
-    elim (stepOf s) [
-      | Over ↦ some []
-      | Broken ↦ none
-      | Field n v e ↦ inFront (textAt s 0 n v e) (fieldsWithin k (drop e s))
+    elim (over s) [
+      true ↦ some []
+    | false ↦ elim (opensField s) [
+        true ↦ inFront (record { name = nameOf s; value = unfolded (rawOf s) }) (fieldsWithin k (restOf s))
+      | false ↦ none
+      ]
     ]
 
--- each field takes an octet at least: `fields-step` has the equation without the count
+-- a text has no more lines than octets: the laws `fields-over`, `fields-broken` and `fields-one` do without the count
 unfoldable pub fields : List ℕ → Option (List FieldText)
 fields s = fieldsWithin (length s) s
 
@@ -124,17 +122,31 @@ isSome (some fs) = true
 abbrev pub readable : List ℕ → Bool
 readable s = isSome (fieldsOf s)
 
--- the step at a place of a text where a line begins, and the fields from there on
-unfoldable pub moved : ℕ → Step → Step
-moved at Over = Over
-moved at Broken = Broken
-moved at (Field n v e) = Field (at + n) (at + v) (at + e)
-
-unfoldable pub stepAt : List ℕ → ℕ → Step
-stepAt s at = moved at (stepOf (drop at s))
-
+-- the fields from a place on where a line begins
 unfoldable pub fieldsFrom : List ℕ → ℕ → Option (List FieldText)
 fieldsFrom s at = fields (drop at s)
+
+-- where the name ends that begins at a place, and where the field ends whose value begins at one
+abbrev pub nameEnd : List ℕ → ℕ → ℕ
+nameEnd s at = at + runLength Name (drop at s)
+
+abbrev pub fieldEnd : List ℕ → ℕ → ℕ
+fieldEnd s v = v + rawLength (drop v s)
+
+-- what stands at a place where a line begins, as the code answers it
+unfoldable pub stepAt : List ℕ → ℕ → Step
+stepAt s at =
+    elim (over (drop at s)) [
+      true ↦ Over
+    | false ↦ elim (opensField (drop at s)) [
+        true ↦ Field (nameEnd s at) (nameEnd s at + 1) (fieldEnd s (nameEnd s at + 1))
+      | false ↦ Broken
+      ]
+    ]
+
+-- the field whose name lies from the place `at` to n, and its value as it stands from v to e
+abbrev pub fieldAt : List ℕ → ℕ → ℕ → ℕ → ℕ → FieldText
+fieldAt s at n v e = record { name = take (n - at) (drop at s); value = unfolded (take (e - v) (drop v s)) }
 
 -- "and is followed by the end, space, tab, `;` or `(`"
 unfoldable pub mayFollow : List ℕ → Bool
