@@ -1,5 +1,6 @@
 -- Loops that count the octets of a run, or of the rest of a field.
 --     Going f s at i            what f counts from the place `at` on ends where what it counts from i on does
+--     run-in .. raw-last        one step of what is counted
 --     run-begin .. run-end      the loop's steps for a run of one class
 --     raw-begin .. raw-end      the same for the rest of a field
 --     run-short, raw-short      neither counts more than there is
@@ -36,41 +37,56 @@ module _ (f : List ℕ → ℕ) (s : List ℕ) (at : ℕ) where
   upto : (f (drop at s) ≤ length (drop at s)) → at ≤ length s → at + f (drop at s) ≤ length s
   upto h l = omega (arith, length-drop at s)
 
--- one step of each definition at a place
+-- one step of each definition
+module _ (x : ℕ) (s : List ℕ) where
+  pub run-in : (class : Class) → belongs class x ≡ true → runLength class (x ∷ s) ≡ suc (runLength class s)
+  unfolding runLength
+  run-in class e = rw (runLength, e)
+
+  pub run-out : (class : Class) → belongs class x ≡ false → runLength class (x ∷ s) ≡ 0
+  unfolding runLength
+  run-out class e = rw (runLength, e)
+
+  pub raw-on : closes x (getD s 0 0) ≡ false → rawLength (x ∷ s) ≡ suc (rawLength s)
+  unfolding rawLength
+  raw-on e = rw (rawLength, e)
+
+  pub raw-last : closes x (getD s 0 0) ≡ true → rawLength (x ∷ s) ≡ 1
+  unfolding rawLength
+  raw-last e = rw (rawLength, e)
+
+-- the same at a place
 module _ (s : List ℕ) (i : ℕ) where
   run-past : (class : Class) → length s ≤ i → runLength class (drop i s) ≡ 0
   unfolding runLength
   run-past class h = rw (drop-done s i h)
 
-  run-more : (class : Class) → i < length s → belongs class (getD s i 0) ≡ true → runLength class (drop i s) ≡ suc (runLength class (drop (i + 1) s))
-  unfolding runLength
-  run-more class h e = rw (drop-one s i h, runLength, e)
-
-  run-over : (class : Class) → i < length s → belongs class (getD s i 0) ≡ false → runLength class (drop i s) ≡ 0
-  unfolding runLength
-  run-over class h e = rw (drop-one s i h, runLength, e)
-
   raw-past : length s ≤ i → rawLength (drop i s) ≡ 0
   unfolding rawLength
   raw-past h = rw (drop-done s i h)
 
-  raw-more : i < length s → closes (getD s i 0) (getD s (i + 1) 0) ≡ false → rawLength (drop i s) ≡ suc (rawLength (drop (i + 1) s))
-  unfolding rawLength
-  raw-more h e = rw (drop-one s i h, rawLength, next-octet s (i + 1), e)
+  module _ (h : i < length s) where
+    run-more : (class : Class) → belongs class (getD s i 0) ≡ true → runLength class (drop i s) ≡ suc (runLength class (drop (i + 1) s))
+    run-more class e = rw (drop-one s i h) (run-in (getD s i 0) (drop (i + 1) s) class e)
 
-  raw-over : i < length s → closes (getD s i 0) (getD s (i + 1) 0) ≡ true → rawLength (drop i s) ≡ 1
-  unfolding rawLength
-  raw-over h e = rw (drop-one s i h, rawLength, next-octet s (i + 1), e)
+    run-over : (class : Class) → belongs class (getD s i 0) ≡ false → runLength class (drop i s) ≡ 0
+    run-over class e = rw (drop-one s i h) (run-out (getD s i 0) (drop (i + 1) s) class e)
+
+    raw-more : closes (getD s i 0) (getD s (i + 1) 0) ≡ false → rawLength (drop i s) ≡ suc (rawLength (drop (i + 1) s))
+    raw-more e = rw (drop-one s i h) (raw-on (getD s i 0) (drop (i + 1) s) (rw (next-octet s (i + 1)) e))
+
+    raw-over : closes (getD s i 0) (getD s (i + 1) 0) ≡ true → rawLength (drop i s) ≡ 1
+    raw-over e = rw (drop-one s i h) (raw-last (getD s i 0) (drop (i + 1) s) (rw (next-octet s (i + 1)) e))
 
 pub run-begin : (class : Class) (s : List ℕ) (at : ℕ) → Going (runLength class) s at at
 run-begin class s at = begin (runLength class) s at
 
 module _ (class : Class) (s : List ℕ) (at i : ℕ) (h : Going (runLength class) s at i) where
   pub run-next : (b : Bool) → i < length s → b ≡ belongs class (getD s i 0) → b ≡ true → Going (runLength class) s at (i + 1)
-  run-next b l t e = next (runLength class) s at i h (run-more s i class l (sym t ∙ e))
+  run-next b l t e = next (runLength class) s at i h (run-more s i l class (sym t ∙ e))
 
   pub run-stop : (b : Bool) → i < length s → b ≡ belongs class (getD s i 0) → b ≡ false → i ≡ at + runLength class (drop at s)
-  run-stop b l t e = done (runLength class) s at i h (run-over s i class l (sym t ∙ e))
+  run-stop b l t e = done (runLength class) s at i h (run-over s i l class (sym t ∙ e))
 
   pub run-end : length s ≤ i → i ≡ at + runLength class (drop at s)
   run-end l = done (runLength class) s at i h (run-past s i class l)

@@ -23,7 +23,7 @@ use Rattle.header.specs.declared.Step.the-variants.{Over, Broken, Field}
 use Rattle.header.proofs.Stepping.{is-over, is-broken, is-field, value-upto, field-less}
 
 -- what follows a field is shorter than the text that the field opens
-rest-short : (s : List ℕ) (k : ℕ) → length s ≤ suc k → length (restOf s) ≤ k
+pub rest-short : (s : List ℕ) (k : ℕ) → length s ≤ suc k → length (restOf s) ≤ k
 rest-short s k h = simp length-drop (omega arith)
 
 enough : (k m : ℕ) (s : List ℕ) → length s ≤ k → length s ≤ m → fieldsWithin k s ≡ fieldsWithin m s

@@ -4,4 +4,6 @@ pub mod Unfolding
 pub mod Stepping
 pub mod Fields
 mod Reporting
+pub mod InFront
+pub mod LineEndings
 mod Worked

@@ -8,7 +8,7 @@
 use Prim.Native.Nat.{ℕ, zero, suc, _+_, _-_, _^_, _<_, _≤_}
 use mathlib.Core.Path.{_≡_, refl, sym, ap, _∙_, subst}
 use mathlib.Core.Logic.{⊎-elim}
-use mathlib.Core.Bool.{Bool, true, false, _&&_, false≢true}
+use mathlib.Core.Bool.{Bool, true, false, _&&_}
 use mathlib.Core.List.{List, [], _∷_}
 use native.Mathlib.Omega.{arith}
 use borrow.Author.Needs.{needs}
@@ -21,15 +21,12 @@ use Rattle.header.specs.Header.{over, runLength, rawLength, opensField, 
 use Rattle.header.specs.declared.Class.the-variants.{Name}
 use Rattle.header.specs.declared.Step.{Step}
 use Rattle.header.specs.declared.Step.the-variants.{Over, Broken, Field}
+use Rattle.header.proofs.Telling.{both}
 use Rattle.header.proofs.Counting.{raw-upto}
 
 -- an octet that is none past the end stands below it
 below-end : (s : List ℕ) (i : ℕ) → getD s i 0 ≡ 58 → i < length s
 below-end s i e = ⊎-elim (λ (h : i < length s). h) (λ (h : length s ≤ i). absurd (let z : _≡_ {A = ℕ} 0 58 = sym (List·getD-eq-default s 0 {n = i} h) ∙ e in omega arith)) (lt-or-le i (length s))
-
-both : (a b : Bool) → (a && b) ≡ true → (a ≡ true) × (b ≡ true)
-both true b e = (refl, e)
-both false b e = absurd (false≢true e)
 
 module _ (s : List ℕ) (at : ℕ) where
   -- the three answers

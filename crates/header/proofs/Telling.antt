@@ -1,6 +1,7 @@
 -- What the octets at one place are: the laws behind the functions that have no loop.
 --     peek-past                   past the end stands no octet
---     next-octet                  the octet behind a place, as the definitions have it
+--     next-octet                  the octet at a place, as the definitions have it
+--     both                        where `a && b` is true both are
 --     is-name, is-blank           the tests of each class are the class's own
 --     ends-lf, ends-cr, ends-other    octets of a line ending
 --     closes-lf, closes-other     the last octet of a field
@@ -9,7 +10,7 @@
 -- Assumes nothing.
 use Prim.Native.Nat.{ℕ, _+_, _<_, _≤_}
 use mathlib.Core.Path.{_≡_, refl, sym, ap, _∙_}
-use mathlib.Core.Bool.{Bool, true, false, not, _&&_, _||_}
+use mathlib.Core.Bool.{Bool, true, false, not, _&&_, _||_, false≢true}
 use mathlib.Core.List.{List, [], _∷_}
 use native.Mathlib.Nat.{add-zero}
 use borrow.Author.Needs.{needs}
@@ -27,6 +28,10 @@ peek-past s at h = sym (List·getD-eq-default s 0 {n = at} h)
 
 pub next-octet : (s : List ℕ) (at : ℕ) → getD (drop at s) 0 0 ≡ getD s at 0
 next-octet s at = getD-drop at s 0 0 ∙ ap (λ (i : ℕ). getD s i 0) (add-zero at)
+
+pub both : (a b : Bool) → (a && b) ≡ true → (a ≡ true) × (b ≡ true)
+both true b e = (refl, e)
+both false b e = absurd (false≢true e)
 
 module _ (class : Class) (x : ℕ) where
   pub is-name : class ≡ Name → ((leb 33 x && leb x 126) && not (eqb x 58)) ≡ belongs class x
