@@ -1,12 +1,14 @@
 -- The fields of a text.
 --     fields-over, fields-broken, fields-one    the equations of `fields`, with no count of lines
 --     from-over, from-broken, from-field        the same from a place on, by the answer r about what stands there
---     some-front, fields-short, fields-long, of-fields    where a block is readable
+--     some-front, fields-fit, fields-long       where a block is readable
+--     clear-fits .. clear-whole                 what follows where it is found to be
 --     Legible s at                              the block is readable if it is from the place `at` on
 --     read-begin .. read-next                   the steps of a loop over the fields
 -- Assumes nothing.
 use Prim.Native.Nat.{ℕ, zero, suc, _+_, _-_, _<_, _≤_}
 use mathlib.Core.Path.{_≡_, refl, sym, ap, _∙_}
+use mathlib.Core.Logic.{_⊎_, ⊎-elim}
 use mathlib.Core.Bool.{Bool, true, false, false≢true, true≢false}
 use mathlib.Core.List.{List, [], _∷_}
 use mathlib.Core.Option.{Option, some, none}
@@ -16,7 +18,8 @@ use borrow.Author.Needs.{needs}
 use borrow.Author.Tests.{le-leb, lt-leb}
 use lib.ListN.{length, getD, take, drop, length-drop}
 use lib.Seq.{drop-drop}
-use Rattle.header.specs.Header.{FieldText, over, runLength, rawLength, opensField, nameOf, rawOf, restOf, unfolded, inFront, fieldsWithin, fields, fieldsOf, isSome, fieldsFrom, stepAt, nameEnd, fieldEnd, fieldAt}
+use Rattle.octets.proofs.Lists.{lt-or-le}
+use Rattle.header.specs.Header.{FieldText, limit, over, runLength, rawLength, opensField, nameOf, rawOf, restOf, unfolded, inFront, fieldsWithin, fields, fieldsOf, isSome, fieldsFrom, stepAt, nameEnd, fieldEnd, fieldAt}
 use Rattle.header.specs.declared.Class.the-variants.{Name}
 use Rattle.header.specs.declared.Step.{Step}
 use Rattle.header.specs.declared.Step.the-variants.{Over, Broken, Field}
@@ -107,22 +110,53 @@ unfolding isSome inFront
 some-front f none = refl
 some-front f (some fs) = refl
 
-pub fields-fit : (s : List ℕ) → length s ≤ 65536 → fieldsOf s ≡ fieldsFrom s 0
+pub fields-fit : (s : List ℕ) → length s ≤ limit → fieldsOf s ≡ fieldsFrom s 0
 unfolding fieldsOf fieldsFrom
-fields-fit s h = rw (fieldsOf, le-leb (length s) 65536 h)
+fields-fit s h = rw (fieldsOf, le-leb (length s) limit h)
 
-pub fields-long : (s : List ℕ) → 65536 < length s → fieldsOf s ≡ none
+pub fields-long : (s : List ℕ) → limit < length s → fieldsOf s ≡ none
 unfolding fieldsOf
-fields-long s h = rw (fieldsOf, lt-leb (length s) 65536 h)
+fields-long s h = rw (fieldsOf, lt-leb (length s) limit h)
+
+-- what an answer b about a whole block tells of a loop over its fields: it is short enough, and no line is broken
+module _ (s : List ℕ) (b : Bool) (t : b ≡ isSome (fieldsOf s)) where
+  cases : (length s < suc limit) ⊎ (suc limit ≤ length s)
+  cases = lt-or-le (length s) (suc limit)
+
+  pub clear-fits : b ≡ true → length s ≤ limit
+  unfolding isSome
+  clear-fits q =
+      ⊎-elim (λ (h : length s < suc limit). omega arith)
+      (λ (h : suc limit ≤ length s). absurd (false≢true (sym (ap isSome (fields-long s h)) ∙ sym t ∙ q)))
+      cases
+
+  pub clear-begin : b ≡ true → isSome (fieldsFrom s 0) ≡ true
+  clear-begin q = sym (ap isSome (fields-fit s (clear-fits q))) ∙ sym t ∙ q
+
+  pub unclear : b ≡ false → fieldsOf s ≡ none
+  unfolding isSome
+  unclear q = go (fieldsOf s) refl
+    where
+      go : (o : Option (List FieldText)) → fieldsOf s ≡ o → o ≡ none
+      go none e = refl
+      go (some fs) e = absurd (false≢true (sym q ∙ t ∙ ap isSome e))
+
+module _ (s : List ℕ) (at : ℕ) (r : Step) (c : isSome (fieldsFrom s at) ≡ true) (t : r ≡ stepAt s at) where
+  pub clear-next : (n v e : ℕ) → r ≡ Field n v e → isSome (fieldsFrom s e) ≡ true
+  clear-next n v e q = sym (some-front (fieldAt s at n v e) (fieldsFrom s e)) ∙ sym (ap isSome (from-field s at r t n v e q)) ∙ c
+
+  pub clear-whole : r ≡ Broken → ⊥
+  unfolding isSome
+  clear-whole q = false≢true (sym (ap isSome (from-broken s at r t q)) ∙ c)
 
 pub record Legible (s : List ℕ) (at : ℕ) : Type 0 where
   pub same : isSome (fieldsOf s) ≡ isSome (fieldsFrom s at)
 
-pub read-long : (s : List ℕ) → 65536 < length s → false ≡ isSome (fieldsOf s)
+pub read-long : (s : List ℕ) → limit < length s → false ≡ isSome (fieldsOf s)
 unfolding isSome
 read-long s h = sym (ap isSome (fields-long s h))
 
-pub read-begin : (s : List ℕ) → length s ≤ 65536 → Legible s 0
+pub read-begin : (s : List ℕ) → length s ≤ limit → Legible s 0
 read-begin s h = record { same = ap isSome (fields-fit s h) }
 
 module _ (s : List ℕ) (at : ℕ) (r : Step) (h : Legible s at) (t : r ≡ stepAt s at) where

@@ -66,7 +66,7 @@ raw-append (x ∷ y ∷ s) t h o =
 name-no-ending : (x y : ℕ) → belongs Name x ≡ true → ofEnding x y ≡ false
 unfolding belongs
 name-no-ending x y h =
-    let l : 33 ≤ x = leb-true 33 x (both (leb 33 x) (leb x 126) (both (leb 33 x && leb x 126) (not (eqb x 58)) h .0) .0) in
+    let l : 33 ≤ x = leb-true 33 x (both (leb 33 x) (leb x 126) (both (leb 33 x && leb x 126) (not (eqb x (octet ":"))) h .0) .0) in
     sym (ends-other x y (λ e. omega arith) (λ e. omega arith))
 
 module _ (name raw rest : List ℕ) (named : runLength Name name ≡ length name) (some-name : 0 < length name)

@@ -12,6 +12,7 @@ use borrow.Author.Tests.{eqb-true, eqb-false, eq-eqb}
 use lib.Dec.{ltb, eqb}
 use lib.ListN.{length, getD, take, drop}
 use lib.Seq.{take-at, drop-at, drop-drop, length-take-le}
+use Rattle.octets.specs.Octets.{octet}
 use Rattle.header.specs.Header.{cr, lf, ofEnding, over, belongs, runLength, closes, rawLength, opensField, nameOf, afterColon, rawOf, restOf, unfolded, inFront, fields}
 use Rattle.header.specs.declared.Class.the-variants.{Name, Blank}
 use Rattle.header.proofs.Telling.{both, next-octet, ends-lf, closes-other}
@@ -122,18 +123,18 @@ module _ (s : List ℕ) where
   behind-kept : drop (runLength Name s) (withCrLf s) ≡ withCrLf (drop (runLength Name s) s)
   behind-kept = rw (name-stays s) (drop-at (nameOf s) (withCrLf (drop (runLength Name s) s)) (runLength Name s) long)
 
-  colon-kept : eqb (getD (withCrLf s) (runLength Name s) 0) 58 ≡ eqb (getD s (runLength Name s) 0) 58
+  colon-kept : eqb (getD (withCrLf s) (runLength Name s) 0) (octet ":") ≡ eqb (getD s (runLength Name s) 0) (octet ":")
   colon-kept =
-      ap (λ (x : ℕ). eqb x 58) (sym (next-octet (withCrLf s) (runLength Name s)) ∙ ap (λ (l : List ℕ). getD l 0 0) behind-kept)
-      ∙ first-alike (λ (x : ℕ). eqb x 58) refl (drop (runLength Name s) s)
-      ∙ ap (λ (x : ℕ). eqb x 58) (next-octet s (runLength Name s))
+      ap (λ (x : ℕ). eqb x (octet ":")) (sym (next-octet (withCrLf s) (runLength Name s)) ∙ ap (λ (l : List ℕ). getD l 0 0) behind-kept)
+      ∙ first-alike (λ (x : ℕ). eqb x (octet ":")) refl (drop (runLength Name s) s)
+      ∙ ap (λ (x : ℕ). eqb x (octet ":")) (next-octet s (runLength Name s))
 
   opens-kept : opensField (withCrLf s) ≡ opensField s
   unfolding opensField
   opens-kept = rw (opensField, run-kept s, colon-kept)
 
 -- a text that opens with another octet than LF, without that octet
-one-off : (t : List ℕ) → getD t 0 0 ≡ 58 → drop 1 (withCrLf t) ≡ withCrLf (drop 1 t)
+one-off : (t : List ℕ) → getD t 0 0 ≡ octet ":" → drop 1 (withCrLf t) ≡ withCrLf (drop 1 t)
 unfolding withCrLf
 one-off [] e = refl
 one-off (x ∷ t) e = rw (e, withCrLf)
@@ -142,7 +143,7 @@ after-kept : (s : List ℕ) → opensField s ≡ true → afterColon (withCrLf s
 unfolding opensField
 after-kept s o =
     let n : ℕ = runLength Name s in
-    let c : getD (drop n s) 0 0 ≡ 58 = next-octet s n ∙ eqb-true (getD s n 0) 58 (both (ltb 0 n) (eqb (getD s n 0) 58) o .1) in
+    let c : getD (drop n s) 0 0 ≡ octet ":" = next-octet s n ∙ eqb-true (getD s n 0) (octet ":") (both (ltb 0 n) (eqb (getD s n 0) (octet ":")) o .1) in
     rw (run-kept s) (sym (drop-drop 1 n (withCrLf s)) ∙ ap (drop 1) (behind-kept s) ∙ one-off (drop n s) c ∙ ap withCrLf (drop-drop 1 n s))
 
 -- a value as it stands, and what follows it

@@ -3,7 +3,7 @@
 --     colon-fits           a colon stands below the end
 --     Places s at n v e    how the places of a field lie
 --     Held, held           they lie so in each answer
---     name-from .. field-less    the same as a caller asks it of an answer r
+--     name-from .. field-less    the same as a caller asks it of an answer r: of the parts that it lends on, and of a loop's measure
 -- Assumes nothing.
 use Prim.Native.Nat.{ℕ, zero, suc, _+_, _-_, _^_, _<_, _≤_}
 use mathlib.Core.Path.{_≡_, refl, sym, ap, _∙_, subst}
@@ -14,8 +14,9 @@ use native.Mathlib.Omega.{arith}
 use borrow.Author.Needs.{needs}
 use borrow.Author.Tests.{lt-ltb, le-ltb, ltb-true, eq-eqb, ne-eqb, eqb-true}
 use lib.Dec.{ltb, eqb}
-use lib.ListN.{length, getD, drop, List·getD-eq-default}
+use lib.ListN.{length, getD, take, drop, length-take, length-drop, List·getD-eq-default}
 use lib.Seq.{getD-drop}
+use Rattle.octets.specs.Octets.{octet}
 use Rattle.octets.proofs.Lists.{lt-or-le}
 use Rattle.header.specs.Header.{over, runLength, rawLength, opensField, nameEnd, fieldEnd, stepAt}
 use Rattle.header.specs.declared.Class.the-variants.{Name}
@@ -25,8 +26,8 @@ use Rattle.header.proofs.Telling.{both}
 use Rattle.header.proofs.Counting.{raw-upto}
 
 -- an octet that is none past the end stands below it
-below-end : (s : List ℕ) (i : ℕ) → getD s i 0 ≡ 58 → i < length s
-below-end s i e = ⊎-elim (λ (h : i < length s). h) (λ (h : length s ≤ i). absurd (let z : _≡_ {A = ℕ} 0 58 = sym (List·getD-eq-default s 0 {n = i} h) ∙ e in omega arith)) (lt-or-le i (length s))
+below-end : (s : List ℕ) (i : ℕ) → getD s i 0 ≡ octet ":" → i < length s
+below-end s i e = ⊎-elim (λ (h : i < length s). h) (λ (h : length s ≤ i). absurd (let z : _≡_ {A = ℕ} 0 (octet ":") = sym (List·getD-eq-default s 0 {n = i} h) ∙ e in omega arith)) (lt-or-le i (length s))
 
 module _ (s : List ℕ) (at : ℕ) where
   -- the three answers
@@ -47,7 +48,7 @@ module _ (s : List ℕ) (at : ℕ) where
   unfolding opensField
   nameless e = rw (opensField, le-ltb 0 (runLength Name (drop at s)) (omega arith))
 
-  named : (nameEnd s at ≡ at → ⊥) → opensField (drop at s) ≡ eqb (getD s (nameEnd s at) 0) 58
+  named : (nameEnd s at ≡ at → ⊥) → opensField (drop at s) ≡ eqb (getD s (nameEnd s at) 0) (octet ":")
   unfolding opensField
   named n = rw (opensField, lt-ltb 0 (runLength Name (drop at s)) (omega arith), getD-drop at s (runLength Name (drop at s)) 0)
 
@@ -60,15 +61,15 @@ module _ (s : List ℕ) (at : ℕ) (b : Bool) (t : b ≡ over (drop at s)) where
     step-nameless e = sym (is-broken s at (sym t ∙ f) (nameless s at (sym q ∙ e)))
 
     module _ (p : ℕ) (m : n ≡ at → ⊥) (w : p ≡ getD s n 0) where
-      pub step-bare : (p ≡ 58 → ⊥) → Broken ≡ stepAt s at
-      step-bare c = sym (is-broken s at (sym t ∙ f) (named s at (λ e. m (q ∙ e)) ∙ ne-eqb (getD s (nameEnd s at) 0) 58 (λ e. c (w ∙ rw q e))))
+      pub step-bare : (p ≡ octet ":" → ⊥) → Broken ≡ stepAt s at
+      step-bare c = sym (is-broken s at (sym t ∙ f) (named s at (λ e. m (q ∙ e)) ∙ ne-eqb (getD s (nameEnd s at) 0) (octet ":") (λ e. c (w ∙ rw q e))))
 
-      pub step-field : (e : ℕ) → p ≡ 58 → e ≡ (n + 1) + rawLength (drop (n + 1) s) → Field n (n + 1) e ≡ stepAt s at
+      pub step-field : (e : ℕ) → p ≡ octet ":" → e ≡ (n + 1) + rawLength (drop (n + 1) s) → Field n (n + 1) e ≡ stepAt s at
       step-field e c z =
-          let o : opensField (drop at s) ≡ true = named s at (λ y. m (q ∙ y)) ∙ eq-eqb (getD s (nameEnd s at) 0) 58 (rw (← q) (sym w ∙ c)) in
+          let o : opensField (drop at s) ≡ true = named s at (λ y. m (q ∙ y)) ∙ eq-eqb (getD s (nameEnd s at) 0) (octet ":") (rw (← q) (sym w ∙ c)) in
           rw (z, q) (sym (is-field s at (sym t ∙ f) o))
 
-pub colon-fits : (s : List ℕ) (n p : ℕ) → length s < 2 ^ 64 → p ≡ getD s n 0 → p ≡ 58 → n + 1 < 2 ^ 64
+pub colon-fits : (s : List ℕ) (n p : ℕ) → length s < 2 ^ 64 → p ≡ getD s n 0 → p ≡ octet ":" → n + 1 < 2 ^ 64
 colon-fits s n p l w c = omega (arith, below-end s n (sym w ∙ c))
 
 pub ruleset stepping = (step-over, step-nameless, step-bare, step-field, colon-fits, needs)
@@ -88,8 +89,8 @@ opened : (s : List ℕ) (at : ℕ) → opensField (drop at s) ≡ true → (at <
 unfolding opensField
 opened s at o =
     let n : ℕ = runLength Name (drop at s) in
-    let p : (ltb 0 n ≡ true) × (eqb (getD (drop at s) n 0) 58 ≡ true) = both (ltb 0 n) (eqb (getD (drop at s) n 0) 58) o in
-    let c : getD s (nameEnd s at) 0 ≡ 58 = sym (getD-drop at s n 0) ∙ eqb-true (getD (drop at s) n 0) 58 (p .1) in
+    let p : (ltb 0 n ≡ true) × (eqb (getD (drop at s) n 0) (octet ":") ≡ true) = both (ltb 0 n) (eqb (getD (drop at s) n 0) (octet ":")) o in
+    let c : getD s (nameEnd s at) 0 ≡ octet ":" = sym (getD-drop at s n 0) ∙ eqb-true (getD (drop at s) n 0) (octet ":") (p .1) in
     (omega (arith, ltb-true 0 n (p .0)), below-end s (nameEnd s at) c)
 
 pub held : (s : List ℕ) (at : ℕ) → Held s at (stepAt s at)
@@ -103,6 +104,7 @@ held s at = go (over (drop at s)) refl (opensField (drop at s)) refl
         rw (is-field s at e o)
         (record { named = p .0; colon = refl; behind = omega arith; upto = raw-upto s (nameEnd s at + 1) (omega arith) })
 
+-- as a caller asks it of an answer r
 module _ (s : List ℕ) (at n v e : ℕ) (r : Step) (t : r ≡ stepAt s at) (q : r ≡ Field n v e) where
   pub field-places : Places s at n v e
   field-places = subst (λ (x : Step). Held s at x) (sym t ∙ q) (held s at)
@@ -119,5 +121,10 @@ module _ (s : List ℕ) (at n v e : ℕ) (r : Step) (t : r ≡ stepAt s at) (q :
   pub value-upto : e ≤ length s
   value-upto = field-places .upto
 
+  pub value-fits : (room : ℕ) → length s ≤ room → length (take (e - v) (drop v s)) ≤ room
+  value-fits room h = simp (length-take, length-drop) (omega arith)
+
   pub field-less : length s - e < length s - at
   field-less = omega (arith, field-places)
+
+pub ruleset placing = (name-from, name-upto, value-from, value-upto, value-fits, field-less)

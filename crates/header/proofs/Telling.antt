@@ -18,8 +18,9 @@ use borrow.Author.Tests.{eq-eqb, ne-eqb}
 use lib.Dec.{leb, eqb}
 use lib.ListN.{length, getD, drop, List·getD-eq-default}
 use lib.Seq.{getD-drop}
+use Rattle.octets.specs.Octets.{octet}
 use Rattle.octets.proofs.Lists.{drop-one, drop-done}
-use Rattle.header.specs.Header.{ofEnding, over, belongs, closes, mayFollow}
+use Rattle.header.specs.Header.{cr, lf, ofEnding, over, belongs, closes, mayFollow}
 use Rattle.header.specs.declared.Class.{Class}
 use Rattle.header.specs.declared.Class.the-variants.{Name, Blank}
 
@@ -34,34 +35,34 @@ both true b e = (refl, e)
 both false b e = absurd (false≢true e)
 
 module _ (class : Class) (x : ℕ) where
-  pub is-name : class ≡ Name → ((leb 33 x && leb x 126) && not (eqb x 58)) ≡ belongs class x
+  pub is-name : class ≡ Name → ((leb 33 x && leb x 126) && not (eqb x (octet ":"))) ≡ belongs class x
   unfolding belongs
   is-name q = rw q
 
-  pub is-blank : class ≡ Blank → (eqb x 32 || eqb x 9) ≡ belongs class x
+  pub is-blank : class ≡ Blank → (eqb x (octet " ") || eqb x (octet "\t")) ≡ belongs class x
   unfolding belongs
   is-blank q = rw q
 
 module _ (x y : ℕ) where
-  pub ends-lf : x ≡ 10 → true ≡ ofEnding x y
+  pub ends-lf : x ≡ lf → true ≡ ofEnding x y
   unfolding ofEnding
-  ends-lf e = rw (eq-eqb x 10 e)
+  ends-lf e = rw (eq-eqb x lf e)
 
-  pub ends-other : (x ≡ 10 → ⊥) → (x ≡ 13 → ⊥) → false ≡ ofEnding x y
+  pub ends-other : (x ≡ lf → ⊥) → (x ≡ cr → ⊥) → false ≡ ofEnding x y
   unfolding ofEnding
-  ends-other n m = rw (ne-eqb x 10 n, ne-eqb x 13 m)
+  ends-other n m = rw (ne-eqb x lf n, ne-eqb x cr m)
 
-  pub ends-cr : (p : ℕ) → (x ≡ 10 → ⊥) → x ≡ 13 → p ≡ y → eqb p 10 ≡ ofEnding x y
+  pub ends-cr : (p : ℕ) → (x ≡ lf → ⊥) → x ≡ cr → p ≡ y → eqb p lf ≡ ofEnding x y
   unfolding ofEnding
-  ends-cr p n e q = rw (ne-eqb x 10 n, eq-eqb x 13 e, q)
+  ends-cr p n e q = rw (ne-eqb x lf n, eq-eqb x cr e, q)
 
-  pub closes-other : (x ≡ 10 → ⊥) → false ≡ closes x y
+  pub closes-other : (x ≡ lf → ⊥) → false ≡ closes x y
   unfolding closes
-  closes-other n = rw (ne-eqb x 10 n)
+  closes-other n = rw (ne-eqb x lf n)
 
-  pub closes-lf : (p : ℕ) (b : Bool) → x ≡ 10 → p ≡ y → b ≡ belongs Blank p → not b ≡ closes x y
+  pub closes-lf : (p : ℕ) (b : Bool) → x ≡ lf → p ≡ y → b ≡ belongs Blank p → not b ≡ closes x y
   unfolding closes
-  closes-lf p b e q t = rw (eq-eqb x 10 e, t, q)
+  closes-lf p b e q t = rw (eq-eqb x lf e, t, q)
 
 module _ (s : List ℕ) (at : ℕ) where
   pub over-past : length s ≤ at → true ≡ over (drop at s)
@@ -76,7 +77,7 @@ module _ (s : List ℕ) (at : ℕ) where
   unfolding mayFollow
   follow-past h = rw (drop-done s at h)
 
-  pub follow-here : (b : Bool) → at < length s → b ≡ belongs Blank (getD s at 0) → ((b || eqb (getD s at 0) 59) || eqb (getD s at 0) 40) ≡ mayFollow (drop at s)
+  pub follow-here : (b : Bool) → at < length s → b ≡ belongs Blank (getD s at 0) → ((b || eqb (getD s at 0) (octet ";")) || eqb (getD s at 0) (octet "(")) ≡ mayFollow (drop at s)
   unfolding mayFollow
   follow-here b h e = rw (drop-one s at h, e)
 

@@ -3,6 +3,7 @@
 --     unfolded-out, unfolded-in     one step
 --     Unfolds raw d out n i     n octets of the unfolded value stand in the buffer, and what is left of it is that of raw from i on
 --     unfold-begin .. unfold-end    the loop's steps
+--     value-there, value-there-from    what a caller reads off the buffer
 --     NoLf, unfolded-plain      a text without LF is itself
 --     unfolded-lf, unfolded-crlf    a text that opens with a line ending
 --     unfolded-append, unfolded-before    two texts, one after the other: no CRLF may begin in the one and end in the other
@@ -11,11 +12,13 @@ use Prim.Native.Nat.{ℕ, zero, suc, _+_, _-_, _<_, _≤_, zero-le, suc-le-suc}
 use mathlib.Core.Path.{_≡_, refl, sym, ap, _∙_}
 use mathlib.Core.Bool.{Bool, true, false, _&&_}
 use mathlib.Core.List.{List, [], _∷_, _++_}
+use native.Mathlib.Nat.{sub-zero}
 use native.Mathlib.Omega.{arith}
 use borrow.Author.Needs.{needs}
 use borrow.Author.Tests.{eqb-true, eqb-false, ne-eqb}
 use lib.Dec.{eqb}
-use lib.ListN.{length, getD, drop, set}
+use lib.ListN.{length, getD, take, drop, set}
+use lib.Seq.{take-append-seam}
 use Rattle.octets.specs.Written.{onto}
 use Rattle.octets.proofs.Lists.{drop-one, drop-done}
 use Rattle.octets.proofs.Writing.{Wrote, begin, room-at, kept, counted, put, done}
@@ -147,3 +150,12 @@ unfolded-append (x ∷ y ∷ s) t h = go (unfolded-append (y ∷ s) t h) (ofEndi
 
 pub unfolded-before : (s t : List ℕ) → (getD t 0 0 ≡ lf → ⊥) → unfolded (s ++ t) ≡ unfolded s ++ unfolded t
 unfolded-before s t h = unfolded-append s t (λ _. h)
+
+-- what a caller reads off a buffer into which a value w was unfolded
+module _ (w d out : List ℕ) (n : ℕ) (c : n ≡ length w) (o : out ≡ onto w d) where
+  pub value-there : take n out ≡ w
+  unfolding onto
+  value-there = rw (o, c) (take-append-seam w (drop (length w) d))
+
+  pub value-there-from : take (n - 0) (drop 0 out) ≡ w
+  value-there-from = rw sub-zero value-there
