@@ -204,14 +204,18 @@ within (suc k) s l h = go (within k (restOf s) (rest-short s k l) alone-rest) (o
   where
     alone-after : LfAlone (afterColon s)
     alone-after = alone-drop (runLength Name s + 1) s h
+
     alone-rest : LfAlone (restOf s)
     alone-rest = alone-drop (rawLength (afterColon s)) (afterColon s) alone-after
+
     value-kept : opensField s ≡ true → unfolded (rawOf (withCrLf s)) ≡ unfolded (rawOf s)
     value-kept o =
         rw (after-kept s o, cut (afterColon s) .raw)
         (unfolded-kept (rawOf s) (alone-take (rawLength (afterColon s)) (afterColon s) alone-after))
+
     rest-kept : opensField s ≡ true → restOf (withCrLf s) ≡ withCrLf (restOf s)
     rest-kept o = rw (after-kept s o) (cut (afterColon s) .rest)
+
     go : fields (withCrLf (restOf s)) ≡ fields (restOf s) → (b : Bool) → over s ≡ b → (d : Bool) → opensField s ≡ d → fields (withCrLf s) ≡ fields s
     go ih true e d o = fields-over (withCrLf s) (over-kept s h ∙ e) ∙ sym (fields-over s e)
     go ih false e false o = fields-broken (withCrLf s) (over-kept s h ∙ e) (opens-kept s ∙ o) ∙ sym (fields-broken s e o)

@@ -3,7 +3,7 @@
 --     unfolded-out, unfolded-in     one step
 --     Unfolds raw d out n i     n octets of the unfolded value stand in the buffer, and what is left of it is that of raw from i on
 --     unfold-begin .. unfold-end    the loop's steps
---     value-there, value-there-from    what a caller reads off the buffer
+--     value-within, value-there, value-there-from    what a caller reads off the buffer
 --     NoLf, unfolded-plain      a text without LF is itself
 --     unfolded-lf, unfolded-crlf    a text that opens with a line ending
 --     unfolded-append, unfolded-before    two texts, one after the other: no CRLF may begin in the one and end in the other
@@ -17,7 +17,7 @@ use native.Mathlib.Omega.{arith}
 use borrow.Author.Needs.{needs}
 use borrow.Author.Tests.{eqb-true, eqb-false, ne-eqb}
 use lib.Dec.{eqb}
-use lib.ListN.{length, getD, take, drop, set}
+use lib.ListN.{length, getD, take, drop, set, length-append}
 use lib.Seq.{take-append-seam}
 use Rattle.octets.specs.Written.{onto}
 use Rattle.octets.proofs.Lists.{drop-one, drop-done}
@@ -139,6 +139,7 @@ unfolded-append (x ∷ []) t h = go (ofEnding x 0) refl
   where
     same : ofEnding x (getD t 0 0) ≡ ofEnding x 0
     same = same-ending x (getD t 0 0) 0 h (λ _ e. absurd (omega arith))
+
     go : (b : Bool) → ofEnding x 0 ≡ b → unfolded (x ∷ t) ≡ unfolded (x ∷ []) ++ unfolded t
     go true e = rw (unfolded-out x t (same ∙ e), unfolded-out x [] e)
     go false e = rw (unfolded-in x t (same ∙ e), unfolded-in x [] e)
@@ -153,6 +154,10 @@ unfolded-before s t h = unfolded-append s t (λ _. h)
 
 -- what a caller reads off a buffer into which a value w was unfolded
 module _ (w d out : List ℕ) (n : ℕ) (c : n ≡ length w) (o : out ≡ onto w d) where
+  pub value-within : n ≤ length out
+  unfolding onto
+  value-within = rw (o, c, length-append) (omega arith)
+
   pub value-there : take n out ≡ w
   unfolding onto
   value-there = rw (o, c) (take-append-seam w (drop (length w) d))

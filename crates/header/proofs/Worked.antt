@@ -12,8 +12,22 @@ use mathlib.Core.Option.{Option, some, none}
 use lib.ListN.{replicate}
 use Rattle.octets.specs.Octets.{ascii, octet, sameName, sameOctets, lowered, lower}
 use Rattle.header.specs.Header.{
-  FieldText, fields, fieldsOf, fieldsWithin, inFront, unfolded, over, ofEnding, opensField, runLength, rawLength,
-  belongs, closes, isReport, opensReport, mayFollow
+  FieldText,
+  fields,
+  fieldsOf,
+  fieldsWithin,
+  inFront,
+  unfolded,
+  over,
+  ofEnding,
+  opensField,
+  runLength,
+  rawLength,
+  belongs,
+  closes,
+  isReport,
+  opensReport,
+  mayFollow,
 }
 
 field : List ℕ → List ℕ → FieldText

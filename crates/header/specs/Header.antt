@@ -100,10 +100,10 @@ unfoldable pub fieldsWithin : ℕ → List ℕ → Option (List FieldText)
 fieldsWithin zero s = some []
 fieldsWithin (suc k) s =
     elim (over s) [
-      true ↦ some []
-    | false ↦ elim (opensField s) [
-        true ↦ inFront (record { name = nameOf s; value = unfolded (rawOf s) }) (fieldsWithin k (restOf s))
-      | false ↦ none
+      | true ↦ some []
+      | false ↦ elim (opensField s) [
+        | true ↦ inFront (record { name = nameOf s; value = unfolded (rawOf s) }) (fieldsWithin k (restOf s))
+        | false ↦ none
       ]
     ]
 
@@ -137,10 +137,10 @@ fieldEnd s v = v + rawLength (drop v s)
 unfoldable pub stepAt : List ℕ → ℕ → Step
 stepAt s at =
     elim (over (drop at s)) [
-      true ↦ Over
-    | false ↦ elim (opensField (drop at s)) [
-        true ↦ Field (nameEnd s at) (nameEnd s at + 1) (fieldEnd s (nameEnd s at + 1))
-      | false ↦ Broken
+      | true ↦ Over
+      | false ↦ elim (opensField (drop at s)) [
+        | true ↦ Field (nameEnd s at) (nameEnd s at + 1) (fieldEnd s (nameEnd s at + 1))
+        | false ↦ Broken
       ]
     ]
 

@@ -123,7 +123,11 @@ pub fn field_at(block: &[u8], at: usize) -> Step
     }
     let value = name_end + 1;
     let end = raw_end(block, value);
-    Step::Field { name_end, value, end }
+    Step::Field {
+        name_end,
+        value,
+        end,
+    }
 }
 
 // Is the block one of fields alone, up to its end, and no longer than a block may be?
@@ -138,7 +142,11 @@ pub fn readable(block: &[u8]) -> bool
         match field_at(block, at) {
             Step::Over => return true,
             Step::Broken => return false,
-            Step::Field { name_end: _, value: _, end } => at = end,
+            Step::Field {
+                name_end: _,
+                value: _,
+                end,
+            } => at = end,
         }
     }
 }

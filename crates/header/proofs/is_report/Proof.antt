@@ -1,57 +1,41 @@
+-- `header::is_report` meets its contract: the laws of `Reporting` answer every need. Assumes nothing.
 use Rattle.header.proofs.is_report.Statement.{statement}
 use Rattle.header.proofs.is_report.Tie as tie
-use Rattle.header.proofs.is_report.Reads as reads
-use Rattle.header.proofs.is_report.Lts as lts
-use Rattle.header.proofs.may_follow.Reads as may-follow-reads
-use Rattle.header.proofs.run_end.Reads as run-end-reads
-use Rattle.octets.proofs.same_name.Reads as same-name-reads
 use Rattle.header.proofs.Reporting.{reporting}
 
--- src/lib.rt:181:9
 run-end-requires : tie.Need-run-end-requires
 run-end-requires c κs = search reporting
 
--- src/lib.rt:182:8
 sub-if1 : tie.Need-sub-if1
 sub-if1 c = search reporting
 
--- src/lib.rt:183:9
 returns : tie.Need-returns
 returns c = search reporting
 
--- src/lib.rt:185:15
 add-end : tie.Need-add-end
 add-end c = search reporting
 
--- src/lib.rt:186:26
 sub-same-name : tie.Need-sub-same-name
 sub-same-name c = search reporting
 
--- src/lib.rt:186:26
 part-same-name-start : tie.Need-part-same-name-start
 part-same-name-start c = search reporting
 
--- src/lib.rt:186:26
 part-same-name-end : tie.Need-part-same-name-end
 part-same-name-end c = search reporting
 
--- src/lib.rt:186:43
 slice-aggregate-same-name : tie.Need-slice-aggregate-same-name
 slice-aggregate-same-name c = search reporting
 
--- src/lib.rt:186:8
 same-name-requires : tie.Need-same-name-requires
 same-name-requires c κs = search reporting
 
--- src/lib.rt:187:9
 may-follow-requires : tie.Need-may-follow-requires
 may-follow-requires c κs = search reporting
 
--- src/lib.rt:178:1
 returns-2 : tie.Need-returns-2
 returns-2 c = search reporting
 
--- src/lib.rt:178:1
 returns-3 : tie.Need-returns-3
 returns-3 c = search reporting
 

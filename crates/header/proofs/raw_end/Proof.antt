@@ -1,13 +1,10 @@
+-- `header::raw_end` meets its contract: the laws of `Counting` keep the loop's invariant and answer every need. Assumes nothing.
 use Prim.Native.Nat.{_-_}
 use lib.ListN.{length}
 use Rattle.header.specs.Header.{rawLength}
-use Rattle.header.proofs.Counting.{Going}
+use Rattle.header.proofs.Counting.{Going, closing}
 use Rattle.header.proofs.raw_end.Statement.{statement}
 use Rattle.header.proofs.raw_end.Tie as tie
-use Rattle.header.proofs.raw_end.Reads as reads
-use Rattle.header.proofs.raw_end.Lts as lts
-use Rattle.header.proofs.closes_at.Reads as closes-at-reads
-use Rattle.header.proofs.Counting.{closing}
 
 abbrev Inv-loop : tie.InvT-loop
 Inv-loop s at i₀ i = Going rawLength s at i
@@ -15,35 +12,27 @@ Inv-loop s at i₀ i = Going rawLength s at i
 abbrev μ-loop : tie.MeasureT-loop
 μ-loop s at i₀ i = length s - i
 
--- src/lib.rt:91:5
 loop-holds : tie.Need-loop-holds Inv-loop μ-loop
 loop-holds c = search closing
 
--- src/lib.rt:92:12
 closes-at-requires : tie.Need-closes-at-requires Inv-loop μ-loop
 closes-at-requires c κs = search closing
 
--- src/lib.rt:93:20
 add-result : tie.Need-add-result Inv-loop μ-loop
 add-result c = search closing
 
--- src/lib.rt:93:13
 returns : tie.Need-returns Inv-loop μ-loop
 returns c = search closing
 
--- src/lib.rt:95:9
 add-i : tie.Need-add-i Inv-loop μ-loop
 add-i c = search closing
 
--- src/lib.rt:91:5
 loop-less : tie.Need-loop-less Inv-loop μ-loop
 loop-less c = search closing
 
--- src/lib.rt:91:5
 loop-again : tie.Need-loop-again Inv-loop μ-loop
 loop-again c = search closing
 
--- src/lib.rt:87:1
 returns-2 : tie.Need-returns-2 Inv-loop μ-loop
 returns-2 c = search closing
 

@@ -1,12 +1,9 @@
+-- `header::unfold` meets its contract: the laws of `Unfolding` keep the loop's invariant and answer every need. Assumes nothing.
 use Prim.Native.Nat.{_-_}
 use lib.ListN.{length}
-use Rattle.header.proofs.Unfolding.{Unfolds}
+use Rattle.header.proofs.Unfolding.{Unfolds, unfolds}
 use Rattle.header.proofs.unfold.Statement.{statement}
 use Rattle.header.proofs.unfold.Tie as tie
-use Rattle.header.proofs.unfold.Reads as reads
-use Rattle.header.proofs.unfold.Lts as lts
-use Rattle.header.proofs.ends_at.Reads as ends-at-reads
-use Rattle.header.proofs.Unfolding.{unfolds}
 
 abbrev Inv-loop : tie.InvT-loop
 Inv-loop raw out₀ n₀ i₀ out n i = Unfolds raw out₀ out n i
@@ -14,55 +11,42 @@ Inv-loop raw out₀ n₀ i₀ out n i = Unfolds raw out₀ out n i
 abbrev μ-loop : tie.MeasureT-loop
 μ-loop raw out₀ n₀ i₀ out n i = length raw - i
 
--- src/lib.rt:154:5
 loop-holds : tie.Need-loop-holds Inv-loop μ-loop
 loop-holds c = search unfolds
 
--- src/lib.rt:155:12
 ends-at-requires : tie.Need-ends-at-requires Inv-loop μ-loop
 ends-at-requires c κs = search unfolds
 
--- src/lib.rt:156:13
 add-i : tie.Need-add-i Inv-loop μ-loop
 add-i c = search unfolds
 
--- src/lib.rt:154:5
 loop-less : tie.Need-loop-less Inv-loop μ-loop
 loop-less c = search unfolds
 
--- src/lib.rt:154:5
 loop-again : tie.Need-loop-again Inv-loop μ-loop
 loop-again c = search unfolds
 
--- src/lib.rt:159:18
 shared-slice-read-out : tie.Need-shared-slice-read-out Inv-loop μ-loop
 shared-slice-read-out c = search unfolds
 
--- src/lib.rt:159:9
 slice-write-out : tie.Need-slice-write-out Inv-loop μ-loop
 slice-write-out c = search unfolds
 
--- src/lib.rt:160:9
 add-n : tie.Need-add-n Inv-loop μ-loop
 add-n c = search unfolds
 
--- src/lib.rt:161:9
 add-i-2 : tie.Need-add-i-2 Inv-loop μ-loop
 add-i-2 c = search unfolds
 
--- src/lib.rt:154:5
 loop-less-2 : tie.Need-loop-less-2 Inv-loop μ-loop
 loop-less-2 c = search unfolds
 
--- src/lib.rt:154:5
 loop-again-2 : tie.Need-loop-again-2 Inv-loop μ-loop
 loop-again-2 c = search unfolds
 
--- src/lib.rt:147:1
 same-length : tie.Need-same-length Inv-loop μ-loop
 same-length c = search unfolds
 
--- src/lib.rt:147:1
 returns : tie.Need-returns Inv-loop μ-loop
 returns c = search unfolds
 
