@@ -19,7 +19,8 @@ use borrow.Author.Tests.{le-leb, lt-leb}
 use lib.ListN.{length, getD, take, drop, length-drop}
 use lib.Seq.{drop-drop}
 use Rattle.octets.proofs.Lists.{lt-or-le}
-use Rattle.header.specs.Header.{FieldText, limit, over, runLength, rawLength, opensField, nameOf, rawOf, restOf, unfolded, inFront, fieldsWithin, fields, fieldsOf, isSome, fieldsFrom, stepAt, nameEnd, fieldEnd, fieldAt}
+use Rattle.header.specs.Header.{FieldText, limit, over, runLength, rawLength, opensField, nameOf, rawOf, restOf, unfolded, inFront, fieldsWithin, fields, fieldsOf, isSome}
+use Rattle.header.specs.Answers.{fieldsFrom, stepAt, nameEnd, fieldEnd, fieldAt}
 use Rattle.header.specs.declared.Class.the-variants.{Name}
 use Rattle.header.specs.declared.Step.{Step}
 use Rattle.header.specs.declared.Step.the-variants.{Over, Broken, Field}

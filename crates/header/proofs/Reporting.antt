@@ -11,9 +11,9 @@ use native.Mathlib.Omega.{arith}
 use borrow.Author.Needs.{needs}
 use lib.ListN.{length, take, drop, length-take, length-drop}
 use lib.Seq.{drop-drop}
-use Rattle.octets.specs.Octets.{ascii, sameName}
+use Rattle.octets.specs.Octets.{sameName}
 use Rattle.octets.proofs.Comparing.{name-long}
-use Rattle.header.specs.Header.{runLength, mayFollow, opensReport, isReport}
+use Rattle.header.specs.Header.{report, runLength, mayFollow, opensReport, isReport}
 use Rattle.header.specs.declared.Class.the-variants.{Blank}
 use Rattle.header.proofs.Counting.{run-upto}
 
@@ -22,7 +22,7 @@ module _ (s : List ℕ) (at : ℕ) (t : at ≡ 0 + runLength Blank (drop 0 s)) w
   report-from = rw t (run-upto Blank s 0 (omega arith))
 
   -- the answer, from where the blanks end
-  here : isReport s ≡ (sameName (take 16 (drop at s)) (ascii "multipart/report") && mayFollow (drop (at + 16) s))
+  here : isReport s ≡ (sameName (take 16 (drop at s)) report && mayFollow (drop (at + 16) s))
   unfolding isReport opensReport
   here =
       let e : runLength Blank s ≡ at = omega arith in
@@ -30,13 +30,13 @@ module _ (s : List ℕ) (at : ℕ) (t : at ≡ 0 + runLength Blank (drop 0 s)) w
 
   pub report-short : length s - at < 16 → false ≡ isReport s
   report-short h =
-      let n : false ≡ sameName (take 16 (drop at s)) (ascii "multipart/report") =
-      name-long (take 16 (drop at s)) (ascii "multipart/report")
+      let n : false ≡ sameName (take 16 (drop at s)) report =
+      name-long (take 16 (drop at s)) report
       (λ (e : length (take 16 (drop at s)) ≡ 16). omega (arith, e, length-take 16 (drop at s), length-drop at s)) in
       sym (here ∙ rw (← n))
 
-  module _ (b : Bool) (w : b ≡ sameName (take (at + 16 - at) (drop at s)) (ascii "multipart/report")) where
-    same-name : b ≡ sameName (take 16 (drop at s)) (ascii "multipart/report")
+  module _ (b : Bool) (w : b ≡ sameName (take (at + 16 - at) (drop at s)) report) where
+    same-name : b ≡ sameName (take 16 (drop at s)) report
     same-name = let e : at + 16 - at ≡ 16 = omega arith in w ∙ rw e
 
     pub report-other : b ≡ false → false ≡ isReport s

@@ -18,7 +18,8 @@ use lib.ListN.{length, getD, take, drop, length-take, length-drop, List·getD-eq
 use lib.Seq.{getD-drop}
 use Rattle.octets.specs.Octets.{octet}
 use Rattle.octets.proofs.Lists.{lt-or-le}
-use Rattle.header.specs.Header.{over, runLength, rawLength, opensField, nameEnd, fieldEnd, stepAt}
+use Rattle.header.specs.Header.{over, runLength, rawLength, opensField}
+use Rattle.header.specs.Answers.{nameEnd, fieldEnd, stepAt}
 use Rattle.header.specs.declared.Class.the-variants.{Name}
 use Rattle.header.specs.declared.Step.{Step}
 use Rattle.header.specs.declared.Step.the-variants.{Over, Broken, Field}

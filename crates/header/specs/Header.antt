@@ -8,10 +8,9 @@
 --     unfolded                  a value without its line endings
 --     FieldText, fields         the fields of a block, its length aside
 --     fieldsOf, readable        the fields of a block, or none where it is unreadable
---     fieldsFrom, stepAt        the fields from a place on, and what stands there
---     fieldAt                   the field that stands at given places
 --     isReport                  "Multipart/report"
-use Prim.Native.Nat.{ℕ, zero, suc, _+_, _-_}
+-- "Names compare without regard to ASCII case": that is `sameName` of the crate octets.
+use Prim.Native.Nat.{ℕ, zero, suc, _+_}
 use mathlib.Core.Bool.{Bool, true, false, not, _&&_, _||_}
 use mathlib.Core.List.{List, [], _∷_}
 use mathlib.Core.Option.{Option, some, none}
@@ -20,8 +19,6 @@ use lib.ListN.{length, getD, take, drop}
 use Rattle.octets.specs.Octets.{ascii, octet, sameName}
 use Rattle.header.specs.declared.Class.{Class}
 use Rattle.header.specs.declared.Class.the-variants.{Name, Blank}
-use Rattle.header.specs.declared.Step.{Step}
-use Rattle.header.specs.declared.Step.the-variants.{Over, Broken, Field}
 
 -- "A block over 65,536 octets is unreadable."
 abbrev pub limit : ℕ
@@ -107,7 +104,7 @@ fieldsWithin (suc k) s =
       ]
     ]
 
--- a text has no more lines than octets: the laws `fields-over`, `fields-broken` and `fields-one` do without the count
+-- A text has no more lines than octets. The equations without the count are `fields-over`, `fields-broken` and `fields-one` of proofs/Fields.antt.
 unfoldable pub fields : List ℕ → Option (List FieldText)
 fields s = fieldsWithin (length s) s
 
@@ -122,40 +119,17 @@ isSome (some fs) = true
 abbrev pub readable : List ℕ → Bool
 readable s = isSome (fieldsOf s)
 
--- the fields from a place on where a line begins
-unfoldable pub fieldsFrom : List ℕ → ℕ → Option (List FieldText)
-fieldsFrom s at = fields (drop at s)
-
--- where the name ends that begins at a place, and where the field ends whose value begins at one
-abbrev pub nameEnd : List ℕ → ℕ → ℕ
-nameEnd s at = at + runLength Name (drop at s)
-
-abbrev pub fieldEnd : List ℕ → ℕ → ℕ
-fieldEnd s v = v + rawLength (drop v s)
-
--- what stands at a place where a line begins, as the code answers it
-unfoldable pub stepAt : List ℕ → ℕ → Step
-stepAt s at =
-    elim (over (drop at s)) [
-      | true ↦ Over
-      | false ↦ elim (opensField (drop at s)) [
-        | true ↦ Field (nameEnd s at) (nameEnd s at + 1) (fieldEnd s (nameEnd s at + 1))
-        | false ↦ Broken
-      ]
-    ]
-
--- the field whose name lies from the place `at` to n, and its value as it stands from v to e
-abbrev pub fieldAt : List ℕ → ℕ → ℕ → ℕ → ℕ → FieldText
-fieldAt s at n v e = record { name = take (n - at) (drop at s); value = unfolded (take (e - v) (drop v s)) }
-
 -- "and is followed by the end, space, tab, `;` or `(`"
 unfoldable pub mayFollow : List ℕ → Bool
 mayFollow [] = true
 mayFollow (x ∷ s) = belongs Blank x || eqb x (octet ";") || eqb x (octet "(")
 
+abbrev pub report : List ℕ
+report = ascii "multipart/report"
+
 -- "Multipart/report matches in any case"
 unfoldable pub opensReport : List ℕ → Bool
-opensReport s = sameName (take 16 s) (ascii "multipart/report") && mayFollow (drop 16 s)
+opensReport s = sameName (take (length report) s) report && mayFollow (drop (length report) s)
 
 -- "after leading spaces and tabs"
 unfoldable pub isReport : List ℕ → Bool

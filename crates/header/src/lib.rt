@@ -4,7 +4,8 @@ ghost use Prim.Native.Nat.{_+_, _≤_, _<_};
 ghost use mathlib.Core.Path.{_≡_};
 ghost use lib.ListN.{length, getD, drop};
 ghost use Rattle.octets.specs.Written.{onto};
-ghost use Rattle.header.specs.Header.{ofEnding, over, belongs, runLength, closes, rawLength, unfolded, readable as readableOf, stepAt, mayFollow, isReport};
+ghost use Rattle.header.specs.Header.{ofEnding, over, belongs, runLength, closes, rawLength, unfolded, readable as readableOf, mayFollow, isReport};
+ghost use Rattle.header.specs.Answers.{stepAt};
 
 // How long a block may be.
 const LIMIT: usize = 65536;
