@@ -83,3 +83,44 @@ class Probe:
         kinds = _write + [_size, _size, ctypes.c_uint64]
         done = self._call("probe_put_number", ctypes.c_bool, kinds, *lent.words(), at, width, n)
         return done, lent.now()
+
+    # base64
+
+    def decode(self, text: bytes, out: bytes) -> tuple[int, int, bytes]:
+        """kind 0: so many octets; 1: no Base64; 2: too little room"""
+        lent = Lent(out)
+        r = self._call("probe_decode", Answer, _read + _write, text, len(text), *lent.words())
+        return r.kind, r.value, lent.now()
+
+    def lines(self, key: bytes, out: bytes, at: int) -> tuple[int, int, bytes]:
+        """kind 0: the place behind the lines; 2: too little room"""
+        lent = Lent(out)
+        r = self._call("probe_lines", Answer, _read + _write + [_size], key, len(key), *lent.words(), at)
+        return r.kind, r.value, lent.now()
+
+    # tokens
+
+    def _place(self, name: str, s: bytes, at: int) -> int | None:
+        r = self._call(name, Answer, _read + [_size], s, len(s), at)
+        return r.value if r.kind == 0 else None
+
+    def skip(self, s: bytes, at: int) -> int | None:
+        return self._place("probe_skip", s, at)
+
+    def quoted(self, s: bytes, at: int) -> int | None:
+        """`at` is behind the opening quote."""
+        return self._place("probe_quoted", s, at)
+
+    def run_end(self, s: bytes, at: int, kind: int) -> int:
+        """kind 0: digits; 1: letters; 2: what atoms are made of"""
+        return self._call("probe_run_end", _size, _read + [_size, ctypes.c_uint8], s, len(s), at, kind)
+
+    # date
+
+    def date(self, value: bytes) -> int | None:
+        r = self._call("probe_date", Answer, _read, value, len(value))
+        return r.value if r.kind == 0 else None
+
+    def effective_date(self, date: int | None, receipt: int) -> int:
+        kinds = [ctypes.c_bool, ctypes.c_uint64, ctypes.c_uint64]
+        return self._call("probe_effective_date", ctypes.c_uint64, kinds, date is not None, date or 0, receipt)

@@ -84,3 +84,34 @@ pub extern "C" fn probe_put_number(out: &mut [u8], at: usize, width: usize, n: u
     octets::put_number(out, at, width, n);
     true
 }
+
+fn place(r: tokens::Reached) -> Answer {
+    match r {
+        tokens::Reached::To(n) => Answer {
+            kind: 0,
+            value: n as u64,
+        },
+        tokens::Reached::Unreadable => Answer { kind: 1, value: 0 },
+    }
+}
+
+// kind 0: the place reached; 1: unreadable
+#[no_mangle]
+pub extern "C" fn probe_skip(s: &[u8], at: usize) -> Answer {
+    place(tokens::skip(s, at))
+}
+
+#[no_mangle]
+pub extern "C" fn probe_quoted(s: &[u8], at: usize) -> Answer {
+    place(tokens::quoted(s, at))
+}
+
+// class 0: digits; 1: letters; any other: what atoms are made of
+#[no_mangle]
+pub extern "C" fn probe_run_end(s: &[u8], at: usize, class: u8) -> usize {
+    match class {
+        0 => tokens::run_end(s, at, tokens::Class::Digit),
+        1 => tokens::run_end(s, at, tokens::Class::Letter),
+        _ => tokens::run_end(s, at, tokens::Class::Atom),
+    }
+}
