@@ -16,7 +16,7 @@ use native.Mathlib.Omega.{arith}
 use native.Mathlib.Nat.{add-assoc}
 use borrow.Author.Needs.{needs}
 use borrow.Author.Tests.{le-leb, lt-leb}
-use lib.ListN.{length, getD, take, drop, length-drop}
+use lib.ListN.{length, take, drop, length-drop}
 use lib.Seq.{drop-drop}
 use Rattle.octets.proofs.Lists.{lt-or-le}
 use Rattle.header.specs.Header.{FieldText, limit, over, runLength, rawLength, opensField, nameOf, rawOf, restOf, unfolded, inFront, fieldsWithin, fields, fieldsOf, isSome}
@@ -24,7 +24,7 @@ use Rattle.header.specs.Answers.{fieldsFrom, stepAt, nameEnd, fieldEnd, 
 use Rattle.header.specs.declared.Class.the-variants.{Name}
 use Rattle.header.specs.declared.Step.{Step}
 use Rattle.header.specs.declared.Step.the-variants.{Over, Broken, Field}
-use Rattle.header.proofs.Stepping.{is-over, is-broken, is-field, value-upto, field-less}
+use Rattle.header.proofs.Stepping.{is-over, is-broken, is-field, field-less}
 
 -- what follows a field is shorter than the text that the field opens
 pub rest-short : (s : List ℕ) (k : ℕ) → length s ≤ suc k → length (restOf s) ≤ k

@@ -4,14 +4,14 @@
 --     run-append, raw-append      a run or a value in front of a text ends where the text begins
 --     field-in-front              the fields of name, colon, value and rest are that field and those of the rest
 -- Assumes nothing.
-use Prim.Native.Nat.{ℕ, zero, suc, _+_, _<_, _≤_}
+use Prim.Native.Nat.{ℕ, suc, _+_, _<_, _≤_}
 use mathlib.Core.Path.{_≡_, refl, sym, ap, _∙_}
 use mathlib.Core.Bool.{Bool, true, false, not, _&&_, false≢true}
 use mathlib.Core.List.{List, [], _∷_, _++_}
 use native.Mathlib.Omega.{arith}
 use borrow.Author.Tests.{eqb-true, lt-ltb, leb-true, not-true}
 use lib.Dec.{leb, eqb}
-use lib.ListN.{length, getD, take, drop}
+use lib.ListN.{length, getD}
 use lib.Seq.{take-append-seam, drop-append-seam, drop-append-add, getD-append-seam}
 use Rattle.octets.specs.Octets.{octet}
 use Rattle.header.specs.Header.{lf, ofEnding, over, belongs, runLength, closes, rawLength, opensField, nameOf, afterColon, rawOf, restOf, unfolded, inFront, fields}

@@ -3,17 +3,17 @@
 --     LfAlone         no CR stands directly before an LF
 --     line-endings    the fields of such a text are those of the text with CRLF
 -- Assumes nothing.
-use Prim.Native.Nat.{ℕ, zero, suc, _+_, _<_, _≤_}
+use Prim.Native.Nat.{ℕ, zero, suc, _+_, _≤_}
 use mathlib.Core.Path.{_≡_, refl, sym, ap, _∙_}
 use mathlib.Core.Bool.{Bool, true, false, not, false≢true}
 use mathlib.Core.List.{List, [], _∷_, _++_}
 use native.Mathlib.Omega.{arith}
-use borrow.Author.Tests.{eqb-true, eqb-false, eq-eqb}
+use borrow.Author.Tests.{eqb-true, eqb-false}
 use lib.Dec.{ltb, eqb}
 use lib.ListN.{length, getD, take, drop}
 use lib.Seq.{take-at, drop-at, drop-drop, length-take-le}
 use Rattle.octets.specs.Octets.{octet}
-use Rattle.header.specs.Header.{cr, lf, ofEnding, over, belongs, runLength, closes, rawLength, opensField, nameOf, afterColon, rawOf, restOf, unfolded, inFront, fields}
+use Rattle.header.specs.Header.{cr, lf, ofEnding, over, belongs, runLength, closes, rawLength, opensField, nameOf, afterColon, rawOf, restOf, unfolded, fields}
 use Rattle.header.specs.declared.Class.the-variants.{Name, Blank}
 use Rattle.header.proofs.Telling.{both, next-octet, ends-lf, closes-other}
 use Rattle.header.proofs.Counting.{run-in, run-out, run-short, raw-on, raw-last}

@@ -1,15 +1,15 @@
 -- What stands at a place where a line begins.
 --     step-over, step-nameless, step-bare, step-field    the answer by the tests in their order
---     colon-fits           a colon stands below the end
+--     colon-fits           a colon stands below the end, so that there is a place behind it
 --     Places s at n v e    how the places of a field lie
 --     Held, held           they lie so in each answer
 --     name-from .. field-less    the same as a caller asks it of an answer r: of the parts that it lends on, and of a loop's measure
 -- Assumes nothing.
-use Prim.Native.Nat.{ℕ, zero, suc, _+_, _-_, _^_, _<_, _≤_}
-use mathlib.Core.Path.{_≡_, refl, sym, ap, _∙_, subst}
+use Prim.Native.Nat.{ℕ, _+_, _-_, _^_, _<_, _≤_}
+use mathlib.Core.Path.{_≡_, refl, sym, _∙_, subst}
 use mathlib.Core.Logic.{⊎-elim}
-use mathlib.Core.Bool.{Bool, true, false, _&&_}
-use mathlib.Core.List.{List, [], _∷_}
+use mathlib.Core.Bool.{Bool, true, false}
+use mathlib.Core.List.{List}
 use native.Mathlib.Omega.{arith}
 use borrow.Author.Needs.{needs}
 use borrow.Author.Tests.{lt-ltb, le-ltb, ltb-true, eq-eqb, ne-eqb, eqb-true}
@@ -26,9 +26,12 @@ use Rattle.header.specs.declared.Step.the-variants.{Over, Broken, Field}
 use Rattle.header.proofs.Telling.{both}
 use Rattle.header.proofs.Counting.{raw-upto}
 
--- an octet that is none past the end stands below it
+-- a colon stands below the end
 below-end : (s : List ℕ) (i : ℕ) → getD s i 0 ≡ octet ":" → i < length s
-below-end s i e = ⊎-elim (λ (h : i < length s). h) (λ (h : length s ≤ i). absurd (let z : _≡_ {A = ℕ} 0 (octet ":") = sym (List·getD-eq-default s 0 {n = i} h) ∙ e in omega arith)) (lt-or-le i (length s))
+below-end s i e =
+    ⊎-elim (λ (h : i < length s). h)
+    (λ (h : length s ≤ i). absurd (let z : 0 ≡ octet ":" = sym (List·getD-eq-default s 0 {n = i} h) ∙ e in omega arith))
+    (lt-or-le i (length s))
 
 module _ (s : List ℕ) (at : ℕ) where
   -- the three answers
@@ -63,7 +66,9 @@ module _ (s : List ℕ) (at : ℕ) (b : Bool) (t : b ≡ over (drop at s)) where
 
     module _ (p : ℕ) (m : n ≡ at → ⊥) (w : p ≡ getD s n 0) where
       pub step-bare : (p ≡ octet ":" → ⊥) → Broken ≡ stepAt s at
-      step-bare c = sym (is-broken s at (sym t ∙ f) (named s at (λ e. m (q ∙ e)) ∙ ne-eqb (getD s (nameEnd s at) 0) (octet ":") (λ e. c (w ∙ rw q e))))
+      step-bare c =
+          let o : opensField (drop at s) ≡ false = named s at (λ y. m (q ∙ y)) ∙ ne-eqb (getD s (nameEnd s at) 0) (octet ":") (λ e. c (w ∙ rw q e)) in
+          sym (is-broken s at (sym t ∙ f) o)
 
       pub step-field : (e : ℕ) → p ≡ octet ":" → e ≡ (n + 1) + rawLength (drop (n + 1) s) → Field n (n + 1) e ≡ stepAt s at
       step-field e c z =

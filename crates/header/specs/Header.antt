@@ -30,7 +30,7 @@ cr = octet "\r"
 abbrev pub lf : ℕ
 lf = octet "\n"
 
--- "Lines end in CRLF or LF": x, with y behind it, is an octet of a line ending. A CR is only directly before an LF.
+-- "Lines end in CRLF or LF": x, with y behind it, is an octet of a line ending. A CR is one only directly before an LF.
 unfoldable pub ofEnding : ℕ → ℕ → Bool
 ofEnding x y = eqb x lf || (eqb x cr && eqb y lf)
 

@@ -1,5 +1,5 @@
 // Header blocks: the field that begins at a place, whether a whole block is readable, a value unfolded, and
-// multipart/report told. Each function's meaning is one definition of specs/Header.antt.
+// multipart/report told. What is right is said by specs/Header.antt; specs/Answers.antt leads from there to places.
 ghost use Prim.Native.Nat.{_+_, _≤_, _<_};
 ghost use mathlib.Core.Path.{_≡_};
 ghost use lib.ListN.{length, getD, drop};
@@ -108,7 +108,8 @@ fn over_at(block: &[u8], at: usize) -> bool
     ends_at(block, at)
 }
 
-// What stands at the place `at`, where a line begins.
+// What stands at the place `at`, where a line begins. A continuation with no field above has no name: neither space
+// nor tab is of one.
 pub fn field_at(block: &[u8], at: usize) -> Step
     ensures { λ r. ⌜ r ≡ stepAt (now (block .entry)) at ⌝ }
 {
@@ -152,7 +153,7 @@ pub fn readable(block: &[u8]) -> bool
     }
 }
 
-// Writes the value `raw` without its line endings over the beginning of `out`, and answers its length.
+// Writes the value `raw` without its line endings over the beginning of `out`, and answers how many octets that are.
 pub fn unfold(raw: &[u8], out: &mut [u8]) -> usize
     requires { ⌜ length (now raw) ≤ length (now out) ⌝ }
     ensures { λ r. ⌜ r ≡ length (unfolded (now (raw .entry))) ⌝ }
@@ -183,7 +184,7 @@ fn may_follow(s: &[u8], at: usize) -> bool
     within(x, Class::Blank) | (x == b';') | (x == b'(')
 }
 
-// Is the value of a Content-Type multipart/report?
+// Is the value of a Content-Type multipart/report, which has 16 octets?
 pub fn is_report(value: &[u8]) -> bool
     ensures { λ r. ⌜ r ≡ isReport (now (value .entry)) ⌝ }
 {
