@@ -17,6 +17,10 @@ class Answer(ctypes.Structure):
     _fields_ = [("kind", ctypes.c_uint64), ("value", ctypes.c_uint64)]
 
 
+class FieldPlaces(ctypes.Structure):
+    _fields_ = [(name, ctypes.c_uint64) for name in ("kind", "name_end", "value", "end")]
+
+
 class Lent:
     """A buffer that is lent for one call."""
 
@@ -124,3 +128,49 @@ class Probe:
     def effective_date(self, date: int | None, receipt: int) -> int:
         kinds = [ctypes.c_bool, ctypes.c_uint64, ctypes.c_uint64]
         return self._call("probe_effective_date", ctypes.c_uint64, kinds, date is not None, date or 0, receipt)
+
+    # header
+
+    def fields(self, block: bytes) -> list[tuple[bytes, bytes]] | None:
+        """The block's fields with their unfolded values, field by field; None: unreadable. The length limit is `readable`'s."""
+        found, at = [], 0
+        while True:
+            r = self._call("probe_field_at", FieldPlaces, _read + [_size], block, len(block), at)
+            if r.kind != 2:
+                return found if r.kind == 0 else None
+            if not at < r.name_end < r.value <= r.end <= len(block):
+                raise AssertionError(f"places out of order: {at} {r.name_end} {r.value} {r.end}")
+            kind, value = self.unfold(block[r.value : r.end], bytes(r.end - r.value))
+            found.append((block[at : r.name_end], value))
+            at = r.end
+
+    def readable(self, block: bytes) -> bool:
+        return self._call("probe_readable", ctypes.c_bool, _read, block, len(block))
+
+    def unfold(self, raw: bytes, out: bytes) -> tuple[int, bytes]:
+        """The kind, and the octets; the rest of the buffer must be as it was lent."""
+        lent = Lent(out)
+        r = self._call("probe_unfold", Answer, _read + _write, raw, len(raw), *lent.words())
+        after = lent.now()
+        if after[r.value :] != out[r.value :]:
+            raise AssertionError("the buffer past the value changed")
+        return r.kind, after[: r.value]
+
+    def is_report(self, value: bytes) -> bool:
+        return self._call("probe_is_report", ctypes.c_bool, _read, value, len(value))
+
+    # address
+
+    def is_plain(self, s: bytes) -> bool:
+        return self._call("probe_is_plain", ctypes.c_bool, _read, s, len(s))
+
+    def is_canonical(self, s: bytes) -> bool:
+        return self._call("probe_is_canonical", ctypes.c_bool, _read, s, len(s))
+
+    def same_address(self, a: bytes, b: bytes) -> bool:
+        return self._call("probe_same_address", ctypes.c_bool, _read + _read, a, len(a), b, len(b))
+
+    def canonical(self, s: bytes, out: bytes) -> tuple[int, int, bytes]:
+        lent = Lent(out)
+        r = self._call("probe_canonical", Answer, _read + _write, s, len(s), *lent.words())
+        return r.kind, r.value, lent.now()

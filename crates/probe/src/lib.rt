@@ -145,3 +145,90 @@ pub extern "C" fn probe_run_end(s: &[u8], at: usize, class: u8) -> usize {
         _ => tokens::run_end(s, at, tokens::Class::Atom),
     }
 }
+
+#[repr(C)]
+pub struct FieldPlaces {
+    pub kind: u64,
+    pub name_end: u64,
+    pub value: u64,
+    pub end: u64,
+}
+
+// kind 0: the block is over; 1: it is unreadable; 2: a field
+#[no_mangle]
+pub extern "C" fn probe_field_at(block: &[u8], at: usize) -> FieldPlaces {
+    match header::field_at(block, at) {
+        header::Step::Over => FieldPlaces {
+            kind: 0,
+            name_end: 0,
+            value: 0,
+            end: 0,
+        },
+        header::Step::Broken => FieldPlaces {
+            kind: 1,
+            name_end: 0,
+            value: 0,
+            end: 0,
+        },
+        header::Step::Field {
+            name_end,
+            value,
+            end,
+        } => FieldPlaces {
+            kind: 2,
+            name_end: name_end as u64,
+            value: value as u64,
+            end: end as u64,
+        },
+    }
+}
+
+#[no_mangle]
+pub extern "C" fn probe_readable(block: &[u8]) -> bool {
+    header::readable(block)
+}
+
+// kind 0: so many octets; 2: too little room
+#[no_mangle]
+pub extern "C" fn probe_unfold(raw: &[u8], out: &mut [u8]) -> Answer {
+    if out.len() < raw.len() {
+        return Answer { kind: 2, value: 0 };
+    }
+    let n = header::unfold(raw, out);
+    Answer {
+        kind: 0,
+        value: n as u64,
+    }
+}
+
+#[no_mangle]
+pub extern "C" fn probe_is_report(value: &[u8]) -> bool {
+    header::is_report(value)
+}
+
+#[no_mangle]
+pub extern "C" fn probe_is_plain(s: &[u8]) -> bool {
+    address::is_plain(s)
+}
+
+#[no_mangle]
+pub extern "C" fn probe_is_canonical(s: &[u8]) -> bool {
+    address::is_canonical(s)
+}
+
+#[no_mangle]
+pub extern "C" fn probe_same_address(a: &[u8], b: &[u8]) -> bool {
+    address::same_address(a, b)
+}
+
+// kind 0: so many octets; 2: too little room
+#[no_mangle]
+pub extern "C" fn probe_canonical(s: &[u8], out: &mut [u8]) -> Answer {
+    match address::canonical(s, out) {
+        address::Written::Length(n) => Answer {
+            kind: 0,
+            value: n as u64,
+        },
+        address::Written::NoRoom => Answer { kind: 2, value: 0 },
+    }
+}
