@@ -1,98 +1,71 @@
+-- `base64::closed_group` meets its contract: the laws of `Groups` answer every need. Assumes nothing.
+use Rattle.base64.proofs.Groups.{grouping}
 use Rattle.base64.proofs.closed_group.Statement.{statement}
 use Rattle.base64.proofs.closed_group.Tie as tie
-use Rattle.base64.proofs.closed_group.Reads as reads
-use Rattle.base64.proofs.closed_group.Lts as lts
-use Rattle.base64.proofs.one.Reads as one-reads
-use Rattle.base64.proofs.sign_of.Reads as sign-of-reads
-use Rattle.base64.proofs.three.Reads as three-reads
-use Rattle.base64.proofs.two.Reads as two-reads
-use Rattle.base64.proofs.Groups.{grouping}
 
--- src/lib.rt:112:11
 sign-of-requires : tie.Need-sign-of-requires
 sign-of-requires c κs = search grouping
 
--- src/lib.rt:113:21
 enum-known-r : tie.Need-enum-known-r
 enum-known-r c = search grouping
 
--- src/lib.rt:113:33
 sign-of-requires-2 : tie.Need-sign-of-requires-2
 sign-of-requires-2 c κs = search grouping
 
--- src/lib.rt:114:25
 enum-known-s : tie.Need-enum-known-s
 enum-known-s c = search grouping
 
--- src/lib.rt:114:31
 three-requires : tie.Need-three-requires
 three-requires c κs = search grouping
 
--- src/lib.rt:115:26
 enum-told : tie.Need-enum-told
 enum-told c = search grouping
 
--- src/lib.rt:115:26
 two-requires : tie.Need-two-requires
 two-requires c κs = search grouping
 
--- src/lib.rt:116:28
 enum-told-2 : tie.Need-enum-told-2
 enum-told-2 c = search grouping
 
--- src/lib.rt:118:28
 enum-told-3 : tie.Need-enum-told-3
 enum-told-3 c = search grouping
 
--- src/lib.rt:118:28
 sign-of-requires-3 : tie.Need-sign-of-requires-3
 sign-of-requires-3 c κs = search grouping
 
--- src/lib.rt:119:31
 enum-told-4 : tie.Need-enum-told-4
 enum-told-4 c = search grouping
 
--- src/lib.rt:120:26
 enum-told-5 : tie.Need-enum-told-5
 enum-told-5 c = search grouping
 
--- src/lib.rt:120:26
 one-requires : tie.Need-one-requires
 one-requires c κs = search grouping
 
--- src/lib.rt:121:28
 enum-told-6 : tie.Need-enum-told-6
 enum-told-6 c = search grouping
 
--- src/lib.rt:123:24
 enum-told-7 : tie.Need-enum-told-7
 enum-told-7 c = search grouping
 
--- src/lib.rt:108:1
 returns : tie.Need-returns
 returns c = search grouping
 
--- src/lib.rt:108:1
 returns-2 : tie.Need-returns-2
 returns-2 c = search grouping
 
--- src/lib.rt:108:1
 returns-3 : tie.Need-returns-3
 returns-3 c = search grouping
 
--- src/lib.rt:108:1
 returns-4 : tie.Need-returns-4
 returns-4 c = search grouping
 
--- src/lib.rt:108:1
 returns-5 : tie.Need-returns-5
 returns-5 c = search grouping
 
--- src/lib.rt:108:1
 returns-6 : tie.Need-returns-6
 returns-6 c = search grouping
 
--- src/lib.rt:108:1
 returns-7 : tie.Need-returns-7
 returns-7 c = search grouping
 
