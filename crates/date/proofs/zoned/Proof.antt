@@ -1,0 +1,67 @@
+use borrow.Author.Needs.{needs}
+use Rattle.date.proofs.zoned.Statement.{statement}
+use Rattle.date.proofs.zoned.Tie as tie
+use Rattle.date.proofs.zoned.Reads as reads
+use Rattle.date.proofs.zoned.Lts as lts
+use Rattle.date.proofs.above.Reads as above-reads
+use Rattle.date.proofs.next.Reads as next-reads
+
+-- src/lib.rt:139:11
+next-requires : tie.Need-next-requires
+next-requires c κs = search needs
+
+-- src/lib.rt:140:21
+enum-known-value : tie.Need-enum-known-value
+enum-known-value c = search needs
+
+-- src/lib.rt:141:20
+above-requires : tie.Need-above-requires
+above-requires c κs = search needs
+
+-- src/lib.rt:144:44
+enum-told : tie.Need-enum-told
+enum-told c = search needs
+
+-- src/lib.rt:144:32
+next-requires-2 : tie.Need-next-requires-2
+next-requires-2 c κs = search needs
+
+-- src/lib.rt:145:25
+enum-known-value-2 : tie.Need-enum-known-value-2
+enum-known-value-2 c = search needs
+
+-- src/lib.rt:146:24
+add-t15 : tie.Need-add-t15
+add-t15 c = search needs
+
+-- src/lib.rt:149:30
+enum-told-2 : tie.Need-enum-told-2
+enum-told-2 c = search needs
+
+-- src/lib.rt:135:1
+returns : tie.Need-returns
+returns c = search needs
+
+-- src/lib.rt:135:1
+returns-2 : tie.Need-returns-2
+returns-2 c = search needs
+
+-- src/lib.rt:135:1
+returns-3 : tie.Need-returns-3
+returns-3 c = search needs
+
+pub zoned-spec : {M : Type 1} → statement M
+zoned-spec =
+    tie.close
+    (tie.spec
+    next-requires
+    enum-known-value
+    above-requires
+    enum-told
+    next-requires-2
+    enum-known-value-2
+    add-t15
+    enum-told-2
+    returns
+    returns-2
+    returns-3)
