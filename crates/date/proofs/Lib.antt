@@ -1,1 +1,5 @@
-
+pub mod Counting
+pub mod Opened
+pub mod Digits
+pub mod Naming
+pub mod Meant

@@ -59,10 +59,13 @@ tokenAt (x ∷ s) = let n = further (openingOf x) s in token (x ∷ take n s) (d
 unfoldable pub firstToken : List ℕ → Token
 firstToken s = elim (skipped s) [ none ↦ unreadable | some rest ↦ tokenAt rest ]
 
+unfoldable pub digitOf : ℕ → Option ℕ
+digitOf x = elim (belongs Digit x) [ true ↦ some (x - octet "0") | false ↦ none ]
+
 -- the number that a run of digits stands for, n standing before it; none where an octet is no digit
 unfoldable pub valueFrom : ℕ → List ℕ → Option ℕ
 valueFrom n [] = some n
-valueFrom n (x ∷ s) = elim (belongs Digit x) [ true ↦ valueFrom (10 * n + (x - octet "0")) s | false ↦ none ]
+valueFrom n (x ∷ s) = elim (digitOf x) [ none ↦ none | some d ↦ valueFrom (10 * n + d) s ]
 
 -- no place of a date takes more than four digits
 unfoldable pub numberOf : List ℕ → Option ℕ
@@ -82,13 +85,16 @@ zoneNames = ascii "ESTEDTCSTCDTMSTMDTPSTPDT"
 abbrev pub zoneHours : List ℕ
 zoneHours = 5 ∷ 4 ∷ 6 ∷ 5 ∷ 7 ∷ 6 ∷ 8 ∷ 7 ∷ []
 
+unfoldable pub hereOr : Bool → ℕ → Option ℕ → Option ℕ
+hereOr true k later = some k
+hereOr false k later = later
+
 -- which of the names t is, the first one being k; none where it is none of them
 unfoldable pub placeFrom : ℕ → List ℕ → List ℕ → Option ℕ
 placeFrom k t [] = none
 placeFrom k t (a ∷ []) = none
 placeFrom k t (a ∷ b ∷ []) = none
-placeFrom k t (a ∷ b ∷ c ∷ names) =
-    elim (sameName t (a ∷ b ∷ c ∷ [])) [ true ↦ some k | false ↦ placeFrom (k + 1) t names ]
+placeFrom k t (a ∷ b ∷ c ∷ names) = hereOr (sameName t (a ∷ b ∷ c ∷ [])) k (placeFrom (k + 1) t names)
 
 abbrev pub placeIn : List ℕ → List ℕ → Option ℕ
 placeIn t names = placeFrom 0 t names

@@ -5,7 +5,7 @@ use tokens::Class;
 
 ghost use Prim.Native.Nat.{_≤_, _<_};
 ghost use mathlib.Core.Path.{_≡_};
-ghost use Rattle.date.specs.Date.{numberOf, placeIn, markOf, dayOf, monthOf, yearBy, yearOf, twoDigits, offsetBy, offsetOf, hoursWest, eastOf, westOf, meant as meantOf};
+ghost use Rattle.date.specs.Date.{digitOf, numberOf, placeIn, markOf, dayOf, monthOf, yearBy, yearOf, twoDigits, offsetBy, offsetOf, hoursWest, eastOf, westOf, meant as meantOf};
 ghost use Rattle.date.specs.Answers.{meaning as meaningOf};
 
 const ZONE_HOURS: [u64; 8] = [5, 4, 6, 5, 7, 6, 8, 7];
@@ -35,6 +35,15 @@ fn wide(x: u8) -> u64
     x as u64
 }
 
+fn digit(x: u8) -> Meaning
+    ensures { λ r. ⌜ r ≡ meaningOf (digitOf x) ⌝ }
+{
+    if tokens::within(Class::Digit, x) {
+        return Meaning::Value(wide(x) - 48);
+    }
+    Meaning::Nothing
+}
+
 // The number that a run of at most four digits stands for.
 fn number(run: &[u8]) -> Meaning
     ensures { λ r. ⌜ r ≡ meaningOf (numberOf (now (run .entry))) ⌝ }
@@ -45,12 +54,13 @@ fn number(run: &[u8]) -> Meaning
     let mut n: u64 = 0;
     let mut i = 0;
     while i < run.len() {
-        let x = run[i];
-        if !tokens::within(Class::Digit, x) {
-            return Meaning::Nothing;
+        match digit(run[i]) {
+            Meaning::Value(d) => {
+                n = 10 * n + d;
+                i += 1;
+            }
+            Meaning::Nothing => return Meaning::Nothing,
         }
-        n = 10 * n + (wide(x) - 48);
-        i += 1;
     }
     Meaning::Value(n)
 }

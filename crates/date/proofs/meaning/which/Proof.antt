@@ -1,67 +1,70 @@
-use borrow.Author.Needs.{needs}
+use Prim.Native.Nat.{_-_}
+use lib.ListN.{length}
+use Rattle.date.proofs.Naming.{Looked}
 use Rattle.date.proofs.meaning.which.Statement.{statement}
 use Rattle.date.proofs.meaning.which.Tie as tie
 use Rattle.date.proofs.meaning.which.Reads as reads
 use Rattle.date.proofs.meaning.which.Lts as lts
 use Rattle.octets.proofs.same_name.Reads as same-name-reads
+use Rattle.date.proofs.Naming.{looking}
 
 abbrev Inv-loop : tie.InvT-loop
-Inv-loop run names k₀ i₀ k i = ?
+Inv-loop run names k₀ i₀ k i = Looked run names k i
 
 abbrev μ-loop : tie.MeasureT-loop
-μ-loop run names k₀ i₀ k i = ?
+μ-loop run names k₀ i₀ k i = length names - i
 
--- src/meaning.rt:64:5
+-- src/meaning.rt:74:5
 loop-holds : tie.Need-loop-holds Inv-loop μ-loop
-loop-holds c = search needs
+loop-holds c = search looking
 
--- src/meaning.rt:64:16
+-- src/meaning.rt:74:16
 sub-loop : tie.Need-sub-loop Inv-loop μ-loop
-sub-loop c = search needs
+sub-loop c = search looking
 
--- src/meaning.rt:65:45
+-- src/meaning.rt:75:45
 add-same-name : tie.Need-add-same-name Inv-loop μ-loop
-add-same-name c = search needs
+add-same-name c = search looking
 
--- src/meaning.rt:65:35
+-- src/meaning.rt:75:35
 sub-same-name : tie.Need-sub-same-name Inv-loop μ-loop
-sub-same-name c = search needs
+sub-same-name c = search looking
 
--- src/meaning.rt:65:35
+-- src/meaning.rt:75:35
 part-same-name-start : tie.Need-part-same-name-start Inv-loop μ-loop
-part-same-name-start c = search needs
+part-same-name-start c = search looking
 
--- src/meaning.rt:65:35
+-- src/meaning.rt:75:35
 part-same-name-end : tie.Need-part-same-name-end Inv-loop μ-loop
-part-same-name-end c = search needs
+part-same-name-end c = search looking
 
--- src/meaning.rt:65:12
+-- src/meaning.rt:75:12
 same-name-requires : tie.Need-same-name-requires Inv-loop μ-loop
-same-name-requires c κs = search needs
+same-name-requires c κs = search looking
 
--- src/meaning.rt:66:13
+-- src/meaning.rt:76:13
 returns : tie.Need-returns Inv-loop μ-loop
-returns c = search needs
+returns c = search looking
 
--- src/meaning.rt:68:9
+-- src/meaning.rt:78:9
 add-k : tie.Need-add-k Inv-loop μ-loop
-add-k c = search needs
+add-k c = search looking
 
--- src/meaning.rt:69:9
+-- src/meaning.rt:79:9
 add-i : tie.Need-add-i Inv-loop μ-loop
-add-i c = search needs
+add-i c = search looking
 
--- src/meaning.rt:64:5
+-- src/meaning.rt:74:5
 loop-less : tie.Need-loop-less Inv-loop μ-loop
-loop-less c = search needs
+loop-less c = search looking
 
--- src/meaning.rt:64:5
+-- src/meaning.rt:74:5
 loop-again : tie.Need-loop-again Inv-loop μ-loop
-loop-again c = search needs
+loop-again c = search looking
 
--- src/meaning.rt:59:1
+-- src/meaning.rt:69:1
 returns-2 : tie.Need-returns-2 Inv-loop μ-loop
-returns-2 c = search needs
+returns-2 c = search looking
 
 pub which-spec : {M : Type 1} → statement M
 which-spec =
