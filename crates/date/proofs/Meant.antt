@@ -13,11 +13,13 @@ use mir.Val.{Fits}
 use mir.Syntax.{w64}
 use borrow.Author.Needs.{needs}
 use borrow.Author.Tests.{eq-eqb, ne-eqb, le-leb, lt-leb}
-use lib.ListN.{length, getD, drop}
+use lib.ListN.{length, getD, take, drop, length-drop}
+use lib.Seq.{take-all}
+use Rattle.tokens.specs.Tokens.{belongs}
 use Rattle.octets.specs.Octets.{sameOctets}
 use Rattle.date.specs.Date.{
   openingOf, numberOf, monthNames, zoneNames, zoneHours, placeIn, markOf, dayOf, monthOf, yearBy, yearOf, atMost, twoDigits, offsetBy,
-  offsetOf, hoursWest, eastOf, westOf, meant
+  offsetOf, hoursWest, kindOf, eastBy, westBy, meant
 }
 use Rattle.date.specs.Answers.{meaning}
 use Rattle.date.specs.declared.token.Opening.{Opening}
@@ -28,6 +30,10 @@ use Rattle.date.specs.declared.meaning.Meaning.the-variants.{Value, Noth
 use Rattle.date.proofs.Counting.{at-most}
 use Rattle.date.proofs.Digits.{value-is, nothing-is, number-small}
 use Rattle.date.proofs.Naming.{place-below}
+
+empty : (t : List ℕ) → length t ≡ 0 → t ≡ []
+empty [] h = refl
+empty (x ∷ t) h = absurd (omega arith)
 
 module _ (t mark : List ℕ) (b : Bool) (e : b ≡ sameOctets t mark) where
   pub mark-is : b ≡ true → Value 0 ≡ meaning (markOf t mark)
@@ -168,6 +174,31 @@ module _ (t : List ℕ) (r : Meaning) (e : r ≡ meaning (placeIn t zoneNames)) 
   hours-none q = rw (hoursWest, nothing-is (placeIn t zoneNames) r e q)
 
 pub ruleset hours = (hours-below, hours-index, hours-is, hours-few, hours-none, needs)
+
+module _ (t : List ℕ) where
+  pub east-empty : length t ≡ 0 → Nothing ≡ meaning (eastBy (kindOf t) t)
+  unfolding openingOf belongs eastBy meaning
+  east-empty h = rw (empty t h)
+
+  pub west-empty : length t ≡ 0 → Nothing ≡ meaning (westBy (kindOf t) t)
+  unfolding openingOf belongs westBy meaning
+  west-empty h = rw (empty t h)
+
+  pub behind-sign : (r : Meaning) → r ≡ meaning (offsetOf (take (length t - 1) (drop 1 t))) → r ≡ meaning (offsetOf (drop 1 t))
+  behind-sign r e = rw (take-all (length t - 1) (drop 1 t) (omega (arith, length-drop 1 t))) at e
+
+  module _ (g k : Opening) (e : g ≡ kindOf t) (q : g ≡ k) (r : Meaning) where
+    pub east-as : r ≡ meaning (eastBy k t) → r ≡ meaning (eastBy (kindOf t) t)
+    east-as h = rw (← e, q) h
+
+    pub west-as : r ≡ meaning (westBy k t) → r ≡ meaning (westBy (kindOf t) t)
+    west-as h = rw (← e, q) h
+
+pub west-named : (n m : ℕ) → n ≡ m → Value (3600 * n) ≡ meaning (some (3600 * m))
+unfolding meaning
+west-named n m e = rw e
+
+pub ruleset zones = (east-empty, west-empty, behind-sign, east-as, west-as, west-named, needs)
 
 pub meant-as : (p q : Place) (t : List ℕ) (r : Meaning) → p ≡ q → r ≡ meaning (meant q t) → r ≡ meaning (meant p t)
 meant-as p q t r e h = rw e h

@@ -148,23 +148,24 @@ offsetOf t =
 unfoldable pub hoursWest : List ℕ → ℕ
 hoursWest t = elim (placeIn t zoneNames) [ none ↦ 0 | some k ↦ getD zoneHours k 0 ]
 
--- how many seconds a zone lies east
-unfoldable pub eastOf : List ℕ → Option ℕ
-eastOf [] = none
-eastOf (x ∷ digits) =
-    elim (openingOf x) [ Number ↦ none | Word ↦ none | Plus ↦ offsetOf digits | Minus ↦ none | Mark ↦ none ]
+-- how many seconds a zone t lies east, by what it opens with
+unfoldable pub eastBy : Opening → List ℕ → Option ℕ
+eastBy Number t = none
+eastBy Word t = none
+eastBy Plus t = offsetOf (drop 1 t)
+eastBy Minus t = none
+eastBy Mark t = none
 
--- how many seconds a zone lies west
-unfoldable pub westOf : List ℕ → Option ℕ
-westOf [] = none
-westOf (x ∷ rest) =
-    elim (openingOf x) [
-      Number ↦ none
-    | Word ↦ some (3600 * hoursWest (x ∷ rest))
-    | Plus ↦ none
-    | Minus ↦ offsetOf rest
-    | Mark ↦ none
-    ]
+-- how many seconds a zone t lies west
+unfoldable pub westBy : Opening → List ℕ → Option ℕ
+westBy Number t = none
+westBy Word t = some (3600 * hoursWest t)
+westBy Plus t = none
+westBy Minus t = offsetOf (drop 1 t)
+westBy Mark t = none
+
+abbrev pub kindOf : List ℕ → Opening
+kindOf t = openingOf (getD t 0 0)
 
 -- what a token means at a place of a date; none: it may not stand there
 unfoldable pub meant : Place → List ℕ → Option ℕ
@@ -175,8 +176,8 @@ meant Month t = monthOf t
 meant Year t = yearOf t
 meant (UpTo most) t = twoDigits most t
 meant Colon t = markOf t (ascii ":")
-meant East t = eastOf t
-meant West t = westOf t
+meant East t = eastBy (kindOf t) t
+meant West t = westBy (kindOf t) t
 
 -- a number, and the octets that are left; or what was looked for is missing
 pub data Read : Type 0 where
