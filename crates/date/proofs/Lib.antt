@@ -3,3 +3,5 @@ pub mod Opened
 pub mod Digits
 pub mod Naming
 pub mod Meant
+pub mod Finding
+pub mod Reading
