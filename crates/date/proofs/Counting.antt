@@ -66,7 +66,7 @@ leapDay-small year = go (leap year) refl
 pub month-table : (month : ℕ) → getD monthLengths (month - 1) 0 ≤ 31
 month-table month = at-most 31 monthLengths (omega arith) (month - 1)
 
-monthLength-small : (year month : ℕ) → monthLength year month ≤ 31
+pub monthLength-small : (year month : ℕ) → monthLength year month ≤ 31
 unfolding monthLength
 monthLength-small year month = go (eqb month 2) refl
   where

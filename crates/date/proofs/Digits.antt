@@ -2,14 +2,15 @@
 --     value-is, nothing-is       an answer of the code, and the number that the definition gives
 --     digit-..                   one digit
 --     Valued                     the loop's invariant: the number of the octets passed, then the definition of what is left
---     number-small               a number of at most four digits is at most 9999
+--     only-if-..                 where a definition has an answer, its tests hold
+--     number-below, number-small     how large a number of so many digits is
 -- Assumes nothing.
 use Prim.Native.Nat.{ℕ, zero, suc, _+_, _-_, _*_, _^_, _≤_, _<_}
 use mathlib.Core.Path.{_≡_, refl, sym, ap, _∙_}
 use mathlib.Core.Bool.{Bool, true, false, _&&_}
 use mathlib.Core.List.{List, [], _∷_}
-use mathlib.Core.Option.{Option, some, none}
-use native.Mathlib.Nat.{pow-le-pow-right, pow-succ'}
+use mathlib.Core.Option.{Option, some, none, bind}
+use native.Mathlib.Nat.{add-zero, zero-add, pow-le-pow-right, pow-succ'}
 use native.Mathlib.Numerals.{add-one}
 use native.Mathlib.Omega.{arith}
 use mir.Val.{Fits}
@@ -21,7 +22,7 @@ use lib.ListN.{length, getD, drop}
 use Rattle.octets.proofs.Lists.{drop-one, drop-done}
 use Rattle.tokens.specs.Tokens.{belongs}
 use Rattle.tokens.specs.declared.Class.the-variants.{Digit}
-use Rattle.date.specs.Date.{digitOf, valueFrom, numberOf}
+use Rattle.date.specs.Date.{onlyIf, digitOf, valueFrom, numberOf}
 use Rattle.date.specs.Answers.{meaning}
 use Rattle.date.specs.declared.meaning.Meaning.{Meaning}
 use Rattle.date.specs.declared.meaning.Meaning.the-variants.{Value, Nothing}
@@ -37,11 +38,22 @@ unfolding meaning
 nothing-is none r e q = refl
 nothing-is (some m) r e q = cc
 
-both-left : (a b : Bool) → a && b ≡ true → a ≡ true
+-- where a definition has an answer, its tests hold
+pub only-if-true : (b : Bool) (o : Option ℕ) (n : ℕ) → onlyIf b o ≡ some n → b ≡ true
+unfolding onlyIf
+only-if-true true o n e = refl
+only-if-true false o n e = cc
+
+pub only-if-some : (b : Bool) (o : Option ℕ) (n : ℕ) → onlyIf b o ≡ some n → o ≡ some n
+unfolding onlyIf
+only-if-some true o n e = e
+only-if-some false o n e = cc
+
+pub both-left : (a b : Bool) → a && b ≡ true → a ≡ true
 both-left true b e = refl
 both-left false b e = e
 
-both-right : (a b : Bool) → a && b ≡ true → b ≡ true
+pub both-right : (a b : Bool) → a && b ≡ true → b ≡ true
 both-right true b e = e
 both-right false b e = cc
 
@@ -55,22 +67,20 @@ module _ (x : ℕ) (b : Bool) (e : b ≡ belongs Digit x) where
   digit-above w p q = omega (arith, digit-range x (sym e ∙ q))
 
   pub digit-is : (w : ℕ) → w ≡ x → b ≡ true → Value (w - 48) ≡ meaning (digitOf x)
-  unfolding digitOf meaning
-  digit-is w p q = rw (digitOf, sym e ∙ q, p)
+  unfolding digitOf onlyIf meaning
+  digit-is w p q = rw (sym e ∙ q, p)
 
   pub digit-none : b ≡ false → Nothing ≡ meaning (digitOf x)
-  unfolding digitOf meaning
-  digit-none q = rw (digitOf, sym e ∙ q)
+  unfolding digitOf onlyIf meaning
+  digit-none q = rw (sym e ∙ q)
 
 pub ruleset one-digit = (digit-above, digit-is, digit-none, needs)
 
-pub digit-small : (x d : ℕ) → digitOf x ≡ some d → d ≤ 9
+digit-small : (x d : ℕ) → digitOf x ≡ some d → d ≤ 9
 unfolding digitOf
-digit-small x d = go (belongs Digit x) refl
-  where
-    go : (b : Bool) → belongs Digit x ≡ b → digitOf x ≡ some d → d ≤ 9
-    go true e h = let p : x - 48 ≡ d = cc (rw (digitOf, e) at h) in omega (arith, digit-range x e)
-    go false e h = let z : _≡_ {A = ℕ} 0 1 = cc (rw (digitOf, e) at h) in absurd (omega arith)
+digit-small x d e =
+    let p : x - 48 ≡ d = cc (only-if-some (belongs Digit x) (some (x - 48)) d e) in
+    omega (arith, digit-range x (only-if-true (belongs Digit x) (some (x - 48)) d e))
 
 -- one digit more: the number stays below the next power of ten
 digit-more : (n i d : ℕ) → n < 10 ^ i → d ≤ 9 → 10 * n + d < 10 ^ (i + 1)
@@ -90,13 +100,13 @@ pub value-begin : (t : List ℕ) → length t ≤ 4 → Valued t 0 0
 value-begin t h = record { upto = omega arith; few = h; room = omega arith; so-far = refl }
 
 pub number-long : (t : List ℕ) → 4 < length t → Nothing ≡ meaning (numberOf t)
-unfolding numberOf meaning
-number-long t h = rw (numberOf, lt-leb (length t) 4 h)
+unfolding numberOf onlyIf meaning
+number-long t h = rw (lt-leb (length t) 4 h)
 
 module _ (t : List ℕ) (i n : ℕ) (h : Valued t i n) where
   number-as : (o : Option ℕ) → valueFrom n (drop i t) ≡ o → numberOf t ≡ o
-  unfolding numberOf
-  number-as o e = rw (numberOf, le-leb (length t) 4 (h .few)) (h .so-far ∙ e)
+  unfolding numberOf onlyIf
+  number-as o e = rw (le-leb (length t) 4 (h .few)) (h .so-far ∙ e)
 
   pub value-end : length t ≤ i → Value n ≡ meaning (numberOf t)
   unfolding valueFrom meaning
@@ -104,8 +114,8 @@ module _ (t : List ℕ) (i n : ℕ) (h : Valued t i n) where
 
   module _ (l : i < length t) (r : Meaning) (e : r ≡ meaning (digitOf (getD t i 0))) where
     pub value-stop : r ≡ Nothing → Nothing ≡ meaning (numberOf t)
-    unfolding valueFrom meaning
-    value-stop q = rw (number-as none (rw (drop-one t i l, valueFrom, nothing-is (digitOf (getD t i 0)) r e q)))
+    unfolding valueFrom bind meaning
+    value-stop q = rw (number-as none (rw (drop-one t i l, nothing-is (digitOf (getD t i 0)) r e q)))
 
     module _ (d : ℕ) (q : r ≡ Value d) where
       small : 10 * n + d < 10 ^ (i + 1)
@@ -118,31 +128,36 @@ module _ (t : List ℕ) (i n : ℕ) (h : Valued t i n) where
       value-ten = record { fits = omega (arith, value-fits .fits) }
 
       pub value-on : Valued t (i + 1) (10 * n + d)
-      unfolding valueFrom
+      unfolding valueFrom bind
       value-on = record {
         upto = omega arith;
         few = h .few;
         room = small;
-        so-far = h .so-far ∙ rw (drop-one t i l, valueFrom, value-is (digitOf (getD t i 0)) r d e q);
+        so-far = h .so-far ∙ rw (drop-one t i l, value-is (digitOf (getD t i 0)) r d e q);
       }
 
 pub ruleset valuing = (number-long, value-begin, value-end, value-stop, value-fits, value-ten, value-on, needs)
 
-value-small : (t : List ℕ) (i n m : ℕ) → n < 10 ^ i → i + length t ≤ 4 → valueFrom n t ≡ some m → m ≤ 9999
-unfolding valueFrom
-value-small [] i n m h l e = let p : n ≡ m = cc in omega (arith, four-digits n i h (omega arith))
-value-small (x ∷ t) i n m h l e = go (digitOf x) refl (λ d. value-small t (i + 1) (10 * n + d) m)
+value-below : (t : List ℕ) (i n m : ℕ) → n < 10 ^ i → valueFrom n t ≡ some m → m < 10 ^ (i + length t)
+unfolding valueFrom bind
+value-below [] i n m h e = let p : n ≡ m = cc in rw (add-zero, ← p) h
+value-below (x ∷ t) i n m h e = go (digitOf x) refl (λ d. value-below t (i + 1) (10 * n + d) m)
   where
     go :
         (o : Option ℕ) → digitOf x ≡ o
-        → ((d : ℕ) → 10 * n + d < 10 ^ (i + 1) → i + 1 + length t ≤ 4 → valueFrom (10 * n + d) t ≡ some m → m ≤ 9999) → m ≤ 9999
-    go none p rest = let z : _≡_ {A = ℕ} 0 1 = cc (rw (valueFrom, p) at e) in absurd (omega arith)
-    go (some d) p rest = rest d (digit-more n i d h (digit-small x d p)) (omega arith) (rw (valueFrom, p) at e)
+        → ((d : ℕ) → 10 * n + d < 10 ^ (i + 1) → valueFrom (10 * n + d) t ≡ some m → m < 10 ^ (i + 1 + length t))
+        → m < 10 ^ (i + suc (length t))
+    go none p rest = let z : _≡_ {A = ℕ} 0 1 = cc (rw p at e) in absurd (omega arith)
+    go (some d) p rest =
+        let w : i + suc (length t) ≡ i + 1 + length t = omega arith in
+        rw w (rest d (digit-more n i d h (digit-small x d p)) (rw p at e))
+
+-- a number of so many digits
+pub number-below : (t : List ℕ) (n : ℕ) → numberOf t ≡ some n → n < 10 ^ length t
+unfolding numberOf
+number-below t n e = rw zero-add at (value-below t 0 0 n (omega arith) (only-if-some (leb (length t) 4) _ n e))
 
 pub number-small : (t : List ℕ) (n : ℕ) → numberOf t ≡ some n → n ≤ 9999
 unfolding numberOf
-number-small t n = go (leb (length t) 4) refl
-  where
-    go : (b : Bool) → leb (length t) 4 ≡ b → numberOf t ≡ some n → n ≤ 9999
-    go true p e = value-small t 0 0 n (omega arith) (omega (arith, leb-true (length t) 4 p)) (rw (numberOf, p) at e)
-    go false p e = let z : _≡_ {A = ℕ} 0 1 = cc (rw (numberOf, p) at e) in absurd (omega arith)
+number-small t n e =
+    four-digits n (length t) (number-below t n e) (leb-true (length t) 4 (only-if-true (leb (length t) 4) (valueFrom 0 t) n e))

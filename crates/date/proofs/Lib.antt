@@ -5,3 +5,4 @@ pub mod Naming
 pub mod Meant
 pub mod Finding
 pub mod Reading
+pub mod Ranges

@@ -10,7 +10,7 @@
 use Prim.Native.Nat.{ℕ, _+_, _-_, _*_, _/_, _%_, min}
 use mathlib.Core.Bool.{Bool, true, false, _&&_}
 use mathlib.Core.List.{List, [], _∷_}
-use mathlib.Core.Option.{Option, some, none}
+use mathlib.Core.Option.{Option, some, none, bind}
 use lib.Dec.{leb, ltb, eqb}
 use lib.ListN.{length, getD, take, drop}
 use Rattle.octets.specs.Octets.{ascii, octet, sameOctets, sameName}
@@ -59,17 +59,22 @@ tokenAt (x ∷ s) = let n = further (openingOf x) s in token (x ∷ take n s) (d
 unfoldable pub firstToken : List ℕ → Token
 firstToken s = elim (skipped s) [ none ↦ unreadable | some rest ↦ tokenAt rest ]
 
+-- the number, where the test holds
+unfoldable pub onlyIf : Bool → Option ℕ → Option ℕ
+onlyIf true o = o
+onlyIf false o = none
+
 unfoldable pub digitOf : ℕ → Option ℕ
-digitOf x = elim (belongs Digit x) [ true ↦ some (x - octet "0") | false ↦ none ]
+digitOf x = onlyIf (belongs Digit x) (some (x - octet "0"))
 
 -- the number that a run of digits stands for, n standing before it; none where an octet is no digit
 unfoldable pub valueFrom : ℕ → List ℕ → Option ℕ
 valueFrom n [] = some n
-valueFrom n (x ∷ s) = elim (digitOf x) [ none ↦ none | some d ↦ valueFrom (10 * n + d) s ]
+valueFrom n (x ∷ s) = bind (digitOf x) (λ d. valueFrom (10 * n + d) s)
 
 -- no place of a date takes more than four digits
 unfoldable pub numberOf : List ℕ → Option ℕ
-numberOf t = elim (leb (length t) 4) [ true ↦ valueFrom 0 t | false ↦ none ]
+numberOf t = onlyIf (leb (length t) 4) (valueFrom 0 t)
 
 -- "Day and month names have three letters; names and zones are in any case."
 abbrev pub dayNames : List ℕ
@@ -101,48 +106,37 @@ placeIn t names = placeFrom 0 t names
 
 -- a mark means nothing but itself
 unfoldable pub markOf : List ℕ → List ℕ → Option ℕ
-markOf t mark = elim (sameOctets t mark) [ true ↦ some 0 | false ↦ none ]
+markOf t mark = onlyIf (sameOctets t mark) (some 0)
 
 -- "Day has 1 or 2 digits"
 unfoldable pub dayOf : List ℕ → Option ℕ
-dayOf t = elim (leb (length t) 2) [ true ↦ numberOf t | false ↦ none ]
+dayOf t = onlyIf (leb (length t) 2) (numberOf t)
 
 -- the months count from 1
 unfoldable pub monthOf : List ℕ → Option ℕ
-monthOf t = elim (placeIn t monthNames) [ none ↦ none | some k ↦ some (k + 1) ]
+monthOf t = bind (placeIn t monthNames) (λ k. some (k + 1))
 
 -- "Years: two digits 00-49 add 2000, 50-99 add 1900, three digits add 1900, four digits from 1900."
 unfoldable pub yearBy : ℕ → ℕ → Option ℕ
 yearBy width n =
     elim (eqb width 2) [
       true ↦ elim (leb n 49) [ true ↦ some (n + 2000) | false ↦ some (n + 1900) ]
-    | false ↦ elim (eqb width 3) [
-        true ↦ some (n + 1900)
-      | false ↦ elim (eqb width 4 && leb 1900 n) [ true ↦ some n | false ↦ none ]
-      ]
+    | false ↦ elim (eqb width 3) [ true ↦ some (n + 1900) | false ↦ onlyIf (eqb width 4 && leb 1900 n) (some n) ]
     ]
 
 unfoldable pub yearOf : List ℕ → Option ℕ
-yearOf t = elim (numberOf t) [ none ↦ none | some n ↦ yearBy (length t) n ]
-
-unfoldable pub atMost : ℕ → Option ℕ → Option ℕ
-atMost most none = none
-atMost most (some n) = elim (leb n most) [ true ↦ some n | false ↦ none ]
+yearOf t = bind (numberOf t) (λ n. yearBy (length t) n)
 
 -- "hours go to 23, minutes to 59, seconds to 60, two digits each"
 unfoldable pub twoDigits : ℕ → List ℕ → Option ℕ
-twoDigits most t = elim (eqb (length t) 2) [ true ↦ atMost most (numberOf t) | false ↦ none ]
+twoDigits most t = onlyIf (eqb (length t) 2) (bind (numberOf t) (λ n. onlyIf (leb n most) (some n)))
 
 -- "Zones: sign and four digits, minutes to 59": the seconds that the digits stand for
 unfoldable pub offsetBy : ℕ → Option ℕ
-offsetBy n = elim (leb (n % 100) 59) [ true ↦ some (3600 * (n / 100) + 60 * (n % 100)) | false ↦ none ]
+offsetBy n = onlyIf (leb (n % 100) 59) (some (3600 * (n / 100) + 60 * (n % 100)))
 
 unfoldable pub offsetOf : List ℕ → Option ℕ
-offsetOf t =
-    elim (eqb (length t) 4) [
-      true ↦ elim (numberOf t) [ none ↦ none | some n ↦ offsetBy n ]
-    | false ↦ none
-    ]
+offsetOf t = onlyIf (eqb (length t) 4) (bind (numberOf t) (λ n. offsetBy n))
 
 -- "other letters 0", UT and GMT among them
 unfoldable pub hoursWest : List ℕ → ℕ
@@ -203,8 +197,7 @@ optional opening closing s = elim (next opening s) [ got n rest ↦ next closing
 
 -- "Day .. must exist in the month": the days since 1 January 1900
 unfoldable pub existing : ℕ → ℕ → ℕ → Option ℕ
-existing year month day =
-    elim (leb 1 day && leb day (monthLength year month)) [ true ↦ some (dayCount year month day) | false ↦ none ]
+existing year month day = onlyIf (leb 1 day && leb day (monthLength year month)) (some (dayCount year month day))
 
 -- `day month year`
 unfoldable pub calendarDay : List ℕ → Read

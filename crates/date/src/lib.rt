@@ -7,7 +7,7 @@ pub mod token; // the tokens of a date
 use meaning::{Meaning, Place};
 use token::Found;
 
-ghost use Prim.Native.Nat.{_+_, _-_, _≤_};
+ghost use Prim.Native.Nat.{_+_, _-_, _*_, _≤_};
 ghost use mathlib.Core.Path.{_≡_};
 ghost use lib.ListN.{drop};
 ghost use Rattle.date.specs.Date.{next as nextOf, optional as optionalOf, existing as existingOf, calendarDay, timeOfDay, localTime, zoned as zonedOf, ended as endedOf, dateOf, effectiveDate, got};
@@ -86,6 +86,13 @@ fn calendar_day(s: &[u8], at: usize) -> Part
     }
 }
 
+fn clock(hours: u64, minutes: u64, seconds: u64) -> u64
+    requires { ⌜ (hours ≤ 23) × (minutes ≤ 59) × (seconds ≤ 60) ⌝ }
+    ensures { λ r. ⌜ r ≡ 3600 * hours + 60 * minutes + seconds ⌝ }
+{
+    3600 * hours + 60 * minutes + seconds
+}
+
 // `hh:mm[:ss]`: the seconds since midnight.
 fn time_of_day(s: &[u8], at: usize) -> Part
     ensures { λ r. ⌜ readIn (now (s .entry)) r ≡ timeOfDay (drop at (now (s .entry))) ⌝ }
@@ -103,9 +110,16 @@ fn time_of_day(s: &[u8], at: usize) -> Part
         return Part::Missing;
     };
     Part::Got {
-        value: 3600 * hours + 60 * minutes + seconds,
+        value: clock(hours, minutes, seconds),
         to,
     }
+}
+
+fn seconds_of(days: u64, seconds: u64) -> u64
+    requires { ⌜ (days ≤ 3000000) × (seconds ≤ 86400) ⌝ }
+    ensures { λ r. ⌜ r ≡ 86400 * days + seconds ⌝ }
+{
+    86400 * days + seconds
 }
 
 // `day month year hh:mm[:ss]`: the seconds since 1900, as the zone's own clock has them.
@@ -119,7 +133,7 @@ fn local_time(s: &[u8], at: usize) -> Part
         return Part::Missing;
     };
     Part::Got {
-        value: 86400 * days + seconds,
+        value: seconds_of(days, seconds),
         to,
     }
 }
