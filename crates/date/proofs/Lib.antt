@@ -6,3 +6,4 @@ pub mod Meant
 pub mod Finding
 pub mod Reading
 pub mod Ranges
+pub mod Parts

@@ -28,7 +28,7 @@ use Rattle.date.proofs.Digits.{value-is, nothing-is}
 
 -- what an answer of `token` says of the text u that is left
 module _ (s u : List ℕ) (g : Found) (e : tokenIn s g ≡ firstToken u) where
-  first-between : (from to : ℕ) → g ≡ Between from to → firstToken u ≡ token (take (to - from) (drop from s)) (drop to s)
+  pub first-between : (from to : ℕ) → g ≡ Between from to → firstToken u ≡ token (take (to - from) (drop from s)) (drop to s)
   unfolding tokenIn
   first-between from to q = sym e ∙ rw q
 
