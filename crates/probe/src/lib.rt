@@ -146,6 +146,24 @@ pub extern "C" fn probe_run_end(s: &[u8], at: usize, class: u8) -> usize {
     }
 }
 
+// kind 0: seconds since 1970; 1: unavailable
+#[no_mangle]
+pub extern "C" fn probe_date(value: &[u8]) -> Answer {
+    match date::date(value) {
+        date::Dated::Available(n) => Answer { kind: 0, value: n },
+        date::Dated::Unavailable => Answer { kind: 1, value: 0 },
+    }
+}
+
+#[no_mangle]
+pub extern "C" fn probe_effective_date(available: bool, seconds: u64, receipt: u64) -> u64 {
+    if available {
+        date::effective_date(date::Dated::Available(seconds), receipt)
+    } else {
+        date::effective_date(date::Dated::Unavailable, receipt)
+    }
+}
+
 #[repr(C)]
 pub struct FieldPlaces {
     pub kind: u64,
