@@ -18,8 +18,26 @@ use lib.Seq.{take-all}
 use Rattle.tokens.specs.Tokens.{belongs}
 use Rattle.octets.specs.Octets.{sameOctets}
 use Rattle.date.specs.Date.{
-  openingOf, numberOf, monthNames, zoneNames, zoneHours, placeIn, markOf, dayOf, monthOf, yearBy, yearOf, onlyIf, twoDigits, offsetBy,
-  offsetOf, hoursWest, kindOf, eastBy, westBy, meant
+  openingOf,
+  numberOf,
+  monthNames,
+  zoneNames,
+  zoneHours,
+  placeIn,
+  markOf,
+  dayOf,
+  monthOf,
+  yearBy,
+  yearOf,
+  onlyIf,
+  twoDigits,
+  offsetBy,
+  offsetOf,
+  hoursWest,
+  kindOf,
+  eastBy,
+  westBy,
+  meant,
 }
 use Rattle.date.specs.Answers.{meaning}
 use Rattle.date.specs.declared.token.Opening.{Opening}
@@ -151,7 +169,9 @@ unfolding offsetBy onlyIf meaning
 offset-none n h = rw (lt-leb (n % 100) 59 h)
 
 pub ruleset years = (year-new, year-old, year-three, year-none, year-early, year-four, number-fits, year-is, year-no-number, needs)
+
 pub ruleset twos = (two-width, two-is, two-above, two-no-number, needs)
+
 pub ruleset offsets = (offset-width, offset-is, offset-no-number, offset-minutes, offset-none, number-fits, needs)
 
 module _ (t : List ℕ) (r : Meaning) (e : r ≡ meaning (placeIn t zoneNames)) where

@@ -18,7 +18,19 @@ use borrow.Author.Tests.{le-leb, lt-leb}
 use lib.ListN.{length, drop}
 use Rattle.date.specs.Calendar.{leap, leapDay, monthLength, yearDays, monthDays, dayCount}
 use Rattle.date.specs.Date.{
-  onlyIf, Read, got, missing, firstToken, readOf, andThen, next, existing, zoned, epoch, ended, effectiveDate
+  onlyIf,
+  Read,
+  got,
+  missing,
+  firstToken,
+  readOf,
+  andThen,
+  next,
+  existing,
+  zoned,
+  epoch,
+  ended,
+  effectiveDate,
 }
 use Rattle.date.specs.Answers.{datedOf, optionOf, meaning, tokenIn, readIn}
 use Rattle.date.specs.declared.token.Found.{Found}

@@ -16,9 +16,38 @@ use lib.Dec.{leb, eqb}
 use lib.ListN.{length, getD, drop}
 use Rattle.date.specs.Calendar.{monthLength, dayCount}
 use Rattle.date.specs.Date.{
-  onlyIf, numberOf, monthNames, zoneNames, zoneHours, placeIn, monthOf, yearBy, yearOf, twoDigits, offsetBy, offsetOf, hoursWest, westBy,
-  kindOf, meant, Token, token, end, unreadable, firstToken, Read, got, missing, readOf, andThen, next, optional, existing, calendarDay,
-  timeOfDay, localTime
+  onlyIf,
+  numberOf,
+  monthNames,
+  zoneNames,
+  zoneHours,
+  placeIn,
+  monthOf,
+  yearBy,
+  yearOf,
+  twoDigits,
+  offsetBy,
+  offsetOf,
+  hoursWest,
+  westBy,
+  kindOf,
+  meant,
+  Token,
+  token,
+  end,
+  unreadable,
+  firstToken,
+  Read,
+  got,
+  missing,
+  readOf,
+  andThen,
+  next,
+  optional,
+  existing,
+  calendarDay,
+  timeOfDay,
+  localTime,
 }
 use Rattle.date.specs.Answers.{readIn}
 use Rattle.date.specs.declared.token.Opening.{Opening}
@@ -63,6 +92,7 @@ year-by width m n h l e = two (eqb width 2) refl
         let q : m + 1900 ≡ n = cc (rw (yearBy, eq-eqb width 2 w, p) at e) in
         let k : m < 10 ^ 2 = rw w at h in
         omega arith
+
     three : (b : Bool) → eqb width 3 ≡ b → eqb width 2 ≡ false → (1900 ≤ n) × (n ≤ 9999)
     three true p w =
         let q : m + 1900 ≡ n = cc (rw (yearBy, w, p) at e) in
@@ -72,6 +102,7 @@ year-by width m n h l e = two (eqb width 2) refl
         let o : onlyIf (eqb width 4 && leb 1900 m) (some m) ≡ some n = rw (yearBy, w, p) at e in
         let q : m ≡ n = cc (only-if-some (eqb width 4 && leb 1900 m) (some m) n o) in
         omega (arith, leb-true 1900 m (both-right (eqb width 4) (leb 1900 m) (only-if-true _ (some m) n o)))
+
     two : (b : Bool) → eqb width 2 ≡ b → (1900 ≤ n) × (n ≤ 9999)
     two true p = new (leb m 49) refl (eqb-true width 2 p)
     two false p = three (eqb width 3) refl p

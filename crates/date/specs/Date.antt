@@ -27,12 +27,12 @@ use Rattle.date.specs.declared.meaning.Place.the-variants.{DayName, Comm
 unfoldable pub openingOf : ℕ → Opening
 openingOf x =
     elim (belongs Digit x) [
-      true ↦ Number
-    | false ↦ elim (belongs Letter x) [
-        true ↦ Word
-      | false ↦ elim (eqb x (octet "+")) [
-          true ↦ Plus
-        | false ↦ elim (eqb x (octet "-")) [ true ↦ Minus | false ↦ Mark ]
+      | true ↦ Number
+      | false ↦ elim (belongs Letter x) [
+        | true ↦ Word
+        | false ↦ elim (eqb x (octet "+")) [
+          | true ↦ Plus
+          | false ↦ elim (eqb x (octet "-")) [ true ↦ Minus | false ↦ Mark ]
         ]
       ]
     ]
@@ -120,8 +120,8 @@ monthOf t = bind (placeIn t monthNames) (λ k. some (k + 1))
 unfoldable pub yearBy : ℕ → ℕ → Option ℕ
 yearBy width n =
     elim (eqb width 2) [
-      true ↦ elim (leb n 49) [ true ↦ some (n + 2000) | false ↦ some (n + 1900) ]
-    | false ↦ elim (eqb width 3) [ true ↦ some (n + 1900) | false ↦ onlyIf (eqb width 4 && leb 1900 n) (some n) ]
+      | true ↦ elim (leb n 49) [ true ↦ some (n + 2000) | false ↦ some (n + 1900) ]
+      | false ↦ elim (eqb width 3) [ true ↦ some (n + 1900) | false ↦ onlyIf (eqb width 4 && leb 1900 n) (some n) ]
     ]
 
 unfoldable pub yearOf : List ℕ → Option ℕ
@@ -225,8 +225,8 @@ localTime s = andThen (calendarDay s) (λ days a. andThen (timeOfDay a) (λ seco
 unfoldable pub zoned : ℕ → List ℕ → Read
 zoned local s =
     elim (next East s) [
-      got offset rest ↦ got (local - offset) rest
-    | missing ↦ andThen (next West s) (λ offset rest. got (local + offset) rest)
+      | got offset rest ↦ got (local - offset) rest
+      | missing ↦ andThen (next West s) (λ offset rest. got (local + offset) rest)
     ]
 
 -- the seconds from 1900 to 1970

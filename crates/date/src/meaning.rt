@@ -1,8 +1,7 @@
 // What a token means at each place of a date: numbers of few digits, names of three letters, marks and zones.
-use crate::token::Opening;
 use crate::token;
+use crate::token::Opening;
 use tokens::Class;
-
 ghost use Prim.Native.Nat.{_≤_, _<_};
 ghost use mathlib.Core.Path.{_≡_};
 ghost use Rattle.date.specs.Date.{digitOf, numberOf, placeIn, markOf, dayOf, monthOf, yearBy, yearOf, twoDigits, offsetBy, offsetOf, hoursWest, kindOf, eastBy, westBy, meant as meantOf};
