@@ -1,6 +1,6 @@
 -- The grammar's table, as the code's `match`es go by it.
 --     row               the table at each place of the grammar
---     told, told-inside     what the sort of a token is told to be decides
+--     told-any .. told-address     what is known of the place, the token and the group decides
 --     others-wrong      the sorts that a `_` stands for, given by their numbers, are wrong
 -- Assumes nothing.
 use Prim.Native.Nat.{ℕ}
@@ -12,13 +12,13 @@ use borrow.Author.Needs.{needs}
 use denote.Enum.Declared.{tagOf}
 use lib.ListN.{getD}
 use types.Run.{OneOf}
-use Rattle.list.specs.List.{atPlace, atOpened, atPhrase, atAngle, atClosing, atBehind, after, mayEnd}
+use Rattle.list.specs.List.{atPlace, atOpened, atPhrase, atAngle, atClosing, atBehind, after, afterAddress}
 use Rattle.list.specs.declared.token.Sort.{Sort}
-use Rattle.list.specs.declared.token.Sort.the-variants.{Word, Address, Less, Greater, Comma, Colon, Semicolon}
+use Rattle.list.specs.declared.token.Sort.the-variants.{Word, Less, Greater, Comma, Colon, Semicolon}
 use Rattle.list.specs.declared.grammar.Stage.{Stage}
 use Rattle.list.specs.declared.grammar.Stage.the-variants.{Place, Opened, Phrase, Angle, Closing, Behind}
 use Rattle.list.specs.declared.grammar.Step.{Step}
-use Rattle.list.specs.declared.grammar.Step.the-variants.{Hand, On, Wrong}
+use Rattle.list.specs.declared.grammar.Step.the-variants.{On, Wrong}
 use Rattle.list.proofs.token.Sort.{the-type as sorts}
 
 abbrev pub row : Stage → Bool → Sort → Step
@@ -39,9 +39,8 @@ row-after Closing inside sort = refl
 row-after Behind inside sort = refl
 
 -- the sorts by their numbers
-numbered : (sort : Sort) → getD (Word ∷ Address ∷ Less ∷ Greater ∷ Comma ∷ Colon ∷ Semicolon ∷ []) (tagOf sorts sort) Word ≡ sort
+numbered : (sort : Sort) → getD (Word ∷ Less ∷ Greater ∷ Comma ∷ Colon ∷ Semicolon ∷ []) (tagOf sorts sort) Word ≡ sort
 numbered Word = refl
-numbered Address = refl
 numbered Less = refl
 numbered Greater = refl
 numbered Comma = refl
@@ -68,10 +67,16 @@ pub others-wrong :
 others-wrong ks stage inside sort m here h w = rw here (other (row m inside) ks sort h w ∙ row-after m inside sort)
 
 module _ (stage : Stage) (inside : Bool) (sort : Sort) (m : Stage) (here : stage ≡ m) where
+  pub told-any : (r : Step) → r ≡ row m inside sort → r ≡ after stage inside sort
+  told-any r e = rw here (e ∙ row-after m inside sort)
+
   pub told : (k : Sort) (r : Step) → sort ≡ k → r ≡ row m inside k → r ≡ after stage inside sort
   told k r p e = rw (here, p) (e ∙ row-after m inside k)
 
   pub told-inside : (b : Bool) (k : Sort) (r : Step) → inside ≡ b → sort ≡ k → r ≡ row m b k → r ≡ after stage inside sort
   told-inside b k r q p e = rw (here, p, q) (e ∙ row-after m b k)
 
-pub ruleset table = (told, told-inside, needs)
+pub told-address : (stage : Stage) (inside : Bool) (m : Stage) (r : Step) → stage ≡ m → r ≡ afterAddress m inside → r ≡ afterAddress stage inside
+told-address stage inside m r here e = rw here e
+
+pub ruleset table = (told-any, told, told-inside, told-address, needs)

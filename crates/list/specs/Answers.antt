@@ -11,9 +11,9 @@ use mathlib.Core.List.{List, [], _∷_}
 use mathlib.Core.Option.{Option, some, none}
 use lib.ListN.{length, take, drop}
 use Rattle.address.specs.Address.{plain}
-use Rattle.list.specs.List.{Token as Tokens, token, end, unreadable, inFront, listed}
+use Rattle.list.specs.List.{Token, address, other, end, unreadable, inFront, listed}
 use Rattle.list.specs.declared.token.Found.{Found}
-use Rattle.list.specs.declared.token.Found.the-variants.{Token, End as Over, Unreadable as Unfound}
+use Rattle.list.specs.declared.token.Found.the-variants.{Address as AddressAt, Other as OtherAt, End as Over, Unreadable as Unfound}
 use Rattle.list.specs.declared.Cursor.{Cursor}
 use Rattle.list.specs.declared.Handed.{Handed}
 use Rattle.list.specs.declared.Handed.the-variants.{Address, End, Unreadable}
@@ -28,14 +28,16 @@ use Rattle.list.specs.declared.Only.the-variants.{One, Other}
 abbrev pub between : List ℕ → ℕ → ℕ → List ℕ
 between s from to = take (to - from) (drop from s)
 
-unfoldable pub foundIn : List ℕ → Found → Tokens
-foundIn s (Token sort from to) = token sort (between s from to) (drop to s)
+unfoldable pub foundIn : List ℕ → Found → Token
+foundIn s (AddressAt from to) = address (between s from to) (drop to s)
+foundIn s (OtherAt sort to) = other sort (drop to s)
 foundIn s Over = end
 foundIn s Unfound = unreadable
 
 -- a token that is looked for from the place `at` on lies behind it, and in the list
 abbrev pub Inside : List ℕ → ℕ → Found → Type 0
-Inside s at (Token sort from to) = (at ≤ from) × (from < to) × (to ≤ length s)
+Inside s at (AddressAt from to) = (at ≤ from) × (from < to) × (to ≤ length s)
+Inside s at (OtherAt sort to) = (at < to) × (to ≤ length s)
 Inside s at Over = Unit
 Inside s at Unfound = Unit
 

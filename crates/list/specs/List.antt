@@ -5,7 +5,7 @@
 --     after, mayEnd                 the grammar
 --     listed, addresses             the addresses of a list, none where it is unreadable
 --     occurs                        an address occurs in a readable list
-use Prim.Native.Nat.{ℕ, zero, suc, _-_}
+use Prim.Native.Nat.{ℕ, zero, suc}
 use mathlib.Core.Bool.{Bool, true, false, cond, not, _||_}
 use mathlib.Core.List.{List, [], _∷_}
 use mathlib.Core.Option.{Option, some, none}
@@ -16,13 +16,13 @@ use Rattle.tokens.specs.Tokens.{skipped, afterQuote}
 use Rattle.address.specs.Pieces.{run}
 use Rattle.address.specs.Address.{addressOctet, plain, canonical}
 use Rattle.list.specs.declared.token.Sort.{Sort}
-use Rattle.list.specs.declared.token.Sort.the-variants.{Word, Address, Less, Greater, Comma, Colon, Semicolon}
+use Rattle.list.specs.declared.token.Sort.the-variants.{Word, Less, Greater, Comma, Colon, Semicolon}
 use Rattle.list.specs.declared.token.Opening.{Opening}
 use Rattle.list.specs.declared.token.Opening.the-variants.{Run, Quote, Sign, Nothing}
 use Rattle.list.specs.declared.grammar.Stage.{Stage}
 use Rattle.list.specs.declared.grammar.Stage.the-variants.{Place, Opened, Phrase, Angle, Closing, Behind}
 use Rattle.list.specs.declared.grammar.Step.{Step}
-use Rattle.list.specs.declared.grammar.Step.the-variants.{Hand, On, Wrong}
+use Rattle.list.specs.declared.grammar.Step.the-variants.{On, Wrong}
 
 -- What a token is shows in its first octet. A run is made of the octets of atoms, of dots and of "@". An octet that opens nothing, as
 -- a control octet, a bracket or a backslash, makes the list unreadable.
@@ -40,9 +40,10 @@ unfoldable pub holdsAt : List ℕ → Bool
 holdsAt [] = false
 holdsAt (x ∷ s) = eqb x (octet "@") || holdsAt s
 
--- a token: its sort, its octets, and the octets behind it; or the end; or what cannot be read
+-- an address, or another token, and the octets behind it; or the end; or what cannot be read
 pub data Token : Type 0 where
-  token : Sort → List ℕ → List ℕ → Token
+  address : List ℕ → List ℕ → Token
+  other : Sort → List ℕ → Token
   end : Token
   unreadable : Token
 
@@ -52,17 +53,13 @@ unfoldable pub runToken : List ℕ → Token
 runToken s =
     let n = run addressOctet s in
     elim (plain (take n s)) [
-      true ↦ token Address (take n s) (drop n s)
-    | false ↦ elim (holdsAt (take n s)) [ true ↦ unreadable | false ↦ token Word (take n s) (drop n s) ]
+      true ↦ address (take n s) (drop n s)
+    | false ↦ elim (holdsAt (take n s)) [ true ↦ unreadable | false ↦ other Word (drop n s) ]
     ]
 
 -- "words (.. quoted strings)", the opening quote being the first octet of s
 unfoldable pub quotedToken : List ℕ → Token
-quotedToken s =
-    elim (afterQuote false (drop 1 s)) [
-      none ↦ unreadable
-    | some rest ↦ token Word (take (length s - length rest) s) rest
-    ]
+quotedToken s = elim (afterQuote false (drop 1 s)) [ none ↦ unreadable | some rest ↦ other Word rest ]
 
 unfoldable pub tokenAt : List ℕ → Token
 tokenAt [] = end
@@ -70,7 +67,7 @@ tokenAt (x ∷ s) =
     elim (openingOf x) [
       Run ↦ runToken (x ∷ s)
     | Quote ↦ quotedToken (x ∷ s)
-    | Sign sort ↦ token sort (x ∷ []) s
+    | Sign sort ↦ other sort s
     | Nothing ↦ unreadable
     ]
 
@@ -79,13 +76,20 @@ unfoldable pub firstToken : List ℕ → Token
 firstToken s = elim (skipped s) [ none ↦ unreadable | some rest ↦ tokenAt rest ]
 
 -- "`address`, `[phrase] <address>`, or a group `phrase : [list] ;` without inner groups", separated by commas. What a token does at each
--- place of the grammar, inside a group or not: `On` goes on at another place, inside a group or not; `Hand` hands out an address and goes
--- on; `Wrong` is unreadable.
+-- place of the grammar: `On` goes on at another place, inside a group or not; `Wrong` is unreadable.
+
+-- a bare address is a list place, and so is one between "<" and ">"
+unfoldable pub afterAddress : Stage → Bool → Step
+afterAddress Place inside = On Behind inside
+afterAddress Opened inside = On Behind inside
+afterAddress Phrase inside = Wrong
+afterAddress Angle inside = On Closing inside
+afterAddress Closing inside = Wrong
+afterAddress Behind inside = Wrong
 
 -- where a list place must begin; "Empty list places .. make the field unreadable"
 abbrev pub atPlace : Bool → Sort → Step
 atPlace inside Word = On Phrase inside
-atPlace inside Address = Hand Behind
 atPlace inside Less = On Angle inside
 atPlace inside Greater = Wrong
 atPlace inside Comma = Wrong
@@ -95,7 +99,6 @@ atPlace inside Semicolon = Wrong
 -- behind the colon of a group: "[list] ;"
 abbrev pub atOpened : Bool → Sort → Step
 atOpened inside Word = On Phrase inside
-atOpened inside Address = Hand Behind
 atOpened inside Less = On Angle inside
 atOpened inside Greater = Wrong
 atOpened inside Comma = Wrong
@@ -105,27 +108,19 @@ atOpened inside Semicolon = On Behind false
 -- behind one or more words: "phrase <address>", "phrase :", "without inner groups"
 abbrev pub atPhrase : Bool → Sort → Step
 atPhrase inside Word = On Phrase inside
-atPhrase inside Address = Wrong
 atPhrase inside Less = On Angle inside
 atPhrase inside Greater = Wrong
 atPhrase inside Comma = Wrong
 atPhrase inside Colon = elim inside [ true ↦ Wrong | false ↦ On Opened true ]
 atPhrase inside Semicolon = Wrong
 
--- behind "<"; "routes, `<>` .. make the field unreadable"
+-- behind "<" an address must stand; "routes, `<>` .. make the field unreadable"
 abbrev pub atAngle : Bool → Sort → Step
-atAngle inside Word = Wrong
-atAngle inside Address = Hand Closing
-atAngle inside Less = Wrong
-atAngle inside Greater = Wrong
-atAngle inside Comma = Wrong
-atAngle inside Colon = Wrong
-atAngle inside Semicolon = Wrong
+atAngle inside sort = Wrong
 
 -- behind "<address"
 abbrev pub atClosing : Bool → Sort → Step
 atClosing inside Word = Wrong
-atClosing inside Address = Wrong
 atClosing inside Less = Wrong
 atClosing inside Greater = On Behind inside
 atClosing inside Comma = Wrong
@@ -135,7 +130,6 @@ atClosing inside Semicolon = Wrong
 -- behind a whole list place: "separated by commas", and a group's ";"
 abbrev pub atBehind : Bool → Sort → Step
 atBehind inside Word = Wrong
-atBehind inside Address = Wrong
 atBehind inside Less = Wrong
 atBehind inside Greater = Wrong
 atBehind inside Comma = On Place inside
@@ -169,11 +163,11 @@ unfoldable pub listedBy : ℕ → Stage → Bool → List ℕ → Option (List (
 listedBy zero stage inside s = none
 listedBy (suc n) stage inside s =
     elim (firstToken s) [
-      token sort octets rest ↦ elim (after stage inside sort) [
-        Hand next ↦ inFront octets (listedBy n next inside rest)
-      | On next inner ↦ listedBy n next inner rest
+      address a rest ↦ elim (afterAddress stage inside) [
+        On next inner ↦ inFront a (listedBy n next inner rest)
       | Wrong ↦ none
       ]
+    | other sort rest ↦ elim (after stage inside sort) [ On next inner ↦ listedBy n next inner rest | Wrong ↦ none ]
     | end ↦ elim (mayEnd stage inside) [ true ↦ some [] | false ↦ none ]
     | unreadable ↦ none
     ]

@@ -3,7 +3,7 @@
 use crate::token::Sort;
 
 ghost use mathlib.Core.Path.{_≡_};
-ghost use Rattle.list.specs.List.{after as afterOf, mayEnd};
+ghost use Rattle.list.specs.List.{afterAddress, after as afterOf, mayEnd};
 
 // The places of the grammar.
 pub enum Stage {
@@ -15,28 +15,38 @@ pub enum Stage {
     Behind,  // behind a whole list place
 }
 
-// An address is handed out, and the grammar goes on as before; or it goes on, inside a group or not; or the token may not
-// stand there.
+// The grammar goes on, inside a group or not; or the token may not stand there.
 pub enum Step {
-    Hand(Stage),
     On(Stage, bool),
     Wrong,
 }
 
-// Behind a token at a place of the grammar, inside a group or not.
+// Behind an address at a place of the grammar.
+pub fn after_address(stage: Stage, inside: bool) -> Step
+    ensures { λ r. ⌜ r ≡ afterAddress stage inside ⌝ }
+{
+    match stage {
+        Stage::Place => Step::On(Stage::Behind, inside),
+        Stage::Opened => Step::On(Stage::Behind, inside),
+        Stage::Phrase => Step::Wrong,
+        Stage::Angle => Step::On(Stage::Closing, inside),
+        Stage::Closing => Step::Wrong,
+        Stage::Behind => Step::Wrong,
+    }
+}
+
+// Behind any other token at a place of the grammar, inside a group or not.
 pub fn after(stage: Stage, inside: bool, sort: Sort) -> Step
     ensures { λ r. ⌜ r ≡ afterOf stage inside sort ⌝ }
 {
     match stage {
         Stage::Place => match sort {
             Sort::Word => Step::On(Stage::Phrase, inside),
-            Sort::Address => Step::Hand(Stage::Behind),
             Sort::Less => Step::On(Stage::Angle, inside),
             _ => Step::Wrong,
         },
         Stage::Opened => match sort {
             Sort::Word => Step::On(Stage::Phrase, inside),
-            Sort::Address => Step::Hand(Stage::Behind),
             Sort::Less => Step::On(Stage::Angle, inside),
             Sort::Semicolon => Step::On(Stage::Behind, false),
             _ => Step::Wrong,
@@ -52,10 +62,7 @@ pub fn after(stage: Stage, inside: bool, sort: Sort) -> Step
             }
             _ => Step::Wrong,
         },
-        Stage::Angle => match sort {
-            Sort::Address => Step::Hand(Stage::Closing),
-            _ => Step::Wrong,
-        },
+        Stage::Angle => Step::Wrong,
         Stage::Closing => match sort {
             Sort::Greater => Step::On(Stage::Behind, inside),
             _ => Step::Wrong,

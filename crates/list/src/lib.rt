@@ -65,8 +65,8 @@ fn advance(list: &[u8], here: Cursor) -> Move
     let stage = here.stage;
     let inside = here.inside;
     match token::token(list, at) {
-        Found::Token { sort, from, to } => match grammar::after(stage, inside, sort) {
-            Step::Hand(stage) => Move::Done(Handed::Address {
+        Found::Address { from, to } => match grammar::after_address(stage, inside) {
+            Step::On(stage, inside) => Move::Done(Handed::Address {
                 from,
                 to,
                 next: Cursor {
@@ -75,6 +75,9 @@ fn advance(list: &[u8], here: Cursor) -> Move
                     inside,
                 },
             }),
+            Step::Wrong => Move::Done(Handed::Unreadable),
+        },
+        Found::Other { sort, to } => match grammar::after(stage, inside, sort) {
             Step::On(stage, inside) => Move::On(Cursor {
                 at: to,
                 stage,

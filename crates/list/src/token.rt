@@ -11,10 +11,9 @@ ghost use Rattle.address.specs.Pieces.{run as runOf};
 ghost use Rattle.list.specs.List.{holdsAt, openingOf, runToken, quotedToken, tokenAt, firstToken};
 ghost use Rattle.list.specs.Answers.{foundIn, Inside};
 
-// The sorts of tokens.
+// The sorts of tokens besides addresses.
 pub enum Sort {
     Word,
-    Address,
     Less,
     Greater,
     Comma,
@@ -32,7 +31,8 @@ pub enum Opening {
 
 // The token at a place; or the end; or what cannot be read.
 pub enum Found {
-    Token { sort: Sort, from: usize, to: usize },
+    Address { from: usize, to: usize },
+    Other { sort: Sort, to: usize },
     End,
     Unreadable,
 }
@@ -97,18 +97,13 @@ fn run(list: &[u8], from: usize) -> Found
     let to = run_end(list, from);
     let text = &list[from..to];
     if address::is_plain(text) {
-        return Found::Token {
-            sort: Sort::Address,
-            from,
-            to,
-        };
+        return Found::Address { from, to };
     }
     if holds_at(text) {
         return Found::Unreadable;
     }
-    Found::Token {
+    Found::Other {
         sort: Sort::Word,
-        from,
         to,
     }
 }
@@ -120,9 +115,8 @@ fn quoted(list: &[u8], from: usize) -> Found
     ensures { λ r. ⌜ Inside (now (list .entry)) from r ⌝ }
 {
     match tokens::quoted(list, from + 1) {
-        Reached::To(to) => Found::Token {
+        Reached::To(to) => Found::Other {
             sort: Sort::Word,
-            from,
             to,
         },
         Reached::Unreadable => Found::Unreadable,
@@ -138,9 +132,8 @@ fn token_at(list: &[u8], from: usize) -> Found
     match opened_by(list[from]) {
         Opening::Run => run(list, from),
         Opening::Quote => quoted(list, from),
-        Opening::Sign(sort) => Found::Token {
+        Opening::Sign(sort) => Found::Other {
             sort,
-            from,
             to: from + 1,
         },
         Opening::Nothing => Found::Unreadable,
