@@ -1,5 +1,5 @@
 -- The tokens: what is found at a place of the list, by the octets from there on.
---     run-begins                  what opens a run is an octet of one
+--     opens-run-octet             what opens a run is an octet of one
 --     run-from .. run-unread      the run that begins at a place
 --     quote-word .. quote-unread  the quoted string that begins at a place
 --     at-run .. at-nothing        the token at a place, by what its first octet opens
@@ -121,11 +121,14 @@ run-begins : (x : ℕ) → isRun (openingOf x) ≡ addressOctet x
 unfolding openingOf isRun
 run-begins x = simp (of-cond, cond-same, cond-self)
 
+pub opens-run-octet : (x : ℕ) → openingOf x ≡ Run → addressOctet x ≡ true
+unfolding isRun
+opens-run-octet x e = sym (run-begins x) ∙ ap isRun e
+
 -- the token at the place `from`, which its first octet opens
 module _ (s : List ℕ) (from : ℕ) (o : Opening) (l : from < length s) (e : o ≡ openingOf (getD s from 0)) where
   pub at-begins : o ≡ Run → addressOctet (getD s from 0) ≡ true
-  unfolding isRun
-  at-begins q = sym (run-begins (getD s from 0)) ∙ ap isRun (sym e ∙ q)
+  at-begins q = opens-run-octet (getD s from 0) (sym e ∙ q)
 
 
   pub at-run : (t : Token) → o ≡ Run → t ≡ runToken (drop from s) → t ≡ tokenAt (drop from s)

@@ -1,3 +1,4 @@
 pub mod Table
 pub mod Telling
 pub mod Finding
+pub mod Listing
