@@ -3,3 +3,7 @@ pub mod Telling
 pub mod Finding
 pub mod Listing
 pub mod Moving
+pub mod Handing
+pub mod Counting
+pub mod Holding
+pub mod Lone

@@ -1,6 +1,6 @@
 -- From the rules to what the code answers: places in the list stand for the octets between them.
 --     foundIn, Inside      a token that was found, and that it lies in the list
---     left                 what the list still gives from a cursor on
+--     beginning, left      the first cursor, and what the list still gives from a cursor on
 --     Hands, Moved         what is handed out from a cursor, and what one token brings
 --     countedOf            how many addresses there are
 --     onlyIn, onlyOf       the one address of a list that has no other
@@ -12,6 +12,7 @@ use mathlib.Core.Option.{Option, some, none}
 use lib.ListN.{length, take, drop}
 use Rattle.address.specs.Address.{plain}
 use Rattle.list.specs.List.{Token, address, other, end, unreadable, inFront, listed}
+use Rattle.list.specs.declared.grammar.Stage.the-variants.{Place}
 use Rattle.list.specs.declared.token.Found.{Found}
 use Rattle.list.specs.declared.token.Found.the-variants.{Address as AddressAt, Other as OtherAt, End as Over, Unreadable as Unfound}
 use Rattle.list.specs.declared.Cursor.{Cursor}
@@ -40,6 +41,10 @@ Inside s at (AddressAt from to) = (at ≤ from) × (from < to) × (to ≤ length
 Inside s at (OtherAt sort to) = (at < to) × (to ≤ length s)
 Inside s at Over = Unit
 Inside s at Unfound = Unit
+
+-- the cursor before the first token
+abbrev pub beginning : Cursor
+beginning = record { at = 0; stage = Place; inside = false }
 
 -- what the list s still gives from a cursor on; none where it is unreadable
 unfoldable pub left : List ℕ → Cursor → Option (List (List ℕ))

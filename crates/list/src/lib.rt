@@ -7,9 +7,8 @@ use grammar::{Stage, Step};
 use token::Found;
 
 ghost use mathlib.Core.Path.{_≡_};
-ghost use mathlib.Core.Bool.{false};
 ghost use Rattle.list.specs.List.{addresses, occurs};
-ghost use Rattle.list.specs.Answers.{Hands, Moved, countedOf, onlyIn, onlyOf, Within};
+ghost use Rattle.list.specs.Answers.{beginning, Hands, Moved, countedOf, onlyIn, onlyOf, Within};
 
 pub struct Cursor {
     pub at: usize,
@@ -48,7 +47,7 @@ pub enum Only {
 
 // The cursor before the first token.
 pub fn start() -> Cursor
-    ensures { λ r. ⌜ (r .at ≡ 0) × (r .stage ≡ Stage.Place) × (r .inside ≡ false) ⌝ }
+    ensures { λ r. ⌜ r ≡ beginning ⌝ }
 {
     Cursor {
         at: 0,
