@@ -7,3 +7,4 @@ pub mod Handing
 pub mod Counting
 pub mod Holding
 pub mod Lone
+pub mod Readable

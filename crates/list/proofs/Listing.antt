@@ -119,7 +119,7 @@ pub data Turn (stage : Stage) (inside : Bool) (s : List ℕ) : Type 0 where
       → ((n : ℕ) → listedBy (suc n) stage inside s ≡ listedBy n next inner rest) → Turn stage inside s
 
 module _ (stage : Stage) (inside : Bool) (s : List ℕ) where
-  turn : Turn stage inside s
+  pub turn : Turn stage inside s
   turn = go (firstToken s) refl
     where
       addressed : (a rest : List ℕ) → firstToken s ≡ address a rest → (r : Step) → afterAddress stage inside ≡ r → Turn stage inside s
