@@ -130,7 +130,6 @@ module _ (s : List ℕ) (from : ℕ) (o : Opening) (l : from < length s) (e : o 
   pub at-begins : o ≡ Run → addressOctet (getD s from 0) ≡ true
   at-begins q = opens-run-octet (getD s from 0) (sym e ∙ q)
 
-
   pub at-run : (t : Token) → o ≡ Run → t ≡ runToken (drop from s) → t ≡ tokenAt (drop from s)
   unfolding tokenAt
   at-run t q p = p ∙ rw (drop-one s from l, tokenAt, sym e ∙ q)

@@ -47,10 +47,10 @@ module _ (s a : List ℕ) (found : Bool) (here : Cursor) (k : Handed) (h : Holdi
   holding-on from to next b q e =
       record {
         so-far =
-          h .so-far
-          ∙ ap (either found a) (hand-gives s here k p from to next q)
-          ∙ one-more found a (between s from to) (left s next)
-          ∙ ap (λ (x : Bool). either (found || x) a (left s next)) (sym e);
+            h .so-far
+            ∙ ap (either found a) (hand-gives s here k p from to next q)
+            ∙ one-more found a (between s from to) (left s next)
+            ∙ ap (λ (x : Bool). either (found || x) a (left s next)) (sym e);
       }
 
   pub holding-end : k ≡ End → found ≡ occurs a (addresses s)

@@ -8,3 +8,4 @@ pub mod Counting
 pub mod Holding
 pub mod Lone
 pub mod Readable
+pub mod Worked

@@ -127,10 +127,12 @@ module _ (stage : Stage) (inside : Bool) (s : List ℕ) where
           hands a rest next inner (shorter s (address a rest) e .0) (shorter s (address a rest) e .1)
           (λ n. by-address n stage inside s a rest e next inner p)
       addressed a rest e Wrong p = unread (λ n. by-address-wrong n stage inside s a rest e p)
+
       others : (sort : Sort) (rest : List ℕ) → firstToken s ≡ other sort rest → (r : Step) → after stage inside sort ≡ r → Turn stage inside s
       others sort rest e (On next inner) p =
           goes rest next inner (shorter s (other sort rest) e) (λ n. by-other n stage inside s sort rest e next inner p)
       others sort rest e Wrong p = unread (λ n. by-other-wrong n stage inside s sort rest e p)
+
       go : (t : Token) → firstToken s ≡ t → Turn stage inside s
       go (address a rest) e = addressed a rest e (afterAddress stage inside) refl
       go (other sort rest) e = others sort rest e (after stage inside sort) refl

@@ -48,7 +48,7 @@ not-blank : (x : ℕ) → addressOctet x ≡ true → blank x ≡ false
 unfolding blank
 not-blank x o =
     let high : 33 ≤ x =
-        ⊎-elim (λ (l : x < 33). absurd (false≢true (sym (low-apart x l) ∙ o))) (λ (l : 33 ≤ x). l) (lt-or-le x 33)
+    ⊎-elim (λ (l : x < 33). absurd (false≢true (sym (low-apart x l) ∙ o))) (λ (l : 33 ≤ x). l) (lt-or-le x 33)
     in
     rw (ne-eqb x 32 (λ e. omega arith), ne-eqb x 9 (λ e. omega arith))
 
@@ -74,7 +74,6 @@ unfolding addresses afterAddress inFront firstToken past tokenAt
 plain-alone a p =
     listed-address Place false a a [] (first-plain a p) Behind false refl
     ∙ ap (inFront a) (listed-end Behind false [] true refl refl)
-
 
 -- every address is plain, and there are no more addresses than octets
 abbrev Good : ℕ → Option (List (List ℕ)) → Type 0

@@ -1,10 +1,9 @@
 -- "A list is addresses separated by commas", of paper 01. A list is read from its front, a token at a time, and a grammar says which
 -- token may stand where.
---     holdsAt, openingOf            what a run holds, and what an octet opens
---     runToken .. firstToken        tokens
---     after, mayEnd                 the grammar
---     listed, addresses             the addresses of a list, none where it is unreadable
---     occurs                        an address occurs in a readable list
+--     openingOf, runToken .. firstToken    tokens
+--     afterAddress, after, mayEnd          the grammar
+--     listed, addresses                    the addresses of a list, none where it is unreadable
+--     occurs                               an address occurs in a readable list
 use Prim.Native.Nat.{ℕ, zero, suc}
 use mathlib.Core.Bool.{Bool, true, false, cond, not, _||_}
 use mathlib.Core.List.{List, [], _∷_}
@@ -36,6 +35,7 @@ openingOf x =
     (cond (eqb x (octet ":")) (Sign Colon)
     (cond (eqb x (octet ";")) (Sign Semicolon) Nothing))))))
 
+-- is there an "@" in it?
 unfoldable pub holdsAt : List ℕ → Bool
 holdsAt [] = false
 holdsAt (x ∷ s) = eqb x (octet "@") || holdsAt s
@@ -53,8 +53,8 @@ unfoldable pub runToken : List ℕ → Token
 runToken s =
     let n = run addressOctet s in
     elim (plain (take n s)) [
-      true ↦ address (take n s) (drop n s)
-    | false ↦ elim (holdsAt (take n s)) [ true ↦ unreadable | false ↦ other Word (drop n s) ]
+      | true ↦ address (take n s) (drop n s)
+      | false ↦ elim (holdsAt (take n s)) [ true ↦ unreadable | false ↦ other Word (drop n s) ]
     ]
 
 -- "words (.. quoted strings)", the opening quote being the first octet of s
@@ -65,10 +65,10 @@ unfoldable pub tokenAt : List ℕ → Token
 tokenAt [] = end
 tokenAt (x ∷ s) =
     elim (openingOf x) [
-      Run ↦ runToken (x ∷ s)
-    | Quote ↦ quotedToken (x ∷ s)
-    | Sign sort ↦ other sort s
-    | Nothing ↦ unreadable
+      | Run ↦ runToken (x ∷ s)
+      | Quote ↦ quotedToken (x ∷ s)
+      | Sign sort ↦ other sort s
+      | Nothing ↦ unreadable
     ]
 
 -- "Spaces, tabs and comments may stand between tokens"
@@ -144,7 +144,7 @@ after Angle inside sort = atAngle inside sort
 after Closing inside sort = atClosing inside sort
 after Behind inside sort = atBehind inside sort
 
--- "A group .. `;`": the list ends behind a whole place, outside of groups.
+-- A list may end behind a whole list place, and not inside a group, whose ";" is then missing.
 abbrev pub mayEnd : Stage → Bool → Bool
 mayEnd Place inside = false
 mayEnd Opened inside = false
@@ -163,16 +163,16 @@ unfoldable pub listedBy : ℕ → Stage → Bool → List ℕ → Option (List (
 listedBy zero stage inside s = none
 listedBy (suc n) stage inside s =
     elim (firstToken s) [
-      address a rest ↦ elim (afterAddress stage inside) [
-        On next inner ↦ inFront a (listedBy n next inner rest)
-      | Wrong ↦ none
+      | address a rest ↦ elim (afterAddress stage inside) [
+        | On next inner ↦ inFront a (listedBy n next inner rest)
+        | Wrong ↦ none
       ]
-    | other sort rest ↦ elim (after stage inside sort) [ On next inner ↦ listedBy n next inner rest | Wrong ↦ none ]
-    | end ↦ elim (mayEnd stage inside) [ true ↦ some [] | false ↦ none ]
-    | unreadable ↦ none
+      | other sort rest ↦ elim (after stage inside sort) [ On next inner ↦ listedBy n next inner rest | Wrong ↦ none ]
+      | end ↦ elim (mayEnd stage inside) [ true ↦ some [] | false ↦ none ]
+      | unreadable ↦ none
     ]
 
--- a token has an octet at least
+-- the same of all tokens: each has an octet at least
 unfoldable pub listed : Stage → Bool → List ℕ → Option (List (List ℕ))
 listed stage inside s = listedBy (suc (length s)) stage inside s
 

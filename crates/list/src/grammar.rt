@@ -1,18 +1,17 @@
 // The grammar of lists: `address`, `[phrase] <address>`, or a group `phrase : [list] ;` without inner groups, separated by
 // commas. It is a table of the tokens that may stand at each place.
 use crate::token::Sort;
-
 ghost use mathlib.Core.Path.{_≡_};
 ghost use Rattle.list.specs.List.{afterAddress, after as afterOf, mayEnd};
 
 // The places of the grammar.
 pub enum Stage {
-    Place,   // a list place must begin
-    Opened,  // behind the colon of a group
-    Phrase,  // behind one or more words
-    Angle,   // behind `<`
+    Place, // a list place must begin
+    Opened, // behind the colon of a group
+    Phrase, // behind one or more words
+    Angle, // behind `<`
     Closing, // behind `<address`
-    Behind,  // behind a whole list place
+    Behind, // behind a whole list place
 }
 
 // The grammar goes on, inside a group or not; or the token may not stand there.

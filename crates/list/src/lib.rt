@@ -3,9 +3,9 @@
 pub mod grammar; // which token may stand where
 pub mod token; // the tokens of a list
 
-use grammar::{Stage, Step};
+use grammar::Stage;
+use grammar::Step;
 use token::Found;
-
 ghost use mathlib.Core.Path.{_≡_};
 ghost use Rattle.list.specs.List.{addresses, occurs};
 ghost use Rattle.list.specs.Answers.{beginning, Hands, Moved, countedOf, onlyIn, onlyOf, Within};
@@ -115,7 +115,11 @@ pub fn count(list: &[u8]) -> Counted
     let mut here = start();
     loop {
         match next_address(list, here) {
-            Handed::Address { from: _, to: _, next } => {
+            Handed::Address {
+                from: _,
+                to: _,
+                next,
+            } => {
                 n += 1;
                 here = next;
             }

@@ -1,7 +1,7 @@
 // The tokens of a list: the signs `,` `<` `>` `:` `;`, words and addresses, with spaces, tabs and comments between them.
 // A long run costs its length.
-use tokens::{Class, Reached};
-
+use tokens::Class;
+use tokens::Reached;
 ghost use Prim.Native.Nat.{_+_, _<_};
 ghost use mathlib.Core.Path.{_≡_};
 ghost use mathlib.Core.Bool.{true};
@@ -132,10 +132,7 @@ fn token_at(list: &[u8], from: usize) -> Found
     match opened_by(list[from]) {
         Opening::Run => run(list, from),
         Opening::Quote => quoted(list, from),
-        Opening::Sign(sort) => Found::Other {
-            sort,
-            to: from + 1,
-        },
+        Opening::Sign(sort) => Found::Other { sort, to: from + 1 },
         Opening::Nothing => Found::Unreadable,
     }
 }

@@ -1,12 +1,8 @@
+-- `list::holds` meets its contract: the laws of `Holding` keep the loop's invariant and answer every need. Assumes nothing.
 use Prim.Native.Nat.{_-_}
 use lib.ListN.{length}
 use Rattle.list.proofs.holds.Statement.{statement}
 use Rattle.list.proofs.holds.Tie as tie
-use Rattle.list.proofs.holds.Reads as reads
-use Rattle.list.proofs.holds.Lts as lts
-use Rattle.address.proofs.same_address.Reads as same-address-reads
-use Rattle.list.proofs.next_address.Reads as next-address-reads
-use Rattle.list.proofs.start.Reads as start-reads
 use Rattle.list.proofs.Holding.{Holding, holding}
 
 abbrev Inv-loop : tie.InvT-loop
@@ -15,59 +11,45 @@ Inv-loop list wanted found₀ here₀ found here = Holding list wanted found her
 abbrev μ-loop : tie.MeasureT-loop
 μ-loop list wanted found₀ here₀ found here = length list - here .at
 
--- src/lib.rt:153:9
 start-requires : tie.Need-start-requires Inv-loop μ-loop
 start-requires c κs = search holding
 
--- src/lib.rt:154:5
 loop-holds : tie.Need-loop-holds Inv-loop μ-loop
 loop-holds c = search holding
 
--- src/lib.rt:155:15
 next-address-requires : tie.Need-next-address-requires Inv-loop μ-loop
 next-address-requires c κs = search holding
 
--- src/lib.rt:156:31
 enum-known-from : tie.Need-enum-known-from Inv-loop μ-loop
 enum-known-from c = search holding
 
--- src/lib.rt:157:55
 sub-same-address : tie.Need-sub-same-address Inv-loop μ-loop
 sub-same-address c = search holding
 
--- src/lib.rt:157:55
 part-same-address-start : tie.Need-part-same-address-start Inv-loop μ-loop
 part-same-address-start c = search holding
 
--- src/lib.rt:157:55
 part-same-address-end : tie.Need-part-same-address-end Inv-loop μ-loop
 part-same-address-end c = search holding
 
--- src/lib.rt:157:33
 same-address-requires : tie.Need-same-address-requires Inv-loop μ-loop
 same-address-requires c κs = search holding
 
--- src/lib.rt:154:5
 loop-less : tie.Need-loop-less Inv-loop μ-loop
 loop-less c = search holding
 
--- src/lib.rt:154:5
 loop-again : tie.Need-loop-again Inv-loop μ-loop
 loop-again c = search holding
 
--- src/lib.rt:160:28
 enum-told : tie.Need-enum-told Inv-loop μ-loop
 enum-told c = search holding
 
--- src/lib.rt:160:28
 returns : tie.Need-returns Inv-loop μ-loop
 returns c = search holding
 
--- src/lib.rt:161:35
 enum-told-2 : tie.Need-enum-told-2 Inv-loop μ-loop
 enum-told-2 c = search holding
 
--- src/lib.rt:161:35
 returns-2 : tie.Need-returns-2 Inv-loop μ-loop
 returns-2 c = search holding
 

@@ -1,10 +1,8 @@
+-- `list::next_address` meets its contract: the laws of `Moving` keep the loop's invariant and answer every need. Assumes nothing.
 use Prim.Native.Nat.{_-_}
 use lib.ListN.{length}
 use Rattle.list.proofs.next_address.Statement.{statement}
 use Rattle.list.proofs.next_address.Tie as tie
-use Rattle.list.proofs.next_address.Reads as reads
-use Rattle.list.proofs.next_address.Lts as lts
-use Rattle.list.proofs.advance.Reads as advance-reads
 use Rattle.list.proofs.Moving.{Nears, nearing}
 
 abbrev Inv-loop : tie.InvT-loop
@@ -13,31 +11,24 @@ Inv-loop list here₀ here = Nears list here₀ here
 abbrev μ-loop : tie.MeasureT-loop
 μ-loop list here₀ here = length list - here .at
 
--- src/lib.rt:103:5
 loop-holds : tie.Need-loop-holds Inv-loop μ-loop
 loop-holds c = search nearing
 
--- src/lib.rt:104:15
 advance-requires : tie.Need-advance-requires Inv-loop μ-loop
 advance-requires c κs = search nearing
 
--- src/lib.rt:105:22
 enum-known-next : tie.Need-enum-known-next Inv-loop μ-loop
 enum-known-next c = search nearing
 
--- src/lib.rt:103:5
 loop-less : tie.Need-loop-less Inv-loop μ-loop
 loop-less c = search nearing
 
--- src/lib.rt:103:5
 loop-again : tie.Need-loop-again Inv-loop μ-loop
 loop-again c = search nearing
 
--- src/lib.rt:106:24
 enum-known-handed : tie.Need-enum-known-handed Inv-loop μ-loop
 enum-known-handed c = search nearing
 
--- src/lib.rt:106:35
 returns : tie.Need-returns Inv-loop μ-loop
 returns c = search nearing
 

@@ -1,60 +1,47 @@
+-- `list::grammar::after_address` meets its contract: the laws of `Table` answer every need. Assumes nothing.
 use Rattle.list.proofs.grammar.after_address.Statement.{statement}
 use Rattle.list.proofs.grammar.after_address.Tie as tie
-use Rattle.list.proofs.grammar.after_address.Reads as reads
-use Rattle.list.proofs.grammar.after_address.Lts as lts
 use Rattle.list.specs.List.{afterAddress}
 use Rattle.list.proofs.Table.{table}
 
--- src/grammar.rt:29:34
 enum-told : tie.Need-enum-told
 enum-told c = search table
 
--- src/grammar.rt:30:35
 enum-told-2 : tie.Need-enum-told-2
 enum-told-2 c = search table
 
--- src/grammar.rt:31:26
 enum-told-3 : tie.Need-enum-told-3
 enum-told-3 c = search table
 
--- src/grammar.rt:32:34
 enum-told-4 : tie.Need-enum-told-4
 enum-told-4 c = search table
 
--- src/grammar.rt:33:27
 enum-told-5 : tie.Need-enum-told-5
 enum-told-5 c = search table
 
--- src/grammar.rt:34:26
 enum-told-6 : tie.Need-enum-told-6
 enum-told-6 c = search table
 
--- src/grammar.rt:25:1
 returns : tie.Need-returns
 unfolding afterAddress
 returns c = search table
 
--- src/grammar.rt:25:1
 returns-2 : tie.Need-returns-2
 unfolding afterAddress
 returns-2 c = search table
 
--- src/grammar.rt:25:1
 returns-3 : tie.Need-returns-3
 unfolding afterAddress
 returns-3 c = search table
 
--- src/grammar.rt:25:1
 returns-4 : tie.Need-returns-4
 unfolding afterAddress
 returns-4 c = search table
 
--- src/grammar.rt:25:1
 returns-5 : tie.Need-returns-5
 unfolding afterAddress
 returns-5 c = search table
 
--- src/grammar.rt:25:1
 returns-6 : tie.Need-returns-6
 unfolding afterAddress
 returns-6 c = search table

@@ -1,9 +1,8 @@
+-- `list::token::holds_at` meets its contract: the laws of `Telling` keep the loop's invariant and answer every need. Assumes nothing.
 use Prim.Native.Nat.{_-_}
 use lib.ListN.{length}
 use Rattle.list.proofs.token.holds_at.Statement.{statement}
 use Rattle.list.proofs.token.holds_at.Tie as tie
-use Rattle.list.proofs.token.holds_at.Reads as reads
-use Rattle.list.proofs.token.holds_at.Lts as lts
 use Rattle.list.proofs.Telling.{Looks, looking}
 
 abbrev Inv-loop : tie.InvT-loop
@@ -12,31 +11,24 @@ Inv-loop text i₀ i = Looks text i
 abbrev μ-loop : tie.MeasureT-loop
 μ-loop text i₀ i = length text - i
 
--- src/token.rt:65:5
 loop-holds : tie.Need-loop-holds Inv-loop μ-loop
 loop-holds c = search looking
 
--- src/token.rt:66:12
 shared-slice-read-if1 : tie.Need-shared-slice-read-if1 Inv-loop μ-loop
 shared-slice-read-if1 c = search looking
 
--- src/token.rt:67:13
 returns : tie.Need-returns Inv-loop μ-loop
 returns c = search looking
 
--- src/token.rt:69:9
 add-i : tie.Need-add-i Inv-loop μ-loop
 add-i c = search looking
 
--- src/token.rt:65:5
 loop-less : tie.Need-loop-less Inv-loop μ-loop
 loop-less c = search looking
 
--- src/token.rt:65:5
 loop-again : tie.Need-loop-again Inv-loop μ-loop
 loop-again c = search looking
 
--- src/token.rt:61:1
 returns-2 : tie.Need-returns-2 Inv-loop μ-loop
 returns-2 c = search looking
 
