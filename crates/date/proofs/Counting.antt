@@ -151,4 +151,5 @@ unfolding dayCount
 day-bound year month day hy hm hd = omega (arith, year-bound (year - 1900), month-bound year (month - 1))
 
 pub ruleset walking = (no-year, year-done, year-more, no-month, month-done, month-more, needs)
+
 pub ruleset counting = (counted, years-fit, days-fit, needs)

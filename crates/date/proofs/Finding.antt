@@ -44,8 +44,10 @@ module _ (s : List ℕ) (at : ℕ) (r : Reached) (e : r ≡ reached s (skipped (
     where
       within : at < length s → skipped (drop at s) ≡ some (drop n s)
       within l = skip-left s at r e n q (omega arith)
+
       same : length s ≤ at → drop at s ≡ drop (length s) s
       same l = drop-done s at l ∙ sym (drop-done s (length s) (omega arith))
+
       beyond : length s ≤ at → skipped (drop at s) ≡ some (drop n s)
       beyond l = rw (same l) (skip-left s (length s) r (rw (same l) at e) n q (omega arith))
 

@@ -7,7 +7,7 @@ use Prim.Native.Nat.{ℕ, suc, _+_, _-_, _*_, _/_, _%_, _^_, _≤_, _<_}
 use mathlib.Core.Path.{_≡_, refl, sym, ap, _∙_}
 use mathlib.Core.Bool.{Bool, true, false, _&&_}
 use mathlib.Core.List.{List, [], _∷_}
-use mathlib.Core.Option.{Option, some, none, bind}
+use mathlib.Core.Option.{Option, some, none, bind, Option·none-ne-some}
 use native.Mathlib.Omega.{arith}
 use mir.Val.{Fits}
 use mir.Syntax.{w64}
@@ -16,9 +16,38 @@ use lib.Dec.{leb, eqb}
 use lib.ListN.{length, getD, drop}
 use Rattle.date.specs.Calendar.{monthLength, dayCount}
 use Rattle.date.specs.Date.{
-  onlyIf, numberOf, monthNames, zoneNames, zoneHours, placeIn, monthOf, yearBy, yearOf, twoDigits, offsetBy, offsetOf, hoursWest, westBy,
-  kindOf, meant, Token, token, end, unreadable, firstToken, Read, got, missing, readOf, andThen, next, optional, existing, calendarDay,
-  timeOfDay, localTime
+  onlyIf,
+  numberOf,
+  monthNames,
+  zoneNames,
+  zoneHours,
+  placeIn,
+  monthOf,
+  yearBy,
+  yearOf,
+  twoDigits,
+  offsetBy,
+  offsetOf,
+  hoursWest,
+  westBy,
+  opensWith,
+  meant,
+  Token,
+  token,
+  end,
+  unreadable,
+  firstToken,
+  Read,
+  got,
+  missing,
+  readOf,
+  andThen,
+  next,
+  optional,
+  existing,
+  calendarDay,
+  timeOfDay,
+  localTime,
 }
 use Rattle.date.specs.Answers.{readIn}
 use Rattle.date.specs.declared.token.Opening.{Opening}
@@ -36,7 +65,7 @@ use Rattle.date.proofs.Reading.{read-got}
 bind-some :
     (o : Option ℕ) (f : ℕ → Option ℕ) (n : ℕ) (P : Type 0) → bind o f ≡ some n → ((m : ℕ) → o ≡ some m → f m ≡ some n → P) → P
 unfolding bind
-bind-some none f n P e h = let z : _≡_ {A = ℕ} 0 1 = cc in absurd (omega arith)
+bind-some none f n P e h = absurd (Option·none-ne-some n e)
 bind-some (some m) f n P e h = h m refl e
 
 two-most : (most : ℕ) (t : List ℕ) (n : ℕ) → twoDigits most t ≡ some n → n ≤ most
@@ -63,6 +92,7 @@ year-by width m n h l e = two (eqb width 2) refl
         let q : m + 1900 ≡ n = cc (rw (yearBy, eq-eqb width 2 w, p) at e) in
         let k : m < 10 ^ 2 = rw w at h in
         omega arith
+
     three : (b : Bool) → eqb width 3 ≡ b → eqb width 2 ≡ false → (1900 ≤ n) × (n ≤ 9999)
     three true p w =
         let q : m + 1900 ≡ n = cc (rw (yearBy, w, p) at e) in
@@ -72,6 +102,7 @@ year-by width m n h l e = two (eqb width 2) refl
         let o : onlyIf (eqb width 4 && leb 1900 m) (some m) ≡ some n = rw (yearBy, w, p) at e in
         let q : m ≡ n = cc (only-if-some (eqb width 4 && leb 1900 m) (some m) n o) in
         omega (arith, leb-true 1900 m (both-right (eqb width 4) (leb 1900 m) (only-if-true _ (some m) n o)))
+
     two : (b : Bool) → eqb width 2 ≡ b → (1900 ≤ n) × (n ≤ 9999)
     two true p = new (leb m 49) refl (eqb-true width 2 p)
     two false p = three (eqb width 3) refl p
@@ -101,11 +132,14 @@ hours-most t = go (placeIn t zoneNames) refl
 
 west-some : (k : Opening) (t : List ℕ) (n : ℕ) → westBy k t ≡ some n → n ≤ 360000
 unfolding westBy
-west-some Number t n e = let z : _≡_ {A = ℕ} 0 1 = cc in absurd (omega arith)
+west-some Number t n e = absurd (Option·none-ne-some n e)
 west-some Word t n e = let q : 3600 * hoursWest t ≡ n = cc in omega (arith, hours-most t)
-west-some Plus t n e = let z : _≡_ {A = ℕ} 0 1 = cc in absurd (omega arith)
+west-some Plus t n e = absurd (Option·none-ne-some n e)
 west-some Minus t n e = offset-some (drop 1 t) n e
-west-some Mark t n e = let z : _≡_ {A = ℕ} 0 1 = cc in absurd (omega arith)
+west-some Mark t n e = absurd (Option·none-ne-some n e)
+
+not-missing : (n : ℕ) (v : List ℕ) → missing ≡ got n v → ⊥
+not-missing n v e = let z : _≡_ {A = ℕ} 0 1 = cc in omega arith
 
 read-some : (o : Option ℕ) (rest v : List ℕ) (n : ℕ) → readOf o rest ≡ got n v → o ≡ some n
 unfolding readOf
@@ -120,8 +154,8 @@ next-some what u v n P e h = go (firstToken u) refl
   where
     go : (w : Token) → firstToken u ≡ w → P
     go (token t rest) p = h t (read-some (meant what t) rest v n (rw (next, p) at e))
-    go end p = let z : _≡_ {A = ℕ} 0 1 = cc (rw (next, p) at e) in absurd (omega arith)
-    go unreadable p = let z : _≡_ {A = ℕ} 0 1 = cc (rw (next, p) at e) in absurd (omega arith)
+    go end p = absurd (not-missing n v (rw (next, p) at e))
+    go unreadable p = absurd (not-missing n v (rw (next, p) at e))
 
 optional-most : (opening : Place) (most : ℕ) (u v : List ℕ) (n : ℕ) → optional opening (UpTo most) u ≡ got n v → n ≤ most
 unfolding optional meant
@@ -137,7 +171,7 @@ then-some :
     → ((m : ℕ) (rest : List ℕ) → u ≡ got m rest → f m rest ≡ got n v → P) → P
 unfolding andThen
 then-some (got m rest) f v n P e h = h m rest refl e
-then-some missing f v n P e h = let z : _≡_ {A = ℕ} 0 1 = cc in absurd (omega arith)
+then-some missing f v n P e h = absurd (not-missing n v e)
 
 module _ (u v : List ℕ) (n : ℕ) where
   upto-most : (most : ℕ) → next (UpTo most) u ≡ got n v → n ≤ most
@@ -154,7 +188,7 @@ module _ (u v : List ℕ) (n : ℕ) where
 
   west-in : next West u ≡ got n v → n ≤ 360000
   unfolding meant
-  west-in e = next-some West u v n (n ≤ 360000) e (λ t p. west-some (kindOf t) t n p)
+  west-in e = next-some West u v n (n ≤ 360000) e (λ t p. west-some (opensWith t) t n p)
 
 exists-in : (year month day n : ℕ) → year ≤ 9999 → month ≤ 12 → existing year month day ≡ some n → n ≤ 3000000
 unfolding existing

@@ -4,9 +4,9 @@ pub mod calendar; // leap years, months and the count of days
 pub mod meaning; // what a token means at each place of a date
 pub mod token; // the tokens of a date
 
-use meaning::{Meaning, Place};
+use meaning::Meaning;
+use meaning::Place;
 use token::Found;
-
 ghost use Prim.Native.Nat.{_+_, _-_, _*_, _≤_};
 ghost use mathlib.Core.Path.{_≡_};
 ghost use lib.ListN.{drop};

@@ -1,11 +1,10 @@
 // What a token means at each place of a date: numbers of few digits, names of three letters, marks and zones.
-use crate::token::Opening;
 use crate::token;
+use crate::token::Opening;
 use tokens::Class;
-
 ghost use Prim.Native.Nat.{_≤_, _<_};
 ghost use mathlib.Core.Path.{_≡_};
-ghost use Rattle.date.specs.Date.{digitOf, numberOf, placeIn, markOf, dayOf, monthOf, yearBy, yearOf, twoDigits, offsetBy, offsetOf, hoursWest, kindOf, eastBy, westBy, meant as meantOf};
+ghost use Rattle.date.specs.Date.{digitOf, numberOf, placeIn, markOf, dayOf, monthOf, yearBy, yearOf, twoDigits, offsetBy, offsetOf, hoursWest, opensWith, eastBy, westBy, meant as meantOf};
 ghost use Rattle.date.specs.Answers.{meaning as meaningOf};
 
 const ZONE_HOURS: [u64; 8] = [5, 4, 6, 5, 7, 6, 8, 7];
@@ -197,7 +196,7 @@ fn hours_west(run: &[u8]) -> u64
 
 // The seconds that a zone lies east.
 fn east(run: &[u8]) -> Meaning
-    ensures { λ r. ⌜ r ≡ meaningOf (eastBy (kindOf (now (run .entry))) (now (run .entry))) ⌝ }
+    ensures { λ r. ⌜ r ≡ meaningOf (eastBy (opensWith (now (run .entry))) (now (run .entry))) ⌝ }
 {
     if run.len() == 0 {
         return Meaning::Nothing;
@@ -213,7 +212,7 @@ fn east(run: &[u8]) -> Meaning
 
 // The seconds that a zone lies west.
 fn west(run: &[u8]) -> Meaning
-    ensures { λ r. ⌜ r ≡ meaningOf (westBy (kindOf (now (run .entry))) (now (run .entry))) ⌝ }
+    ensures { λ r. ⌜ r ≡ meaningOf (westBy (opensWith (now (run .entry))) (now (run .entry))) ⌝ }
 {
     if run.len() == 0 {
         return Meaning::Nothing;
