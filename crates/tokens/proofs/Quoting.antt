@@ -7,14 +7,14 @@
 --     quoted-unreadable            an answer Unreadable: nothing is left
 -- Assumes nothing.
 use Prim.Native.Nat.{ℕ, _+_, _-_, _<_, _≤_}
-use mathlib.Core.Path.{_≡_, refl, sym, ap, _∙_}
+use mathlib.Core.Path.{_≡_, refl, sym, _∙_}
 use mathlib.Core.Bool.{Bool, true, false}
 use mathlib.Core.List.{List, [], _∷_}
-use mathlib.Core.Option.{Option, some, none}
+use mathlib.Core.Option.{some, none}
 use mathlib.Core.Logic.{⊎-elim}
 use native.Mathlib.Omega.{arith}
 use borrow.Author.Needs.{needs}
-use lib.ListN.{length, getD, drop}
+use lib.ListN.{length, drop}
 use lib.Seq.{drop-drop}
 use Rattle.octets.proofs.Lists.{lt-or-le, drop-one, drop-done}
 use Rattle.tokens.specs.Tokens.{control, kindOf, afterQuote}
@@ -40,24 +40,22 @@ module _ (s : List ℕ) (at i : ℕ) (h : Quoting s at i) where
   quoting-end l = rw (h .same, drop-done s i l)
 
   module _ (l : i < length s) (g : Step) (e : g ≡ stepIn 34 i (drop i s)) where
-    told : Moved afterQuote some s i g
+    told : (k : Step) → g ≡ k → Moved afterQuote some s i k
     unfolding afterQuote
-    told = rw e (moved afterQuote some s i 34 l (rw (drop-one s i l, afterQuote)) refl (λ x r. refl))
+    told k q = rw (sym q ∙ e) (moved afterQuote some s i 34 l (rw (drop-one s i l, afterQuote)) refl (λ x r. refl))
 
     pub quoting-on : (m : ℕ) → g ≡ On m → Quoting s at m
-    quoting-on m q = let t : Moved afterQuote some s i (On m) = rw q at told in record { same = h .same ∙ t .2 }
+    quoting-on m q = record { same = h .same ∙ told (On m) q .2 }
 
     pub quoting-nearer : (m : ℕ) → g ≡ On m → length s - m < length s - i
-    quoting-nearer m q = let t : Moved afterQuote some s i (On m) = rw q at told in omega arith
+    quoting-nearer m q = omega (arith, told (On m) q)
 
     pub quoting-ends : (m : ℕ) → g ≡ Ends m → To m ≡ reached s (afterQuote false (drop at s))
-    quoting-ends m q =
-        let t : Moved afterQuote some s i (Ends m) = rw q at told in
-        rw (h .same, t .2) (sym (reached-at s m (omega arith)))
+    quoting-ends m q = rw (h .same, told (Ends m) q .2) (sym (reached-at s m (told (Ends m) q .1)))
 
     pub quoting-stops : g ≡ Stops → Unreadable ≡ reached s (afterQuote false (drop at s))
     unfolding reached
-    quoting-stops q = let t : Moved afterQuote some s i Stops = rw q at told in rw (h .same, t)
+    quoting-stops q = rw (h .same, told Stops q)
 
 pub ruleset quoting = (quoting-begin, quoting-end, quoting-on, quoting-nearer, quoting-ends, quoting-stops, needs)
 

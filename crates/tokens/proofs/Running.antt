@@ -4,15 +4,14 @@
 --     run-length                   a run is no longer than the list
 --     run-belongs, run-stops       each octet of it belongs to the class, the one behind it does not
 --     run-append                   a run before another list
---     run-upto, run-all, run-next  the same of the run that begins at a place of a text
+--     run-from, run-upto, run-all, run-next    the same of the run that begins at a place of a text, by the place behind it
 -- Assumes nothing.
 use Prim.Native.Nat.{ℕ, suc, zero, _+_, _-_, _<_, _≤_}
-use mathlib.Core.Path.{_≡_, refl, sym, ap, _∙_}
+use mathlib.Core.Path.{_≡_, refl, sym, _∙_}
 use mathlib.Core.Bool.{Bool, true, false, not}
 use mathlib.Core.List.{List, [], _∷_, _++_}
 use native.Mathlib.Omega.{arith}
 use native.Mathlib.Nat.{add-zero}
-use native.Mathlib.Numerals.{add-one}
 use borrow.Author.Needs.{needs}
 use borrow.Author.Tests.{not-true, not-false}
 use lib.ListN.{length, getD, drop, length-drop}

@@ -10,19 +10,19 @@
 --     skip-unreadable              an answer Unreadable: nothing is left
 -- Assumes nothing.
 use Prim.Native.Nat.{ℕ, suc, zero, _+_, _-_, _<_, _≤_}
-use mathlib.Core.Path.{_≡_, refl, sym, ap, _∙_}
+use mathlib.Core.Path.{_≡_, refl, sym, _∙_}
 use mathlib.Core.Bool.{Bool, true, false}
 use mathlib.Core.List.{List, [], _∷_}
-use mathlib.Core.Option.{Option, some, none}
+use mathlib.Core.Option.{some, none}
 use native.Mathlib.Omega.{arith}
 use native.Mathlib.Nat.{sub-zero}
 use borrow.Author.Needs.{needs}
-use borrow.Author.Tests.{eq-eqb, ne-eqb, eqb-false}
+use borrow.Author.Tests.{eq-eqb, ne-eqb}
 use lib.Dec.{eqb, ltb}
 use lib.ListN.{length, getD, drop}
 use Rattle.octets.proofs.Lists.{drop-one, drop-done}
 use Rattle.tokens.specs.Tokens.{control, blank, kindOf, depth, past, skipped}
-use Rattle.tokens.specs.Answers.{reached, Passing, Passed}
+use Rattle.tokens.specs.Answers.{reached, opened, Passing, Passed}
 use Rattle.tokens.specs.declared.Kind.{Kind}
 use Rattle.tokens.specs.declared.Kind.the-variants.{Closes, Escapes, Control, Plain}
 use Rattle.tokens.specs.declared.Reached.{Reached}
@@ -46,7 +46,7 @@ module _ (s : List ℕ) (at i : ℕ) (h : Skipping s at i) where
   skipping-end l = rw (h .same, drop-done s i l, sub-zero)
 
   -- a comment, which the reader of comments has passed or found unreadable
-  module _ (r : Reached) (p : Passed s i (16 - 16) (16 - 16) r) where
+  module _ (r : Reached) (p : Passed s i (opened depth) (opened depth) r) where
     pub skipping-comment : (m : ℕ) → r ≡ To m → Skipping s at m
     skipping-comment m q = let t : Passing s i 0 0 m = rw q at p in record { same = h .same ∙ t .same }
 
@@ -138,11 +138,10 @@ module _ (x : ℕ) (s rest : List ℕ) (e : skipped s ≡ some (x ∷ rest)) whe
 
   pub left-not-opens : x ≡ 40 → ⊥
   unfolding past
-  left-not-opens p =
-      let inside : past 1 false rest ≡ some (x ∷ rest) =
-      rw (past, left-not-blank, eq-eqb x 40 p) at (skipped-again s (x ∷ rest) e)
-      in
-      not-behind x rest (left-behind 1 false rest (x ∷ rest) inside .0)
+  left-not-opens p = not-behind x rest (left-behind 1 false rest (x ∷ rest) inside .0)
+    where
+      inside : past 1 false rest ≡ some (x ∷ rest)
+      inside = rw (past, left-not-blank, eq-eqb x 40 p) at (skipped-again s (x ∷ rest) e)
 
 -- what a caller of `skip` learns from its answer r
 module _ (s : List ℕ) (at : ℕ) (r : Reached) (e : r ≡ reached s (skipped (drop at s))) where

@@ -1,7 +1,7 @@
 -- From the lists that the definitions leave behind to the places that the code answers.
---     reached            where in s what is left begins
---     takes, stepIn      what the readers of a single octet inside a comment or a quoted string say
---     Opening, Passed    what the readers of comments ask and say
+--     reached                    where in s what is left begins
+--     takes, stepIn              what the readers of a single octet inside a comment or a quoted string say
+--     opened, Opening, Passed    what the readers of comments ask and say
 use Prim.Native.Nat.{ℕ, _+_, _-_, _<_, _≤_}
 use mathlib.Core.Path.{_≡_}
 use mathlib.Core.List.{List, [], _∷_}
@@ -36,17 +36,22 @@ stepIn closing at (x ∷ s) =
       | Plain ↦ On (at + 1)
     ]
 
--- a comment opens at the place `at` of s, and up to `room` more may be open
+-- how many comments are open where `room` more may be
+abbrev pub opened : ℕ → ℕ
+opened room = depth - room
+
+-- a comment opens at the place `at` of s, where `room` more may be open
 abbrev pub Opening : List ℕ → ℕ → ℕ → Type 0
 Opening s at room = (at < length s) × (getD s at 0 ≡ octet "(") × (room ≤ depth)
 
 -- With `before` comments open at the place `at` of s, reading has come to a place n behind it with `after` open, and what is left behind
--- the comments is the same from either place.
+-- all comments is the same from either place.
 pub record Passing (s : List ℕ) (at before after n : ℕ) : Type 0 where
   pub beyond : at < n
   pub upto : n ≤ length s
   pub same : past before false (drop at s) ≡ past after false (drop n s)
 
+-- it has come to such a place, or the text is unreadable
 abbrev pub Passed : List ℕ → ℕ → ℕ → ℕ → Reached → Type 0
 Passed s at before after (To n) = Passing s at before after n
 Passed s at before after Unreadable = past before false (drop at s) ≡ none

@@ -1,13 +1,13 @@
 // The tokens that lists and dates share: spaces, tabs and comments skipped, quoted strings passed, and the ends of
 // runs of digits, of letters and of atoms. A reader is given the text and a place in it, and answers a place.
-ghost use Prim.Native.Nat.{suc, _+_, _-_, _<_};
+ghost use Prim.Native.Nat.{suc, _+_, _<_};
 ghost use mathlib.Core.Path.{_≡_};
 ghost use mathlib.Core.Bool.{false};
 ghost use lib.ListN.{drop};
-ghost use Rattle.tokens.specs.Tokens.{control, blank, kindOf, skipped, afterQuote, digit as digitOf, letter as letterOf, belongs, runLength};
-ghost use Rattle.tokens.specs.Answers.{reached, takes as takesOf, stepIn, Opening, Passed};
+ghost use Rattle.tokens.specs.Tokens.{control, blank, kindOf, depth, skipped, afterQuote, digit as digitOf, letter as letterOf, belongs, runLength};
+ghost use Rattle.tokens.specs.Answers.{reached, takes as takesOf, stepIn, opened, Opening, Passed};
 
-// How many comments may be open at once.
+// "A comment may hold comments, to depth 16, the outer one at 1"
 const DEPTH: usize = 16;
 
 // What an octet is inside a comment or a quoted string.
@@ -46,6 +46,7 @@ pub fn is_control(x: u8) -> bool
     ((x < 32) | (x == 127)) & (x != b'\t')
 }
 
+// "spaces, tabs"
 pub fn is_blank(x: u8) -> bool
     ensures { λ r. ⌜ r ≡ blank x ⌝ }
 {
@@ -99,10 +100,10 @@ fn step_in(closing: u8, s: &[u8], at: usize) -> Step
     }
 }
 
-// A comment opens at the place `at`, and `room` more may be open: reads to behind its end.
+// A comment opens at the place `at`, where `room` more may be open, this one counted: reads to behind its end.
 fn comment(s: &[u8], at: usize, room: usize) -> Reached
     requires { ⌜ Opening (now s) at room ⌝ }
-    ensures { λ r. ⌜ Passed (now (s .entry)) at (16 - room) (16 - room) r ⌝ }
+    ensures { λ r. ⌜ Passed (now (s .entry)) at (opened room) (opened room) r ⌝ }
 {
     if room == 0 {
         return Reached::Unreadable;
@@ -110,10 +111,11 @@ fn comment(s: &[u8], at: usize, room: usize) -> Reached
     content(s, at + 1, room - 1)
 }
 
-// The content of a comment from the place `at` on, in which `room` more may be open: reads to behind the comment's end.
+// The content of a comment from the place `at` on, where `room` more may be open: reads to behind the comment's end. Its
+// octets are read in a loop, so that a long comment takes no more of the stack than a short one.
 fn content(s: &[u8], at: usize, room: usize) -> Reached
-    requires { ⌜ room < 16 ⌝ }
-    ensures { λ r. ⌜ Passed (now (s .entry)) at (suc (15 - room)) (15 - room) r ⌝ }
+    requires { ⌜ room < depth ⌝ }
+    ensures { λ r. ⌜ Passed (now (s .entry)) at (suc (opened (room + 1))) (opened (room + 1)) r ⌝ }
 {
     let mut i = at;
     while i < s.len() {

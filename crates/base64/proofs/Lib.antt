@@ -1,0 +1,12 @@
+pub mod Alphabet
+pub mod Groups
+pub mod Blanks
+pub mod Nexts
+pub mod Measuring
+pub mod Putting
+pub mod Filling
+pub mod Lengths
+pub mod Laying
+pub mod RoundTrip
+pub mod Answered
+pub mod Worked
