@@ -4,10 +4,10 @@
 --     meant-as             the place that was asked for
 -- Assumes nothing.
 use Prim.Native.Nat.{ℕ, _+_, _-_, _*_, _/_, _%_, _≤_, _<_}
-use mathlib.Core.Path.{_≡_, refl, sym, ap, _∙_}
+use mathlib.Core.Path.{_≡_, refl, sym, _∙_}
 use mathlib.Core.Bool.{Bool, true, false}
 use mathlib.Core.List.{List, [], _∷_}
-use mathlib.Core.Option.{Option, some, none, bind}
+use mathlib.Core.Option.{some, bind}
 use native.Mathlib.Omega.{arith}
 use mir.Val.{Fits}
 use mir.Syntax.{w64}
@@ -41,7 +41,6 @@ use Rattle.date.specs.Date.{
 }
 use Rattle.date.specs.Answers.{meaning}
 use Rattle.date.specs.declared.token.Opening.{Opening}
-use Rattle.date.specs.declared.token.Opening.the-variants.{Number, Word, Plus, Minus, Mark}
 use Rattle.date.specs.declared.meaning.Place.{Place}
 use Rattle.date.specs.declared.meaning.Meaning.{Meaning}
 use Rattle.date.specs.declared.meaning.Meaning.the-variants.{Value, Nothing}

@@ -5,30 +5,15 @@
 --     end-..                     nothing may stand behind the zone
 --     date-..                    one part after the other, to the Date
 -- Assumes nothing.
-use Prim.Native.Nat.{ℕ, _+_, _-_, _*_, _≤_, _<_}
-use mathlib.Core.Path.{_≡_, refl, sym, ap, _∙_}
-use mathlib.Core.Bool.{Bool, true, false, _&&_}
-use mathlib.Core.List.{List, [], _∷_}
-use mathlib.Core.Option.{Option, some, none}
-use native.Mathlib.Omega.{arith}
+use Prim.Native.Nat.{ℕ, _+_, _-_, _≤_, _<_}
+use mathlib.Core.Path.{_≡_, refl}
+use mathlib.Core.List.{List}
+use mathlib.Core.Option.{Option}
 use borrow.Author.Needs.{needs}
 use borrow.Author.Tests.{le-leb, lt-leb}
-use lib.ListN.{length, drop}
+use lib.ListN.{drop}
 use Rattle.date.specs.Calendar.{leap, leapDay, monthLength, yearDays, monthDays, dayCount}
-use Rattle.date.specs.Date.{
-  onlyIf,
-  Read,
-  got,
-  missing,
-  firstToken,
-  readOf,
-  andThen,
-  next,
-  existing,
-  zoned,
-  epoch,
-  ended,
-}
+use Rattle.date.specs.Date.{onlyIf, Read, got, firstToken, readOf, andThen, next, existing, zoned, epoch, ended}
 use Rattle.date.specs.Answers.{datedOf, meaning, tokenIn, readIn}
 use Rattle.date.specs.declared.token.Found.{Found}
 use Rattle.date.specs.declared.token.Found.the-variants.{Between, End, Unreadable}
