@@ -24,6 +24,7 @@ pub enum Found {
     Unreadable,
 }
 
+// What the octet opens. Any that opens no token of a date counts as a mark.
 pub fn opened_by(x: u8) -> Opening
     ensures { λ r. ⌜ r ≡ openingOf x ⌝ }
 {
