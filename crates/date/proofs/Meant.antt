@@ -34,11 +34,7 @@ use Rattle.date.specs.Date.{
   offsetBy,
   offsetOf,
   hoursWest,
-<<<<<<< HEAD
-  kindOf,
-=======
   opensWith,
->>>>>>> date
   eastBy,
   westBy,
   meant,

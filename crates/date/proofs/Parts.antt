@@ -13,27 +13,8 @@ use borrow.Author.Needs.{needs}
 use borrow.Author.Tests.{le-leb, lt-leb}
 use lib.ListN.{drop}
 use Rattle.date.specs.Calendar.{leap, leapDay, monthLength, yearDays, monthDays, dayCount}
-<<<<<<< HEAD
-use Rattle.date.specs.Date.{
-  onlyIf,
-  Read,
-  got,
-  missing,
-  firstToken,
-  readOf,
-  andThen,
-  next,
-  existing,
-  zoned,
-  epoch,
-  ended,
-  effectiveDate,
-}
-use Rattle.date.specs.Answers.{datedOf, optionOf, meaning, tokenIn, readIn}
-=======
 use Rattle.date.specs.Date.{onlyIf, Read, got, firstToken, readOf, andThen, next, existing, zoned, epoch, ended}
 use Rattle.date.specs.Answers.{datedOf, meaning, tokenIn, readIn}
->>>>>>> date
 use Rattle.date.specs.declared.token.Found.{Found}
 use Rattle.date.specs.declared.token.Found.the-variants.{Between, End, Unreadable}
 use Rattle.date.specs.declared.meaning.Place.the-variants.{East, West}

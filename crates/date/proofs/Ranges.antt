@@ -30,11 +30,7 @@ use Rattle.date.specs.Date.{
   offsetOf,
   hoursWest,
   westBy,
-<<<<<<< HEAD
-  kindOf,
-=======
   opensWith,
->>>>>>> date
   meant,
   Token,
   token,
