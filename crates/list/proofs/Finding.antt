@@ -80,11 +80,11 @@ pub ruleset finding-run = (run-from, run-upto, run-long, run-address, run-unread
 -- the quoted string whose opening quote stands at the place `from`
 module _ (s : List ℕ) (from : ℕ) (r : Reached) (e : r ≡ reached s (afterQuote false (drop (from + 1) s))) where
   closed : (to : ℕ) → r ≡ To to → Left s ((from + 1) + 1) to (afterQuote false (drop (from + 1) s))
-  closed to q = quoted-to s (from + 1) to (sym q ∙ e)
+  closed to q = quoted-to s (from + 1) r e to q
 
   pub quote-word : (to : ℕ) → r ≡ To to → foundIn s (Other Word to) ≡ quotedToken (drop from s)
   unfolding foundIn quotedToken
-  quote-word to q = rw (quotedToken, drop-drop, closed to q .rest)
+  quote-word to q = rw (quotedToken, drop-drop, closed to q .left)
 
   pub quote-long : (to : ℕ) → r ≡ To to → from < to
   quote-long to q = omega (arith, closed to q .from)
@@ -94,7 +94,7 @@ module _ (s : List ℕ) (from : ℕ) (r : Reached) (e : r ≡ reached s (afterQu
 
   pub quote-unread : r ≡ Unreadable → foundIn s Unfound ≡ quotedToken (drop from s)
   unfolding foundIn quotedToken
-  quote-unread q = rw (quotedToken, drop-drop, quoted-unreadable s (from + 1) (sym q ∙ e))
+  quote-unread q = rw (quotedToken, drop-drop, quoted-unreadable s (from + 1) r e q)
 
 pub ruleset finding-quoted = (quote-word, quote-long, quote-upto, quote-unread, needs)
 
@@ -161,13 +161,13 @@ module _ (s : List ℕ) (at : ℕ) (r : Reached) (e : r ≡ reached s (skipped (
   past-end n l q = let z : To n ≡ To (length s) = sym q ∙ e ∙ rw (drop-done s at l, sub-zero) in cc
 
   came : (n : ℕ) → r ≡ To n → at < length s → Left s at n (skipped (drop at s))
-  came n q l = skip-to s at n (omega arith) (sym q ∙ e)
+  came n q l = skip-to s at r e n q (omega arith)
 
   left-at : (n : ℕ) → r ≡ To n → skipped (drop at s) ≡ some (drop n s)
   unfolding past
   left-at n q =
       ⊎-elim
-      (λ (l : at < length s). came n q l .rest)
+      (λ (l : at < length s). came n q l .left)
       (λ (l : length s ≤ at). rw (drop-done s at l, drop-done s n (omega (arith, past-end n l q))))
       (lt-or-le at (length s))
 
@@ -188,6 +188,6 @@ module _ (s : List ℕ) (at : ℕ) (r : Reached) (e : r ≡ reached s (skipped (
 
   pub first-unread : r ≡ Unreadable → foundIn s Unfound ≡ firstToken (drop at s)
   unfolding foundIn firstToken
-  first-unread q = rw (firstToken, skip-unreadable s at (sym q ∙ e))
+  first-unread q = rw (firstToken, skip-unreadable s at r e q)
 
 pub ruleset finding = (inside-earlier, first-later, first-end, first-token, first-unread, needs)

@@ -18,7 +18,7 @@ use borrow.Author.Tests.{ne-eqb}
 use lib.ListN.{length, getD, take, drop, length-drop, drop-of-length-le}
 use lib.Seq.{drop-cons, getD-drop, take-length, drop-length}
 use Rattle.octets.proofs.Lists.{lt-or-le}
-use Rattle.tokens.specs.Tokens.{blank, belongs, sign, past, skipped}
+use Rattle.tokens.specs.Tokens.{blank, belongs, past, skipped}
 use Rattle.tokens.proofs.Skipping.{stays}
 use Rattle.address.specs.Pieces.{run, every}
 use Rattle.address.specs.Address.{addressOctet, plain}
@@ -53,7 +53,7 @@ not-blank x o =
     rw (ne-eqb x 32 (λ e. omega arith), ne-eqb x 9 (λ e. omega arith))
 
 opens-none : (x : ℕ) → addressOctet x ≡ true → x ≡ 40 → ⊥
-unfolding addressOctet belongs sign
+unfolding addressOctet belongs
 opens-none x o e = false≢true (rw e at o)
 
 run-plain : (a : List ℕ) → plain a ≡ true → runToken a ≡ address a []

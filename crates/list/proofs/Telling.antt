@@ -14,7 +14,7 @@ use borrow.Author.Tests.{eq-eqb, ne-eqb, eqb-true}
 use lib.Dec.{eqb}
 use lib.ListN.{length, getD, drop}
 use Rattle.octets.proofs.Lists.{drop-one, drop-done}
-use Rattle.tokens.specs.Tokens.{belongs, sign}
+use Rattle.tokens.specs.Tokens.{belongs}
 use Rattle.tokens.specs.declared.Class.the-variants.{Atom}
 use Rattle.address.specs.Address.{addressOctet}
 use Rattle.address.proofs.Every.{by-test}
@@ -29,27 +29,27 @@ in-run x a e = rw e
 
 module _ (x : ℕ) where
   pub opens-quote : x ≡ 34 → Quote ≡ openingOf x
-  unfolding openingOf addressOctet belongs sign
+  unfolding openingOf addressOctet belongs
   opens-quote e = rw e
 
   pub opens-comma : x ≡ 44 → Sign Comma ≡ openingOf x
-  unfolding openingOf addressOctet belongs sign
+  unfolding openingOf addressOctet belongs
   opens-comma e = rw e
 
   pub opens-less : x ≡ 60 → Sign Less ≡ openingOf x
-  unfolding openingOf addressOctet belongs sign
+  unfolding openingOf addressOctet belongs
   opens-less e = rw e
 
   pub opens-greater : x ≡ 62 → Sign Greater ≡ openingOf x
-  unfolding openingOf addressOctet belongs sign
+  unfolding openingOf addressOctet belongs
   opens-greater e = rw e
 
   pub opens-colon : x ≡ 58 → Sign Colon ≡ openingOf x
-  unfolding openingOf addressOctet belongs sign
+  unfolding openingOf addressOctet belongs
   opens-colon e = rw e
 
   pub opens-semicolon : x ≡ 59 → Sign Semicolon ≡ openingOf x
-  unfolding openingOf addressOctet belongs sign
+  unfolding openingOf addressOctet belongs
   opens-semicolon e = rw e
 
   module _ (b : Bool) (e : b ≡ addressOctet x) where

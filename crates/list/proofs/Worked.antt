@@ -8,7 +8,7 @@ use mathlib.Core.List.{List, [], _∷_, _++_, map}
 use mathlib.Core.Option.{some, none}
 use lib.ListN.{replicate}
 use Rattle.octets.specs.Octets.{ascii, octet}
-use Rattle.tokens.specs.Tokens.{control, blank, kindOf, past, afterQuote, belongs, sign}
+use Rattle.tokens.specs.Tokens.{control, blank, kindOf, past, afterQuote, belongs}
 use Rattle.address.specs.Pieces.{every, onFirst, pieces, before, behind, run}
 use Rattle.address.specs.Address.{addressOctet, atom, localPart, labelOctet, freeEnds, label, domain, plain}
 use Rattle.list.specs.List.{openingOf, holdsAt, runToken, quotedToken, tokenAt, firstToken, afterAddress, after, inFront, listedBy, listed, addresses}
@@ -61,5 +61,5 @@ pub worked :
     × Unread "\"c <a@b>"
     × (addresses (nested 16) ≡ some (ascii "a@b" ∷ []))
     × (addresses (nested 17) ≡ none)
-unfolding openingOf holdsAt runToken quotedToken tokenAt firstToken afterAddress after inFront listedBy listed addresses addressOctet atom localPart labelOctet freeEnds label domain plain every onFirst pieces before behind run control blank kindOf past afterQuote belongs sign
+unfolding openingOf holdsAt runToken quotedToken tokenAt firstToken afterAddress after inFront listedBy listed addresses addressOctet atom localPart labelOctet freeEnds label domain plain every onFirst pieces before behind run control blank kindOf past afterQuote belongs
 worked = (refl, refl, refl, refl, refl, refl, refl, refl, refl, refl, refl, refl, refl, refl, refl, refl, refl, refl, refl, refl, refl, refl, refl, refl, refl, refl, refl, refl, refl, refl, refl, refl, refl, refl, refl, refl, refl)
