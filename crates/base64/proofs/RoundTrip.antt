@@ -8,25 +8,22 @@
 --     lines-read-back        the written lines decode to the octets
 -- Assumes nothing.
 use Prim.Native.Nat.{ℕ, zero, suc, _+_, _*_, _/_, _%_, _<_, _≤_}
-use mathlib.Core.Path.{_≡_, refl, sym, ap, _∙_}
+use mathlib.Core.Path.{_≡_, refl, ap, _∙_}
 use mathlib.Core.Bool.{Bool, true, false, _||_}
 use mathlib.Core.List.{List, [], _∷_}
-use mathlib.Core.Option.{Option, some, none}
+use mathlib.Core.Option.{some}
 use mathlib.Core.Logic.{⊎-elim}
 use native.Mathlib.Omega.{arith}
 use borrow.Author.Tests.{eqb-true, le-ltb, ne-eqb}
 use lib.Dec.{eqb}
-use lib.ListN.{length, getD}
 use Rattle.octets.specs.Octets.{AllOctets}
 use Rattle.octets.proofs.Lists.{lt-or-le}
 use Rattle.base64.specs.Base64.{letter, signOf, closed, grouped, groupOf, before, atEnd, follow, decode, blank, withoutBlanks, encode, laid, lines}
 use Rattle.base64.specs.Joined.{ending, joined, spaced, spread, Free, Alphabetic}
 use Rattle.base64.proofs.Alphabet.{sign-of-letter}
-use Rattle.base64.proofs.Blanks.{blank-other, without-blank, without-one, without-none}
-use Rattle.base64.specs.declared.Sign.{Sign}
-use Rattle.base64.specs.declared.Sign.the-variants.{Value, Pad, Other}
-use Rattle.base64.specs.declared.Group.{Group}
-use Rattle.base64.specs.declared.Group.the-variants.{Three, Two, One, Broken}
+use Rattle.base64.proofs.Blanks.{blank-other, without-one, without-none}
+use Rattle.base64.specs.declared.Sign.the-variants.{Value, Other}
+use Rattle.base64.specs.declared.Group.the-variants.{Three, Two, One}
 
 -- the characters of three, two and one octets stand for them
 group-three : (a b c : ℕ) → a < 256 → b < 256 → c < 256

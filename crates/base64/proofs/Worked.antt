@@ -3,8 +3,8 @@
 use Prim.Native.Nat.{ℕ}
 use mathlib.Core.Path.{_≡_, refl}
 use mathlib.Core.List.{List, [], _++_}
-use mathlib.Core.Option.{Option, some, none}
-use lib.ListN.{length, replicate}
+use mathlib.Core.Option.{some, none}
+use lib.ListN.{replicate}
 use Rattle.octets.specs.Octets.{ascii}
 use Rattle.base64.specs.Base64.{letter, signOf, closed, grouped, before, atEnd, follow, decode, blank, withoutBlanks, encode, laid, lines}
 
