@@ -1,0 +1,228 @@
+// The tokens that lists and dates share: spaces, tabs and comments skipped, quoted strings passed, and the ends of
+// runs of digits, of letters and of atoms. A reader is given the text and a place in it, and answers a place.
+ghost use Prim.Native.Nat.{suc, _+_, _<_};
+ghost use mathlib.Core.Path.{_≡_};
+ghost use mathlib.Core.Bool.{false};
+ghost use lib.ListN.{drop};
+ghost use Rattle.tokens.specs.Tokens.{control, blank, kindOf, depth, skipped, afterQuote, digit as digitOf, letter as letterOf, belongs, runLength};
+ghost use Rattle.tokens.specs.Answers.{reached, takes as takesOf, stepIn, opened, Opening, Passed};
+
+// "A comment may hold comments, to depth 16, the outer one at 1"
+const DEPTH: usize = 16;
+
+// What an octet is inside a comment or a quoted string.
+pub enum Kind {
+    Closes,
+    Escapes,
+    Control,
+    Plain,
+}
+
+// What reading inside a comment or a quoted string comes to at a place: it goes on at another place, it has come to
+// the end and to the place behind it, or the text is unreadable.
+enum Step {
+    On(usize),
+    Ends(usize),
+    Stops,
+}
+
+// The classes of octets that make runs.
+pub enum Class {
+    Digit,
+    Letter,
+    Atom,
+}
+
+// The place that a reader reached; or the text is unreadable.
+pub enum Reached {
+    To(usize),
+    Unreadable,
+}
+
+// "control octets (below 32, and 127) other than tab"
+pub fn is_control(x: u8) -> bool
+    ensures { λ r. ⌜ r ≡ control x ⌝ }
+{
+    ((x < 32) | (x == 127)) & (x != b'\t')
+}
+
+// "spaces, tabs"
+pub fn is_blank(x: u8) -> bool
+    ensures { λ r. ⌜ r ≡ blank x ⌝ }
+{
+    (x == b' ') | (x == b'\t')
+}
+
+// What `x` is inside a comment or a quoted string that `closing` closes.
+fn kind_of(closing: u8, x: u8) -> Kind
+    ensures { λ r. ⌜ r ≡ kindOf closing x ⌝ }
+{
+    if x == closing {
+        return Kind::Closes;
+    }
+    if x == b'\\' {
+        return Kind::Escapes;
+    }
+    if is_control(x) {
+        return Kind::Control;
+    }
+    Kind::Plain
+}
+
+// Does an octet stand at the place `at` that a backslash before it may take?
+fn takes(s: &[u8], at: usize) -> bool
+    ensures { λ r. ⌜ r ≡ takesOf (drop at (now (s .entry))) ⌝ }
+{
+    if s.len() <= at {
+        return false;
+    }
+    !is_control(s[at])
+}
+
+// What stands at the place `at` inside a comment or a quoted string that `closing` closes.
+fn step_in(closing: u8, s: &[u8], at: usize) -> Step
+    ensures { λ r. ⌜ r ≡ stepIn closing at (drop at (now (s .entry))) ⌝ }
+{
+    if s.len() <= at {
+        return Step::Stops;
+    }
+    match kind_of(closing, s[at]) {
+        Kind::Closes => Step::Ends(at + 1),
+        Kind::Escapes => {
+            if takes(s, at + 1) {
+                Step::On(at + 2)
+            } else {
+                Step::Stops
+            }
+        }
+        Kind::Control => Step::Stops,
+        Kind::Plain => Step::On(at + 1),
+    }
+}
+
+// A comment opens at the place `at`, where `room` more may be open, this one counted: reads to behind its end.
+fn comment(s: &[u8], at: usize, room: usize) -> Reached
+    requires { ⌜ Opening (now s) at room ⌝ }
+    ensures { λ r. ⌜ Passed (now (s .entry)) at (opened room) (opened room) r ⌝ }
+{
+    if room == 0 {
+        return Reached::Unreadable;
+    }
+    content(s, at + 1, room - 1)
+}
+
+// The content of a comment from the place `at` on, where `room` more may be open: reads to behind the comment's end. Its
+// octets are read in a loop, so that a long comment takes no more of the stack than a short one.
+fn content(s: &[u8], at: usize, room: usize) -> Reached
+    requires { ⌜ room < depth ⌝ }
+    ensures { λ r. ⌜ Passed (now (s .entry)) at (suc (opened (room + 1))) (opened (room + 1)) r ⌝ }
+{
+    let mut i = at;
+    while i < s.len() {
+        if s[i] == b'(' {
+            match comment(s, i, room) {
+                Reached::To(n) => i = n,
+                Reached::Unreadable => return Reached::Unreadable,
+            }
+        } else {
+            match step_in(b')', s, i) {
+                Step::On(n) => i = n,
+                Step::Ends(n) => return Reached::To(n),
+                Step::Stops => return Reached::Unreadable,
+            }
+        }
+    }
+    Reached::Unreadable
+}
+
+// The place behind all spaces, tabs and comments from the place `at` on.
+pub fn skip(s: &[u8], at: usize) -> Reached
+    ensures { λ r. ⌜ r ≡ reached (now (s .entry)) (skipped (drop at (now (s .entry)))) ⌝ }
+{
+    let mut i = at;
+    while i < s.len() {
+        if is_blank(s[i]) {
+            i += 1;
+        } else if s[i] == b'(' {
+            match comment(s, i, DEPTH) {
+                Reached::To(n) => i = n,
+                Reached::Unreadable => return Reached::Unreadable,
+            }
+        } else {
+            return Reached::To(i);
+        }
+    }
+    Reached::To(s.len())
+}
+
+// The place behind a quoted string whose opening quote stands before the place `at`.
+pub fn quoted(s: &[u8], at: usize) -> Reached
+    ensures { λ r. ⌜ r ≡ reached (now (s .entry)) (afterQuote false (drop at (now (s .entry)))) ⌝ }
+{
+    let mut i = at;
+    while i < s.len() {
+        match step_in(b'"', s, i) {
+            Step::On(n) => i = n,
+            Step::Ends(n) => return Reached::To(n),
+            Step::Stops => return Reached::Unreadable,
+        }
+    }
+    Reached::Unreadable
+}
+
+fn digit(x: u8) -> bool
+    ensures { λ r. ⌜ r ≡ digitOf x ⌝ }
+{
+    (b'0' <= x) & (x <= b'9')
+}
+
+fn letter(x: u8) -> bool
+    ensures { λ r. ⌜ r ≡ letterOf x ⌝ }
+{
+    ((b'A' <= x) & (x <= b'Z')) | ((b'a' <= x) & (x <= b'z'))
+}
+
+// Letters, digits, the signs ! # $ % & ' * + - / = ? ^ _ ` { | } ~ and the octets of 128 and above, as ranges. Small letters,
+// the most of what stands in atoms, are known by the first of them.
+fn atom(x: u8) -> bool
+    ensures { λ r. ⌜ r ≡ belongs Class.Atom x ⌝ }
+{
+    if b'^' <= x {
+        return x != 127;
+    }
+    if b'A' <= x {
+        return x <= b'Z';
+    }
+    ((b'/' <= x) & (x <= b'9'))
+        | ((b'*' <= x) & (x <= b'+'))
+        | ((b'#' <= x) & (x <= b'\''))
+        | (x == b'-')
+        | (x == b'!')
+        | (x == b'=')
+        | (x == b'?')
+}
+
+// Does the octet belong to the class?
+pub fn within(class: Class, x: u8) -> bool
+    ensures { λ r. ⌜ r ≡ belongs class x ⌝ }
+{
+    match class {
+        Class::Digit => digit(x),
+        Class::Letter => letter(x),
+        Class::Atom => atom(x),
+    }
+}
+
+// The end of the run of octets of the class that begins at the place `at`; `at` itself where there is none.
+pub fn run_end(s: &[u8], at: usize, class: Class) -> usize
+    ensures { λ r. ⌜ r ≡ at + runLength class (drop at (now (s .entry))) ⌝ }
+{
+    let mut i = at;
+    while i < s.len() {
+        if !within(class, s[i]) {
+            return i;
+        }
+        i += 1;
+    }
+    i
+}

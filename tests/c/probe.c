@@ -1,0 +1,57 @@
+/* The static library called from C: a few answers whose values are known from RFC 4648 and the scope paper. */
+#include <stdbool.h>
+#include <stddef.h>
+#include <stdint.h>
+#include <stdio.h>
+#include <string.h>
+
+typedef struct { uint64_t kind, value; } answer;
+
+answer probe_decode(const uint8_t *text, size_t length, uint8_t *out, size_t room);
+answer probe_lines(const uint8_t *key, size_t length, uint8_t *out, size_t room, size_t at);
+answer probe_skip(const uint8_t *s, size_t length, size_t at);
+answer probe_date(const uint8_t *value, size_t length);
+bool probe_is_zero(const uint8_t *s, size_t length);
+bool probe_same_name(const uint8_t *a, size_t m, const uint8_t *b, size_t n);
+
+static int passed, failed;
+
+static void expect(const char *what, bool ok) {
+    if (ok) passed++; else { failed++; printf("not as expected: %s\n", what); }
+}
+
+static const uint8_t *octets(const char *text) { return (const uint8_t *)text; }
+
+static bool decodes(const char *text, const char *to) {
+    uint8_t out[16];
+    memset(out, '?', sizeof out);
+    answer r = probe_decode(octets(text), strlen(text), out, sizeof out);
+    return r.kind == 0 && r.value == strlen(to) && memcmp(out, to, strlen(to)) == 0 && out[strlen(to)] == '?';
+}
+
+static bool dated(const char *text, uint64_t kind, uint64_t seconds) {
+    answer r = probe_date(octets(text), strlen(text));
+    return r.kind == kind && r.value == seconds;
+}
+
+int main(void) {
+    uint8_t zeros[100] = {0}, out[16] = "................";
+    expect("foobar", decodes("Zm9vYmFy", "foobar"));
+    expect("fo", decodes("Zm8=", "fo"));
+    expect("a null pointer with length 0", probe_decode(NULL, 0, NULL, 0).kind == 0);
+    expect("unused bits", probe_decode(octets("Zh=="), 4, out, 16).kind == 1);
+    expect("no room", probe_decode(octets("Zm9v"), 4, out, 2).kind == 2 && out[0] == '.');
+    answer r = probe_lines(octets("foo"), 3, out, 16, 1);
+    expect("lines", r.kind == 0 && r.value == 8 && memcmp(out, ". Zm9v\r\n........", 16) == 0);
+    r = probe_skip(octets(" (a(b)) x"), 9, 0);
+    expect("skip", r.kind == 0 && r.value == 8);
+    expect("zero date", dated("1 Jan 1970 00:00:00 +0000", 0, 0));
+    expect("march", dated("1 Mar 2000 00:00:00 -0100", 0, 951872400));
+    expect("no leap day", dated("29 Feb 1900 00:00 GMT", 1, 0));
+    expect("zeros", probe_is_zero(zeros, 100));
+    zeros[99] = 1;
+    expect("no zeros", !probe_is_zero(zeros, 100));
+    expect("names", probe_same_name(octets("Autocrypt"), 9, octets("aUTOCRYPT"), 9));
+    printf("%d passed, %d failed\n", passed, failed);
+    return failed != 0;
+}

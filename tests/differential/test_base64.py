@@ -1,0 +1,62 @@
+"""Crate base64 against the independent program: good and damaged texts, room that is enough and room that is not."""
+import unittest
+
+from against import Cases
+from paper import base64
+from probe import SEED, Probe
+
+
+class Base64(unittest.TestCase):
+    def setUp(self):
+        self.probe = Probe()
+        self.cases = Cases(SEED)
+        self.random = self.cases.random
+
+    def decode(self, text: bytes, out: bytes):
+        octets = base64.decode(text)
+        if octets is None:
+            expected = (1, 0, out)
+        elif len(octets) > len(out):
+            expected = (2, 0, out)
+        else:
+            expected = (0, len(octets), octets + out[len(octets) :])
+        self.assertEqual(self.probe.decode(text, out), expected, text)
+        return expected[0]
+
+    def test_decode(self):
+        answers = set()
+        for _ in range(20_000):
+            text = self.cases.base64_text()
+            octets = base64.decode(text)
+            length = 64 if octets is None else len(octets)
+            room = max(0, length + self.random.choice([-1, 0, 1, 100]))
+            answers.add(self.decode(text, self.cases.octets(room).ljust(room, b"?")))
+        self.assertEqual(answers, {0, 1, 2})
+
+    def test_each_group(self):
+        """Each character at each place of a last group, after a whole one."""
+        for place in range(4):
+            for x in range(256):
+                for group in (b"Zm9v", b"Zm8=", b"Zg=="):
+                    text = b"Zm9v" + group[:place] + bytes([x]) + group[place + 1 :]
+                    self.decode(text, bytes(8))
+
+    def test_lines(self):
+        lengths = list(range(0, 240)) + [2046, 2047, 2048, 2049, 8192]
+        for length in lengths:
+            key = self.random.randbytes(length)
+            lines = base64.lines(key)
+            for room, at in ((len(lines), 0), (len(lines) + 3, 0), (len(lines) + 3, 2), (len(lines) + 3, 4)):
+                out = self.random.randbytes(room)
+                fits = at + len(lines) <= room
+                after = out[:at] + lines + out[at + len(lines) :] if fits else out
+                expected = (0, at + len(lines), after) if fits else (2, 0, out)
+                self.assertEqual(self.probe.lines(key, out, at), expected)
+            if lines:
+                self.assertEqual(self.probe.lines(key, bytes(len(lines) - 1), 0), (2, 0, bytes(len(lines) - 1)))
+            # what is written reads back
+            self.assertEqual(self.probe.decode(lines.replace(b"\r\n", b""), bytes(length)), (0, length, key))
+
+
+if __name__ == "__main__":
+    unittest.main()

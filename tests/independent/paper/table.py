@@ -1,0 +1,229 @@
+"""The table: its slots, their soundness, and the entries they hold."""
+
+from dataclasses import dataclass
+
+from paper.address import canonical, is_plain
+
+# "1 to 256 slots of 4,392 octets."
+SLOT = 4_392
+SLOTS_LIMIT = 256
+
+# "A two-octet mark opens each slot: 41 31 used, 00 00 free." A free slot is all zero,
+# so its mark needs no look of its own.
+USED = b"\x41\x31"
+
+# "Times are seconds since 1970-01-01 UTC, 0 to 253,402,300,799."
+TIME_LIMIT = 253_402_300_799
+
+# "key lengths are 1 to 2,048"
+KEY_LIMIT = 2_048
+
+# Octet 4: "bit 0 last seen, bit 1 direct key, bit 2 gossip key, bit 3 mutual"
+LAST_SEEN = 1
+DIRECT = 2
+GOSSIP = 4
+MUTUAL = 8
+
+# The columns of the paper's table: first octet and the octet behind the last.
+MARK_AT = (0, 2)
+ADDRESS_LENGTH_AT = (2, 4)
+BITS_AT = 4
+ZERO_AT = (5, 8)
+LAST_SEEN_AT = (8, 16)
+AUTOCRYPT_TIMESTAMP_AT = (16, 24)
+GOSSIP_TIMESTAMP_AT = (24, 32)
+DIRECT_LENGTH_AT = (32, 34)
+GOSSIP_LENGTH_AT = (34, 36)
+ZERO_TOO_AT = (36, 40)
+ADDRESS_AT = (40, 296)
+DIRECT_KEY_AT = (296, 2344)
+GOSSIP_KEY_AT = (2344, 4392)
+
+Place = tuple[int, int]
+
+
+@dataclass
+class Entry:
+    """What a used slot holds. None stands for what is absent."""
+    address: bytes
+    last_seen: int | None = None
+    autocrypt_timestamp: int | None = None  # present exactly when the direct key is
+    direct_key: bytes | None = None
+    mutual: bool = False
+    gossip_timestamp: int | None = None  # present exactly when the gossip key is
+    gossip_key: bytes | None = None
+
+
+def octets(slot: bytes, place: Place) -> bytes:
+    return slot[place[0]:place[1]]
+
+
+# "Numbers are little-endian."
+def number(slot: bytes, place: Place) -> int:
+    return int.from_bytes(octets(slot, place), "little")
+
+
+def is_zero(run: bytes) -> bool:
+    return run == bytes(len(run))
+
+
+def slots(table: bytes) -> list[bytes]:
+    """The slots of a table of whole slots."""
+    return [table[at:at + SLOT] for at in range(0, len(table), SLOT)]
+
+
+def check(table: bytes) -> tuple[int, int]:
+    """The refusal number a table gives, 0 for none, and the index that 2 carries."""
+    # "1: table length isn't 1 to 256 whole slots"
+    if len(table) % SLOT != 0 or not 1 <= len(table) // SLOT <= SLOTS_LIMIT:
+        return 1, 0
+    # "2: a slot is neither free nor sound; the lowest such index is returned"
+    lower: list[bytes] = []
+    for index, slot in enumerate(slots(table)):
+        if is_free(slot):
+            continue
+        # "sound when its address is canonical and in no lower slot" (T4, T7)
+        if not is_sound_alone(slot) or address_of(slot) in lower:
+            return 2, index
+        lower.append(address_of(slot))
+    return 0, 0
+
+
+def is_free(slot: bytes) -> bool:
+    # "A free slot is all zero." (T1)
+    return is_zero(slot)
+
+
+def address_of(slot: bytes) -> bytes:
+    return octets(slot, ADDRESS_AT)[:number(slot, ADDRESS_LENGTH_AT)]
+
+
+def is_sound_alone(slot: bytes) -> bool:
+    """Every condition of a sound used slot but that on the lower slots."""
+    # "A two-octet mark opens each slot: 41 31 used"
+    if octets(slot, MARK_AT) != USED:
+        return False
+    # "its address is canonical": at most 254 octets, though 256 would fit (T5). A length
+    # beyond the area gives all 256 octets of it, which are no plain address.
+    address = address_of(slot)
+    if not is_plain(address) or canonical(address) != address:
+        return False
+    # "bits 4 to 7, octets 5-7 and 36-39 are clear"
+    bits = slot[BITS_AT]
+    if bits >= 16 or not is_zero(octets(slot, ZERO_AT)) or not is_zero(octets(slot, ZERO_TOO_AT)):
+        return False
+    # "times are in range"; absent ones through being zero (T6).
+    for place in (LAST_SEEN_AT, AUTOCRYPT_TIMESTAMP_AT, GOSSIP_TIMESTAMP_AT):
+        if number(slot, place) > TIME_LIMIT:
+            return False
+    # "key lengths are 1 to 2,048 where the bit is set"
+    for bit, place in ((DIRECT, DIRECT_LENGTH_AT), (GOSSIP, GOSSIP_LENGTH_AT)):
+        if bits & bit and not 1 <= number(slot, place) <= KEY_LIMIT:
+            return False
+    # "everything absent ... is zero"
+    if not bits & LAST_SEEN and number(slot, LAST_SEEN_AT) != 0:
+        return False
+    if not bits & DIRECT and (number(slot, AUTOCRYPT_TIMESTAMP_AT) != 0
+                              or number(slot, DIRECT_LENGTH_AT) != 0):
+        return False
+    if not bits & GOSSIP and (number(slot, GOSSIP_TIMESTAMP_AT) != 0
+                              or number(slot, GOSSIP_LENGTH_AT) != 0):
+        return False
+    # "or past a length is zero"; an absent key has length 0, so all of its area is
+    # past the length.
+    for length_place, place in ((ADDRESS_LENGTH_AT, ADDRESS_AT),
+                                (DIRECT_LENGTH_AT, DIRECT_KEY_AT),
+                                (GOSSIP_LENGTH_AT, GOSSIP_KEY_AT)):
+        if not is_zero(octets(slot, place)[number(slot, length_place):]):
+            return False
+    # "mutual implies a direct key"
+    if bits & MUTUAL and not bits & DIRECT:
+        return False
+    # "a direct key implies last seen present and not below the Autocrypt timestamp"
+    if bits & DIRECT:
+        if not bits & LAST_SEEN:
+            return False
+        if number(slot, LAST_SEEN_AT) < number(slot, AUTOCRYPT_TIMESTAMP_AT):
+            return False
+    return True
+
+
+def entry_of(slot: bytes) -> Entry | None:
+    """The entry of a sound slot; None for a free one."""
+    if is_free(slot):
+        return None
+    # "Zero is a real time; only the bits mark absence."
+    bits = slot[BITS_AT]
+    entry = Entry(address_of(slot))
+    if bits & LAST_SEEN:
+        entry.last_seen = number(slot, LAST_SEEN_AT)
+    if bits & DIRECT:
+        entry.autocrypt_timestamp = number(slot, AUTOCRYPT_TIMESTAMP_AT)
+        entry.direct_key = octets(slot, DIRECT_KEY_AT)[:number(slot, DIRECT_LENGTH_AT)]
+        entry.mutual = bits & MUTUAL != 0
+    if bits & GOSSIP:
+        entry.gossip_timestamp = number(slot, GOSSIP_TIMESTAMP_AT)
+        entry.gossip_key = octets(slot, GOSSIP_KEY_AT)[:number(slot, GOSSIP_LENGTH_AT)]
+    return entry
+
+
+def slot_of(entry: Entry | None) -> bytes:
+    """The slot that holds an entry; the free slot for None."""
+    if entry is None:
+        return bytes(SLOT)
+    slot = bytearray(SLOT)
+    bits = 0
+    put(slot, MARK_AT, USED)
+    put_number(slot, ADDRESS_LENGTH_AT, len(entry.address))
+    put(slot, ADDRESS_AT, entry.address)
+    if entry.last_seen is not None:
+        bits |= LAST_SEEN
+        put_number(slot, LAST_SEEN_AT, entry.last_seen)
+    if entry.direct_key is not None:
+        bits |= DIRECT
+        put_number(slot, AUTOCRYPT_TIMESTAMP_AT, entry.autocrypt_timestamp)
+        put_number(slot, DIRECT_LENGTH_AT, len(entry.direct_key))
+        put(slot, DIRECT_KEY_AT, entry.direct_key)
+    if entry.mutual:
+        bits |= MUTUAL
+    if entry.gossip_key is not None:
+        bits |= GOSSIP
+        put_number(slot, GOSSIP_TIMESTAMP_AT, entry.gossip_timestamp)
+        put_number(slot, GOSSIP_LENGTH_AT, len(entry.gossip_key))
+        put(slot, GOSSIP_KEY_AT, entry.gossip_key)
+    slot[BITS_AT] = bits
+    return bytes(slot)
+
+
+def put(slot: bytearray, place: Place, content: bytes) -> None:
+    """Write content at the beginning of a place."""
+    slot[place[0]:place[0] + len(content)] = content
+
+
+def put_number(slot: bytearray, place: Place, value: int) -> None:
+    put(slot, place, value.to_bytes(place[1] - place[0], "little"))
+
+
+def entries(table: bytes) -> list[Entry | None]:
+    """The entries of a sound table, one place per slot, None for the free ones."""
+    return [entry_of(slot) for slot in slots(table)]
+
+
+def table_of(held: list[Entry | None]) -> bytes:
+    """The table that holds the given entries."""
+    return b"".join(slot_of(entry) for entry in held)
+
+
+def find(held: list[Entry | None], address: bytes) -> int | None:
+    """The index of the entry of an address; None where there is none."""
+    # "Addresses are compared in canonical form only." Entries hold that form.
+    wanted = canonical(address)
+    for index, entry in enumerate(held):
+        if entry is not None and entry.address == wanted:
+            return index
+    return None
+
+
+def free_slots(held: list[Entry | None]) -> list[int]:
+    """The indexes of the free slots, the lowest first."""
+    return [index for index, entry in enumerate(held) if entry is None]

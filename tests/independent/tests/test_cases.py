@@ -1,0 +1,322 @@
+"""The generator of cases reaches every answer of every call, by seed."""
+
+import pathlib
+import sys
+import types
+import unittest
+from collections import Counter
+
+import paper
+from cases import Cases
+from paper import (address, base64, date, header, keyfield, listing, processing, recommending, table,
+                   tokens, writing)
+from paper.table import SLOT
+
+SEED = 20171107
+
+
+class Determinism(unittest.TestCase):
+    METHODS = ["base64_text", "comment_text", "quoted_text", "runs", "date_value", "dates",
+               "header_block", "content_type", "address", "address_list", "recipients", "field_value",
+               "key", "table", "broken_slot", "listing_input", "message", "processing", "recommending",
+               "target", "writing", "writing_gossip"]
+
+    def drawn(self, seed: int) -> list:
+        cases = Cases(seed)
+        return [getattr(cases, name)() for name in self.METHODS for _ in range(5)]
+
+    def test_the_same_seed_gives_the_same_cases(self):
+        self.assertEqual(self.drawn(1), self.drawn(1))
+
+    def test_another_seed_gives_other_cases(self):
+        self.assertNotEqual(self.drawn(1), self.drawn(2))
+
+    def test_mutation_changes_something_as_a_rule(self):
+        cases = Cases(SEED)
+        changed = sum(cases.mutate(b"abcdefgh") != b"abcdefgh" for _ in range(300))
+        self.assertGreater(changed, 250)
+        self.assertTrue(all(isinstance(cases.mutate(b""), bytes) for _ in range(50)))
+
+    def test_octets_keep_to_their_length(self):
+        cases = Cases(SEED)
+        lengths = Counter(len(cases.octets(9)) for _ in range(500))
+        self.assertEqual(set(lengths), set(range(10)))
+
+
+class Readers(unittest.TestCase):
+    """Both answers of every reader are common."""
+
+    def both(self, answers: Counter, total: int) -> None:
+        self.assertEqual(set(answers), {False, True})
+        self.assertGreater(min(answers.values()), total // 10)
+
+    def test_base64(self):
+        cases = Cases(SEED)
+        texts = [cases.base64_text() for _ in range(1500)]
+        decoded = [base64.decode(text) for text in texts]
+        self.both(Counter(octets is None for octets in decoded), 1500)
+        lengths = {len(octets) for octets in decoded if octets is not None}
+        self.assertLessEqual({0, 1, 2, 3, 2047, 2048, 2049}, lengths)
+
+    def test_comments_and_quoted_strings(self):
+        cases = Cases(SEED)
+        self.both(Counter(tokens.skip(cases.comment_text(), 0) is None for _ in range(1000)), 1000)
+        texts = [cases.comment_text() for _ in range(1500)]
+        quoted = [text for text in texts if text[:1] == b'"']
+        self.both(Counter(tokens.quoted(text, 0) is None for text in quoted), len(quoted))
+        self.both(Counter(tokens.quoted(cases.quoted_text(), 0) is None for _ in range(1000)), 1000)
+
+    def test_depths_on_both_sides_of_the_limit(self):
+        cases = Cases(SEED)
+        depths = Counter()
+        for _ in range(1500):
+            text, deepest, depth, at = cases.comment_text(), 0, 0, 0
+            while at < len(text):
+                at += text[at] == ord("\\")
+                if at < len(text):
+                    depth += (text[at] == ord("(")) - (text[at] == ord(")"))
+                deepest, at = max(deepest, depth), at + 1
+            depths[deepest] += 1
+        for depth in (0, 1, 2, 15, 16, 17):
+            self.assertGreater(depths[depth], 10, depth)
+
+    def test_runs(self):
+        cases = Cases(SEED)
+        texts = [cases.runs() for _ in range(500)]
+        for end in (tokens.digits_end, tokens.letters_end, tokens.atom_end):
+            self.both(Counter(end(text, 0) == 0 for text in texts), 500)
+
+    def test_dates(self):
+        cases = Cases(SEED)
+        values = [cases.date_value() for _ in range(3000)]
+        found = [date.seconds(value) for value in values]
+        self.both(Counter(seconds is None for seconds in found), 3000)
+        available = set(found)
+        self.assertLessEqual({0, 1, 999, 1000, 1001, table.TIME_LIMIT}, available)
+        self.assertGreater(max(available - {None}), table.TIME_LIMIT)
+        effective = Counter()
+        for _ in range(600):
+            dates, receipt = cases.dates(), cases.moment()
+            seconds = date.seconds(dates[0]) if len(dates) == 1 else None
+            answer = date.effective(dates, receipt)
+            effective[(seconds is not None, answer == receipt)] += 1
+        self.assertEqual(set(effective), {(True, True), (True, False), (False, True)})
+
+    def test_blocks(self):
+        cases = Cases(SEED)
+        blocks = [cases.header_block() for _ in range(3000)]
+        self.both(Counter(header.fields(block) is None for block in blocks), 3000)
+        self.assertLessEqual({65535, 65536, 65537}, {len(block) for block in blocks})
+
+    def test_content_types(self):
+        cases = Cases(SEED)
+        self.both(Counter(header.is_report(cases.content_type()) for _ in range(500)), 500)
+
+    def test_addresses(self):
+        cases = Cases(SEED)
+        drawn = [cases.address() for _ in range(3000)]
+        self.both(Counter(address.is_plain(octets) for octets in drawn), 3000)
+        self.assertLessEqual({253, 254, 255}, {len(octets) for octets in drawn})
+        locals_ = {len(octets.split(b"@")[0]) for octets in drawn}
+        self.assertLessEqual({0, 1, 63, 64, 65}, locals_)
+        labels = {len(label) for octets in drawn for label in octets.split(b"@")[-1].split(b".")}
+        self.assertLessEqual({0, 1, 62, 63, 64}, labels)
+
+    def test_lists(self):
+        cases = Cases(SEED)
+        found = [address.addresses(cases.address_list()) for _ in range(3000)]
+        self.both(Counter(one is None for one in found), 3000)
+        self.assertLessEqual({0, 1, 2, 3, 4}, {len(one) for one in found if one is not None})
+        found = [address.addresses(cases.recipients()) for _ in range(1000)]
+        self.assertLessEqual({1, 2, 99, 100, 101}, {len(one) for one in found if one is not None})
+
+    def test_fields(self):
+        cases = Cases(SEED)
+        fields = [keyfield.read(cases.field_value()) for _ in range(2000)]
+        self.both(Counter(field is None for field in fields), 2000)
+        good = [field for field in fields if field is not None]
+        self.both(Counter(field.mutual for field in good), len(good))
+        self.assertLessEqual({1, 2, 3, 2047, 2048}, {len(field.key) for field in good})
+        counted = Counter()
+        for _ in range(600):
+            sender = cases.peer()
+            values = cases.field_values(sender)
+            valid = sum(1 for field in map(keyfield.read, values)
+                        if field is not None and field.address == address.canonical(sender))
+            counted[min(valid, 2), keyfield.counted(values, sender) is not None] += 1
+        self.assertEqual(set(counted), {(0, False), (1, True), (2, False)})
+
+    def test_tables(self):
+        cases = Cases(SEED)
+        tables = [cases.table() for _ in range(1500)]
+        answers = Counter(table.check(octets) for octets in tables)
+        self.assertEqual({number for number, _ in answers}, {0, 1, 2})
+        self.assertGreater(len({index for number, index in answers if number == 2}), 4)
+        sizes = {len(octets) // SLOT for octets in tables if table.check(octets)[0] == 0}
+        self.assertLessEqual({1, 2, 3, 14, 255, 256}, sizes)
+        self.assertTrue(any(len(octets) == 257 * SLOT for octets in tables))
+        self.both(Counter(table.check(cases.broken_slot()) == (0, 0) for _ in range(800)), 800)
+
+
+class Calls(unittest.TestCase):
+    """Every number and every advice comes up."""
+
+    def test_processing(self):
+        cases = Cases(SEED)
+        numbers, events = Counter(), Counter()
+        for _ in range(1200):
+            octets, receipt, outer, payload, gossip = cases.processing()
+            number, index, after = processing.process(octets, receipt, outer, payload, gossip)
+            numbers[number] += 1
+            if number != 0:
+                self.assertEqual(after, octets)
+                continue
+            self.assertEqual(index, 0)
+            self.assertEqual(table.check(after), (0, 0))
+            for before, now in zip(table.entries(octets), table.entries(after)):
+                events["newcomer"] += before is None and now is not None
+                if before is None or now is None:
+                    continue
+                events["untouched"] += before == now
+                events["last seen raised"] += (before.last_seen is not None
+                                               and now.last_seen > before.last_seen)
+                events["direct key new"] += before.direct_key is None and now.direct_key is not None
+                events["direct key replaced"] += (before.direct_key is not None
+                                                  and before.direct_key != now.direct_key)
+                events["replaced at an equal date"] += (
+                    before.direct_key is not None and before.direct_key != now.direct_key
+                    and before.autocrypt_timestamp == now.autocrypt_timestamp)
+                events["preference cleared"] += before.mutual and not now.mutual
+                events["gossip new"] += before.gossip_key is None and now.gossip_key is not None
+                events["gossip replaced"] += (before.gossip_key is not None
+                                              and before.gossip_key != now.gossip_key)
+                events["gossip at an equal date"] += (
+                    before.gossip_key is not None and before.gossip_key != now.gossip_key
+                    and before.gossip_timestamp == now.gossip_timestamp)
+        self.assertEqual(set(numbers), set(range(9)))
+        self.assertGreater(min(numbers.values()), 20)
+        self.assertGreater(numbers[0], 300)
+        for event in ("newcomer", "untouched", "last seen raised", "direct key new",
+                      "direct key replaced", "replaced at an equal date", "preference cleared",
+                      "gossip new", "gossip replaced", "gossip at an equal date"):
+            self.assertGreater(events[event], 3, event)
+
+    def test_recommending(self):
+        cases = Cases(SEED)
+        answers = Counter()
+        for _ in range(1500):
+            number, _, advice = recommending.recommend(*cases.recommending())
+            answers[number, advice] += 1
+        self.assertEqual(set(answers), {(1, 0), (2, 0), (10, 0), (0, 1), (0, 2), (0, 3), (0, 4)})
+        self.assertGreater(min(answers.values()), 20)
+
+    def test_target_keys(self):
+        cases = Cases(SEED)
+        answers = Counter()
+        for _ in range(1500):
+            octets, recipients, mutual, reply, place = cases.target()
+            start, length = recommending.target_key(octets, recipients, mutual, reply, place)
+            refused = recommending.recommend(octets, recipients, mutual, reply)[0] != 0
+            kind = {296: "direct", 2344: "gossip", 0: "empty"}[start % SLOT]
+            self.assertEqual(length == 0, kind == "empty")
+            answers[kind, refused] += 1
+        self.assertEqual(set(answers), {("direct", False), ("gossip", False), ("empty", False),
+                                        ("empty", True)})
+        self.assertGreater(min(answers.values()), 20)
+
+    def test_writing(self):
+        cases = Cases(SEED)
+        for answers in (Counter(writing.write_autocrypt(*cases.writing())[0] for _ in range(600)),
+                        Counter(writing.write_gossip(*cases.writing_gossip())[0] for _ in range(600))):
+            self.assertEqual(set(answers), {0, 9, 11, 12})
+            self.assertGreater(min(answers.values()), 20)
+        room = Counter()
+        for _ in range(600):
+            *arguments, length = cases.writing()
+            number, field = writing.write_autocrypt(*arguments, 1 << 20)
+            if number == 0:
+                room[length - len(field)] += 1
+        for spare in (-1, 0, 1):
+            self.assertGreater(room[spare], 3)
+
+    def test_listing(self):
+        cases = Cases(SEED)
+        inputs = [cases.listing_input() for _ in range(600)]
+        printed = [listing.listing(octets) for octets in inputs]
+        answers = Counter(text if text.startswith(b"refused") or text == b"" else b"lines"
+                          for text in printed)
+        self.assertEqual(set(answers), {b"", b"lines", b"refused 1\n", b"refused 2\n"})
+        sizes = {len(octets) // SLOT for octets, text in zip(inputs, printed) if text[:2] != b"re"}
+        self.assertLessEqual({1, 13, 14}, sizes)
+        self.assertTrue(any(len(octets) == 15 * SLOT for octets in inputs))
+        words = {word for text in printed for word in text.split()}
+        self.assertLessEqual({b"mutual", b"none", b"-", b"0", b"2048"}, words)
+
+
+def function_lines(path: pathlib.Path) -> set[int]:
+    """The lines of all function bodies of a source file that can be executed."""
+    found: set[int] = set()
+    waiting = [(compile(path.read_text(), str(path), "exec"), False)]
+    while waiting:
+        code, inside = waiting.pop()
+        if inside:
+            found |= {line for _, _, line in code.co_lines() if line is not None}
+            found.discard(code.co_firstlineno)
+        for constant in code.co_consts:
+            if isinstance(constant, types.CodeType):
+                is_class = "__qualname__" in constant.co_names and constant.co_name[0].isupper()
+                waiting.append((constant, not is_class))
+    return found
+
+
+class EveryLine(unittest.TestCase):
+    """Every line of every function of the independent program is reached by some case."""
+
+    def test_every_line(self):
+        folder = pathlib.Path(paper.__file__).parent
+        reached: dict[str, set[int]] = {str(path): set() for path in folder.glob("*.py")}
+
+        def local(frame, event, _argument):
+            if event == "line":
+                reached[frame.f_code.co_filename].add(frame.f_lineno)
+            return local
+
+        def calls(frame, _event, _argument):
+            return local if frame.f_code.co_filename in reached else None
+
+        cases = Cases(SEED)
+        rounds = [
+            (150, base64.decode, lambda: (cases.base64_text(),)),
+            (200, tokens.skip, lambda: (cases.comment_text(), 0)),
+            (200, tokens.quoted, lambda: (cases.quoted_text(), 0)),
+            (200, date.seconds, lambda: (cases.date_value(),)),
+            (600, date.seconds, lambda: (cases.spaced(cases.edge_date()),)),
+            (200, header.fields, lambda: (cases.header_block(),)),
+            (20, header.fields, lambda: (cases.sized(cases.header_block()),)),
+            (300, address.addresses, lambda: (cases.address_list(),)),
+            (900, address.addresses, lambda: (cases.bad_list(),)),
+            (500, address.is_plain, lambda: (cases.edge_address(),)),
+            (200, keyfield.read, lambda: (cases.field_value(),)),
+            (300, table.check, lambda: (cases.broken_slot(),)),
+            (200, processing.process, cases.processing),
+            (200, recommending.target_key, cases.target),
+            (60, writing.write_autocrypt, cases.writing),
+            (60, writing.write_gossip, cases.writing_gossip),
+            (60, listing.listing, lambda: (cases.listing_input(),)),
+        ]
+        before = sys.gettrace()
+        for count, call, draw in rounds:
+            arguments = [draw() for _ in range(count)]
+            sys.settrace(calls)
+            try:
+                for one in arguments:
+                    call(*one)
+            finally:
+                sys.settrace(before)
+        for path, lines in sorted(reached.items()):
+            missing = sorted(function_lines(pathlib.Path(path)) - lines)
+            self.assertEqual(missing, [], pathlib.Path(path).name)
+
+
+if __name__ == "__main__":
+    unittest.main()

@@ -1,0 +1,62 @@
+"""The listing program."""
+
+import unittest
+
+from paper.listing import listing
+from paper.table import SLOT, TIME_LIMIT, Entry, slot_of, table_of
+
+
+class Lines(unittest.TestCase):
+    def test_the_example_of_the_paper(self):
+        slot = slot_of(Entry(b"alice@a.example", 1000, 1000, b"foo", True))
+        self.assertEqual(listing(slot), b"alice@a.example 1000 1000 3 mutual - 0\n")
+
+    def test_every_kind_of_entry(self):
+        held = [
+            Entry(b"a@b"),
+            Entry(b"c@d", 0),
+            None,
+            Entry(b"e@f", 7, 0, b"k" * 2048),
+            Entry(b"g@h", gossip_timestamp=0, gossip_key=b"g"),
+            Entry(b"i@j", TIME_LIMIT, TIME_LIMIT, b"kk", True, TIME_LIMIT, b"g" * 2048),
+            Entry(b"\xc3\x89@k", 5, gossip_timestamp=6, gossip_key=b"gg"),
+        ]
+        self.assertEqual(listing(table_of(held)), (
+            b"a@b - - 0 none - 0\n"
+            b"c@d 0 - 0 none - 0\n"
+            b"e@f 7 0 2048 none - 0\n"
+            b"g@h - - 0 none 0 1\n"
+            b"i@j 253402300799 253402300799 2 mutual 253402300799 2048\n"
+            b"\xc3\x89@k 5 - 0 none 6 2\n"))
+
+    def test_free_slots_print_nothing_N3(self):
+        self.assertEqual(listing(bytes(SLOT)), b"")
+        self.assertEqual(listing(bytes(14 * SLOT)), b"")
+
+
+class Refusals(unittest.TestCase):
+    def test_14_and_15_slots_N3(self):
+        held = [Entry(b"a%d@b" % place, place) for place in range(14)]
+        expected = b"".join(b"a%d@b %d - 0 none - 0\n" % (place, place) for place in range(14))
+        self.assertEqual(listing(table_of(held)), expected)
+        self.assertEqual(listing(table_of(held) + bytes(1)), b"refused 1\n")
+        self.assertEqual(listing(table_of(held + [None])), b"refused 1\n")
+        self.assertEqual(listing(b"\xff" * (15 * SLOT)), b"refused 1\n")
+        self.assertEqual(listing(bytes(256 * SLOT)), b"refused 1\n")
+
+    def test_lengths(self):
+        for length in (0, 1, SLOT - 1, SLOT + 1, 14 * SLOT - 1, 14 * SLOT + 1):
+            self.assertEqual(listing(bytes(length)), b"refused 1\n", length)
+
+    def test_a_broken_slot_prints_no_index_N1_N2(self):
+        bad = slot_of(Entry(b"A@b"))
+        self.assertEqual(listing(bad), b"refused 2\n")
+        self.assertEqual(listing(bytes(13 * SLOT) + bad), b"refused 2\n")
+
+    def test_nothing_is_printed_before_a_refusal(self):
+        good, bad = slot_of(Entry(b"a@b")), slot_of(Entry(b"A@b"))
+        self.assertEqual(listing(good + bad), b"refused 2\n")
+
+
+if __name__ == "__main__":
+    unittest.main()

@@ -1,0 +1,449 @@
+"""Processing: refusals 1 to 8 in order, and the update of the table."""
+
+import base64 as standard
+import datetime
+import unittest
+
+from paper.processing import SKIP, TAKE, UNSET, process
+from paper.table import SLOT, TIME_LIMIT, Entry, check, entries, slot_of, table_of
+
+A, B, C, D = b"a@x.example", b"b@x.example", b"c@x.example", b"d@x.example"
+
+RECEIPT = 5_000_000
+
+
+def date_text(seconds: int) -> bytes:
+    moment = datetime.datetime(1970, 1, 1) + datetime.timedelta(seconds=seconds)
+    return moment.strftime("%d %b %Y %H:%M:%S +0000").encode()
+
+
+def key_field(address: bytes, key: bytes, mutual: bool = False, name: bytes = b"Autocrypt") -> bytes:
+    preference = b"prefer-encrypt=mutual; " if mutual else b""
+    return (name + b": addr=" + address + b"; " + preference + b"keydata="
+            + standard.b64encode(key) + b"\r\n")
+
+
+def gossip_field(address: bytes, key: bytes) -> bytes:
+    return key_field(address, key, name=b"Autocrypt-Gossip")
+
+
+def mail(sender: bytes, date: int | None, *more: bytes) -> bytes:
+    block = b"From: " + sender + b"\r\n"
+    if date is not None:
+        block += b"Date: " + date_text(date) + b"\r\n"
+    return block + b"".join(more)
+
+
+class Case(unittest.TestCase):
+    def after(self, held: list[Entry | None], outer: bytes, payload: bytes = b"", gossip: int = UNSET,
+              receipt: int = RECEIPT) -> list[Entry | None]:
+        """The entries after a message that is not refused."""
+        number, index, octets = process(table_of(held), receipt, outer, payload, gossip)
+        self.assertEqual((number, index), (0, 0))
+        self.assertEqual(check(octets), (0, 0))
+        return entries(octets)
+
+    def refused(self, expected: int, octets: bytes, receipt: int, outer: bytes, payload: bytes = b"",
+                gossip: int = UNSET, index: int = 0) -> None:
+        """The message is refused with a number, and the table stays."""
+        self.assertEqual(process(octets, receipt, outer, payload, gossip), (expected, index, octets))
+
+
+class Settings(unittest.TestCase):
+    def test_the_numbers_of_the_gossip_setting(self):
+        self.assertEqual((UNSET, TAKE, SKIP), (0, 1, 2))
+
+
+class Refusals(Case):
+    GOOD = mail(A, 1000)
+
+    def test_1(self):
+        for length in (0, 1, SLOT - 1, SLOT + 1, 257 * SLOT):
+            self.refused(1, bytes(length), RECEIPT, self.GOOD)
+        for slots in (1, 256):
+            self.assertEqual(process(bytes(slots * SLOT), RECEIPT, self.GOOD, b"", UNSET)[0], 0)
+
+    def test_2(self):
+        bad = slot_of(Entry(b"A@b"))
+        self.refused(2, bad, RECEIPT, self.GOOD)
+        self.refused(2, bytes(3 * SLOT) + bad + bad, RECEIPT, self.GOOD, index=3)
+
+    def test_3_R3(self):
+        self.refused(3, bytes(SLOT), TIME_LIMIT + 1, self.GOOD)
+        self.refused(3, bytes(SLOT), (1 << 64) - 1, self.GOOD)
+        self.assertEqual(self.after([None], self.GOOD, receipt=TIME_LIMIT), [Entry(A, 1000)])
+        self.assertEqual(self.after([None], mail(A, None), receipt=TIME_LIMIT),
+                         [Entry(A, TIME_LIMIT)])
+        self.assertEqual(self.after([None], mail(A, None), receipt=0), [Entry(A, 0)])
+
+    def test_4(self):
+        for block in [b" " + self.GOOD, self.GOOD + b"x\r\n", b"\r", self.GOOD + b"\r",
+                      b"From a@b\r\n" + self.GOOD]:
+            self.refused(4, bytes(SLOT), RECEIPT, block)
+
+    def test_4_at_both_ends_of_the_limit_C1(self):
+        filler = b"\r\n" + b"x" * (65536 - 2 - len(self.GOOD))
+        self.assertEqual(self.after([None], self.GOOD + filler), [Entry(A, 1000)])
+        self.refused(4, bytes(SLOT), RECEIPT, self.GOOD + filler + b"x")
+
+    def test_5(self):
+        for block in [b"", b"\r\n" + self.GOOD, b"To: a@b\r\n", b"Sender: a@b\r\n", b"From:\r\n",
+                      b"From: a@b, c@d\r\n", b"From: a@b\r\nFrom: a@b\r\n", b"From: g:;\r\n",
+                      b"From: a@b,\r\n", b"From: a\r\n", b"From: <>\r\n", b"From: a@b\r",
+                      b"From: g: a@b, c@d;\r\n", b"From: \"a\"@b\r\n", b"From: a@b\r\nfrom: c@d\r\n",
+                      b"From: " + b"a" * 65 + b"@b\r\n"]:
+            self.refused(5, bytes(SLOT), RECEIPT, block)
+
+    def test_one_address_in_from_L3(self):
+        for value in [b"a@x.example", b"A <A@X.Example> (c)", b"g: a@x.example;", b"g:;, a@x.example",
+                      b"g:;, h:a@x.example;", b"\r\n\ta@x.example\r\n "]:
+            self.assertEqual(self.after([None], b"fRoM: " + value + b"\r\n"), [Entry(A, RECEIPT)])
+
+    def test_6(self):
+        for line in [b"Content-Type: multipart/report\r\n", b"content-type:MULTIPART/Report;x=y\r\n",
+                     b"Content-Type: text/plain\r\nContent-Type: multipart/report\r\n",
+                     b"Content-Type: multipart/report\r\nContent-Type: text/plain\r\n",
+                     b"Content-Type:\r\n multipart/report\r\n"]:
+            self.refused(6, bytes(SLOT), RECEIPT, self.GOOD + line)
+        for line in [b"Content-Type: multipart/reports\r\n", b"Content-Type: (c) multipart/report\r\n",
+                     b"Content-Type: multipart/mixed\r\n", b"X-Content-Type: multipart/report\r\n",
+                     b"\r\nContent-Type: multipart/report\r\n"]:
+            self.assertEqual(self.after([None], self.GOOD + line), [Entry(A, 1000)])
+
+    def test_a_report_in_the_payload_is_not_looked_at_M3(self):
+        self.assertEqual(self.after([None], self.GOOD, b"Content-Type: multipart/report\r\n"),
+                         [Entry(A, 1000)])
+
+    def test_7(self):
+        for gossip in (UNSET, TAKE, 3, 255):
+            self.refused(7, bytes(SLOT), RECEIPT, self.GOOD, b"x", gossip)
+            self.refused(7, bytes(SLOT), RECEIPT, self.GOOD, b" A:b\r\n", gossip)
+
+    def test_7_at_both_ends_of_the_limit(self):
+        self.assertEqual(self.after([None], self.GOOD, b"\n" * 65536), [Entry(A, 1000)])
+        self.refused(7, bytes(SLOT), RECEIPT, self.GOOD, b"\n" * 65537)
+
+    def test_a_skipped_payload_is_not_looked_at_P2(self):
+        for payload in [b"x", b"\n" * 65537, gossip_field(B, b"b")]:
+            self.assertEqual(self.after([None], mail(A, 1000, b"To: " + B + b"\r\n"), payload, SKIP),
+                             [Entry(A, 1000)])
+
+    def test_no_payload_P1(self):
+        for gossip in (UNSET, TAKE, SKIP):
+            self.assertEqual(self.after([None], self.GOOD, b"", gossip), [Entry(A, 1000)])
+
+    def test_8_for_the_sender_R13(self):
+        full = table_of([Entry(B), Entry(C)])
+        self.refused(8, full, RECEIPT, self.GOOD)
+        self.assertEqual(self.after([Entry(B), Entry(A)], self.GOOD), [Entry(B), Entry(A, 1000)])
+
+    def test_8_counts_each_distinct_new_address_once(self):
+        outer = mail(A, 1000, b"To: " + B + b", " + C + b", " + A + b"\r\n")
+        payload = (gossip_field(B, b"1") + gossip_field(A, b"2") + gossip_field(b"B@X.example", b"3")
+                   + gossip_field(C, b"4") + gossip_field(C, b"5"))
+        a = Entry(A, 1000, gossip_timestamp=1000, gossip_key=b"2")
+        b = Entry(B, gossip_timestamp=1000, gossip_key=b"3")
+        c = Entry(C, gossip_timestamp=1000, gossip_key=b"5")
+        self.assertEqual(self.after([None] * 3, outer, payload), [a, b, c])
+        self.refused(8, bytes(2 * SLOT), RECEIPT, outer, payload)
+        self.assertEqual(self.after([Entry(C), None, None], outer, payload), [c, a, b])
+        self.refused(8, table_of([Entry(C), Entry(D), None]), RECEIPT, outer, payload)
+        self.assertEqual(self.after([Entry(C), Entry(D), None, Entry(A)], outer, payload),
+                         [c, Entry(D), b, a])
+        self.assertEqual(self.after([Entry(C), Entry(A), Entry(B)], outer, payload), [c, a, b])
+
+    def test_fields_not_accepted_make_no_newcomer_U5(self):
+        outer = mail(A, 1000, b"To: " + B + b"\r\n")
+        payload = gossip_field(C, b"c") + b"Autocrypt-Gossip: addr=" + B + b"; keydata=Zg\r\n"
+        self.assertEqual(self.after([None], outer, payload), [Entry(A, 1000)])
+
+    def test_8_even_where_the_gossip_is_old(self):
+        # An address with an entry is no newcomer, whatever its dates are.
+        outer = mail(A, 1000, b"To: " + B + b"\r\n")
+        heard = Entry(B, gossip_timestamp=2000, gossip_key=b"new")
+        self.assertEqual(self.after([heard, None], outer, gossip_field(B, b"old")),
+                         [heard, Entry(A, 1000)])
+
+    def test_the_order_of_checking_R1(self):
+        bad_table = slot_of(Entry(b"A@b"))
+        report = b"Content-Type: multipart/report\r\n"
+        full = slot_of(Entry(D))
+        late = TIME_LIMIT + 1
+        unreadable = b"From: a@b, c@d\r\n" + report + b"x\r\n"
+        two = b"From: a@b, c@d\r\n" + report
+        self.refused(1, b"", late, unreadable, b"x")
+        self.refused(1, b"\xff" * 10, late, unreadable, b"x")
+        self.refused(2, bad_table, late, unreadable, b"x")
+        self.refused(3, full, late, unreadable, b"x")
+        self.refused(4, full, RECEIPT, unreadable, b"x")
+        self.refused(5, full, RECEIPT, two, b"x")
+        self.refused(6, full, RECEIPT, mail(A, 1, report), b"x")
+        self.refused(7, full, RECEIPT, mail(A, 1), b"x")
+        self.refused(8, full, RECEIPT, mail(A, 1), b"")
+        self.refused(1, b"", RECEIPT, b"")
+
+    def test_3_to_7_are_tested_even_where_nothing_would_change_R8(self):
+        held = table_of([Entry(A, 9000, 9000, b"k")])
+        self.refused(3, held, TIME_LIMIT + 1, mail(A, 1))
+        self.refused(7, held, RECEIPT, mail(A, 1), b"x")
+        self.assertEqual(process(held, RECEIPT, mail(A, 1), b"", UNSET), (0, 0, held))
+
+
+class Sender(Case):
+    def test_a_new_sender_with_a_key(self):
+        self.assertEqual(self.after([None, None], mail(A, 1000, key_field(A, b"key"))),
+                         [Entry(A, 1000, 1000, b"key"), None])
+        self.assertEqual(self.after([None], mail(A, 1000, key_field(A, b"key", True))),
+                         [Entry(A, 1000, 1000, b"key", True)])
+
+    def test_the_sender_is_stored_canonical(self):
+        self.assertEqual(self.after([None], mail(b"\"x\" <A@X.Example>", 1000, key_field(A, b"key"))),
+                         [Entry(A, 1000, 1000, b"key")])
+
+    def test_the_effective_date(self):
+        self.assertEqual(self.after([None], mail(A, 1000), receipt=999), [Entry(A, 999)])
+        self.assertEqual(self.after([None], mail(A, 1000), receipt=1000), [Entry(A, 1000)])
+        self.assertEqual(self.after([None], mail(A, None), receipt=999), [Entry(A, 999)])
+        two = mail(A, 1000, b"Date: " + date_text(1000) + b"\r\n")
+        self.assertEqual(self.after([None], two), [Entry(A, RECEIPT)])
+        early = mail(A, None, b"Date: 1 Jan 1969 00:00 GMT\r\n")
+        self.assertEqual(self.after([None], early), [Entry(A, 0)])
+
+    def test_only_exactly_one_valid_field_counts(self):
+        """Taking the first of two valid fields is an error people make."""
+        one, other = key_field(A, b"one"), key_field(A, b"other", True)
+        for fields in (one + other, one + one, other + one + one):
+            self.assertEqual(self.after([None], mail(A, 1000, fields)), [Entry(A, 1000)])
+        self.assertEqual(self.after([None], mail(A, 1000, one + key_field(B, b"b"))),
+                         [Entry(A, 1000, 1000, b"one")])
+        self.assertEqual(self.after([None], mail(A, 1000, one + key_field(A, bytes(2049)))),
+                         [Entry(A, 1000, 1000, b"one")])
+
+    def test_type_1_is_not_supported(self):
+        line = b"Autocrypt: addr=a@x.example; type=1; prefer-encrypt=mutual; keydata=Zm9v\r\n"
+        self.assertEqual(self.after([None], mail(A, 1000, line)), [Entry(A, 1000)])
+
+    def test_a_keyless_mail_only_raises_last_seen(self):
+        """Letting a keyless mail clear a key is an error people make."""
+        stored = Entry(A, 1000, 1000, b"key", True)
+        for date, last_seen in [(2000, 2000), (1001, 1001), (1000, 1000)]:
+            self.assertEqual(self.after([stored], mail(A, date)),
+                             [Entry(A, last_seen, 1000, b"key", True)])
+        stored = Entry(A, 3000, 1000, b"key", True)
+        self.assertEqual(self.after([stored], mail(A, 2000)), [stored])
+
+    def test_an_equal_date_replaces_U2(self):
+        """Dropping equal dates as stale is an error people make."""
+        stored = Entry(A, 1000, 1000, b"old", True)
+        self.assertEqual(self.after([stored], mail(A, 1000, key_field(A, b"new"))),
+                         [Entry(A, 1000, 1000, b"new", False)])
+        self.assertEqual(self.after([stored], mail(A, 1001, key_field(A, b"new"))),
+                         [Entry(A, 1001, 1001, b"new", False)])
+
+    def test_an_older_date_leaves_the_direct_half_and_last_seen_U1(self):
+        stored = Entry(A, 5000, 1000, b"old", True)
+        self.assertEqual(self.after([stored], mail(A, 999, key_field(A, b"new"))), [stored])
+        self.assertEqual(self.after([stored], mail(A, 999)), [stored])
+
+    def test_between_timestamp_and_last_seen(self):
+        stored = Entry(A, 5000, 1000, b"old", True)
+        self.assertEqual(self.after([stored], mail(A, 3000, key_field(A, b"new"))),
+                         [Entry(A, 5000, 3000, b"new", False)])
+
+    def test_without_a_direct_key_any_date_sets_it_U1(self):
+        self.assertEqual(self.after([Entry(A, 5000)], mail(A, 3000, key_field(A, b"key", True))),
+                         [Entry(A, 5000, 3000, b"key", True)])
+        self.assertEqual(self.after([Entry(A)], mail(A, 0, key_field(A, b"key"))),
+                         [Entry(A, 0, 0, b"key")])
+
+    def test_zero_is_a_real_time(self):
+        stored = Entry(A, 0, 0, b"old")
+        self.assertEqual(self.after([stored], mail(A, 0, key_field(A, b"new"))),
+                         [Entry(A, 0, 0, b"new")])
+        self.assertEqual(self.after([stored], mail(A, 1)), [Entry(A, 1, 0, b"old")])
+
+    def test_a_shorter_key_leaves_no_old_octets(self):
+        _, _, octets = process(slot_of(Entry(A, 1, 1, b"long key")), RECEIPT,
+                               mail(A, 2, key_field(A, b"k")), b"", UNSET)
+        self.assertEqual(octets, slot_of(Entry(A, 2, 2, b"k")))
+
+    def test_the_gossip_half_stays(self):
+        stored = Entry(A, 1, 1, b"k", True, 9, b"g")
+        self.assertEqual(self.after([stored], mail(A, 2, key_field(A, b"new"))),
+                         [Entry(A, 2, 2, b"new", False, 9, b"g")])
+
+    def test_other_entries_stay(self):
+        others = [Entry(B, 1, 1, b"k", True, 9, b"g"), None, Entry(C, 7)]
+        self.assertEqual(self.after(others, mail(A, 2)), [others[0], Entry(A, 2), others[2]])
+
+    def test_keys_of_the_largest_length(self):
+        self.assertEqual(self.after([None], mail(A, 1000, key_field(A, b"\x07" * 2048))),
+                         [Entry(A, 1000, 1000, b"\x07" * 2048)])
+        self.assertEqual(self.after([None], mail(A, 1000, key_field(A, b"\x07" * 2049))),
+                         [Entry(A, 1000)])
+
+    def test_autocrypt_in_the_payload_and_gossip_outside_are_not_read_U6(self):
+        outer = mail(A, 1000, b"To: " + B + b"\r\n" + gossip_field(B, b"b"))
+        self.assertEqual(self.after([None, None], outer, key_field(A, b"a")), [Entry(A, 1000), None])
+
+    def test_the_lowest_free_slot(self):
+        held = [Entry(B), None, Entry(C), None]
+        self.assertEqual(self.after(held, mail(A, 5)), [Entry(B), Entry(A, 5), Entry(C), None])
+
+
+class Gossip(Case):
+    TO_B = b"To: Bob <b@x.example>\r\n"
+
+    def test_a_newcomer(self):
+        for gossip in (UNSET, TAKE, 3, 255):
+            self.assertEqual(
+                self.after([None, None], mail(A, 1000, self.TO_B), gossip_field(B, b"b"), gossip),
+                [Entry(A, 1000), Entry(B, gossip_timestamp=1000, gossip_key=b"b")])
+        self.assertEqual(
+            self.after([None, None], mail(A, 1000, self.TO_B), gossip_field(B, b"b"), SKIP),
+            [Entry(A, 1000), None])
+
+    def test_gossip_never_fills_the_direct_key_or_last_seen(self):
+        """Letting it do so is an error people make."""
+        stored = Entry(B, 500, 400, b"direct", True)
+        field = b"Autocrypt-Gossip: addr=b@x.example; prefer-encrypt=mutual; keydata=Zm9v\r\n"
+        self.assertEqual(self.after([stored, Entry(A)], mail(A, 1000, self.TO_B), field),
+                         [Entry(B, 500, 400, b"direct", True, 1000, b"foo"), Entry(A, 1000)])
+        # Its preference is ignored.
+        self.assertEqual(self.after([Entry(B), Entry(A)], mail(A, 1000, self.TO_B), field),
+                         [Entry(B, gossip_timestamp=1000, gossip_key=b"foo"), Entry(A, 1000)])
+
+    def test_dates_equal_older_and_newer_U2(self):
+        stored = Entry(B, gossip_timestamp=1000, gossip_key=b"old")
+        for date, expected in [(999, stored),
+                               (1000, Entry(B, gossip_timestamp=1000, gossip_key=b"new")),
+                               (1001, Entry(B, gossip_timestamp=1001, gossip_key=b"new"))]:
+            held = self.after([stored, Entry(A)], mail(A, date, self.TO_B), gossip_field(B, b"new"))
+            self.assertEqual(held[0], expected)
+
+    def test_to_cc_and_reply_to(self):
+        for name in (b"To", b"Cc", b"Reply-To", b"TO", b"cC", b"reply-to"):
+            held = self.after([None, None], mail(A, 9, name + b": x@y, B@x.example\r\n"),
+                              gossip_field(B, b"b"))
+            self.assertEqual(held[1], Entry(B, gossip_timestamp=9, gossip_key=b"b"), name)
+
+    def test_other_fields_are_not_looked_at_L17_P3(self):
+        for name in (b"Bcc", b"Sender", b"Resent-To", b"X-To", b"Delivered-To"):
+            held = self.after([None, None], mail(A, 9, name + b": " + B + b"\r\n"),
+                              gossip_field(B, b"b"))
+            self.assertEqual(held, [Entry(A, 9), None], name)
+        held = self.after([None, None], mail(A, 9), b"To: " + B + b"\r\n" + gossip_field(B, b"b"))
+        self.assertEqual(held, [Entry(A, 9), None])
+
+    def test_an_unreadable_field_hides_its_addresses_alone_L7_L9(self):
+        gossip = gossip_field(B, b"b") + gossip_field(C, b"c")
+        outer = mail(A, 9, b"To: b@x.example, \"q\"@y\r\nCc: c@x.example\r\n")
+        self.assertEqual(self.after([None] * 3, outer, gossip),
+                         [Entry(A, 9), Entry(C, gossip_timestamp=9, gossip_key=b"c"), None])
+        outer = mail(A, 9, b"To: b@x.example,\r\nTo: c@x.example\r\nTo: b@x.example\r\n")
+        self.assertEqual(self.after([None] * 3, outer, gossip),
+                         [Entry(A, 9), Entry(B, gossip_timestamp=9, gossip_key=b"b"),
+                          Entry(C, gossip_timestamp=9, gossip_key=b"c")])
+
+    def test_an_empty_group_in_to(self):
+        outer = mail(A, 9, b"To: undisclosed-recipients:;\r\n")
+        self.assertEqual(self.after([None, None], outer, gossip_field(B, b"b")), [Entry(A, 9), None])
+
+    def test_about_the_sender_U3(self):
+        outer = mail(A, 1000, key_field(A, b"key"))
+        self.assertEqual(self.after([None], outer, gossip_field(A, b"g")),
+                         [Entry(A, 1000, 1000, b"key")])
+        outer += b"Reply-To: " + A + b"\r\n"
+        self.assertEqual(self.after([None], outer, gossip_field(A, b"g")),
+                         [Entry(A, 1000, 1000, b"key", False, 1000, b"g")])
+
+    def test_gossip_is_still_read_from_an_older_message(self):
+        stored = Entry(A, 5000, 5000, b"key", True)
+        outer = mail(A, 1000, key_field(A, b"old"), b"To: " + A + b", " + B + b"\r\n")
+        self.assertEqual(
+            self.after([stored, None], outer, gossip_field(A, b"a") + gossip_field(B, b"b")),
+            [Entry(A, 5000, 5000, b"key", True, 1000, b"a"),
+             Entry(B, gossip_timestamp=1000, gossip_key=b"b")])
+
+    def test_order_of_newcomers_and_last_field_U4(self):
+        outer = mail(A, 1000, b"To: b@x.example, c@x.example, d@x.example\r\n")
+        payload = (gossip_field(D, b"1") + gossip_field(C, b"2") + gossip_field(B, b"3")
+                   + gossip_field(D, b"4") + gossip_field(C, b"5"))
+        self.assertEqual(
+            self.after([None] * 4, outer, payload),
+            [Entry(A, 1000), Entry(D, gossip_timestamp=1000, gossip_key=b"4"),
+             Entry(C, gossip_timestamp=1000, gossip_key=b"5"),
+             Entry(B, gossip_timestamp=1000, gossip_key=b"3")])
+
+    def test_the_last_accepted_field_not_the_last_field_U4(self):
+        payload = gossip_field(B, b"good") + b"Autocrypt-Gossip: addr=b@x.example; keydata=Zh==\r\n"
+        self.assertEqual(self.after([None, None], mail(A, 5, self.TO_B), payload)[1],
+                         Entry(B, gossip_timestamp=5, gossip_key=b"good"))
+
+    def test_two_gossip_fields_are_not_two_valid_fields(self):
+        payload = gossip_field(B, b"one") + gossip_field(B, b"one")
+        self.assertEqual(self.after([None, None], mail(A, 5, self.TO_B), payload)[1],
+                         Entry(B, gossip_timestamp=5, gossip_key=b"one"))
+
+    def test_the_sender_takes_the_first_slot(self):
+        held = self.after([None, Entry(C), None], mail(A, 5, self.TO_B), gossip_field(B, b"b"))
+        self.assertEqual(held, [Entry(A, 5), Entry(C), Entry(B, gossip_timestamp=5, gossip_key=b"b")])
+
+    def test_whole_or_not_at_all(self):
+        """Applying the sender, then finding no slot for gossip, is an error people make."""
+        stored = Entry(A, 1, 1, b"old")
+        outer = mail(A, 1000, key_field(A, b"new"), self.TO_B)
+        self.refused(8, slot_of(stored), RECEIPT, outer, gossip_field(B, b"b"))
+        self.refused(8, bytes(SLOT), RECEIPT, outer, gossip_field(B, b"b"))
+
+    def test_the_date_of_the_payload_is_not_looked_at_D11_P3(self):
+        payload = b"Date: " + date_text(7) + b"\r\nFrom: x@y\r\n" + gossip_field(B, b"b")
+        self.assertEqual(self.after([None, None], mail(A, 1000, self.TO_B), payload)[1],
+                         Entry(B, gossip_timestamp=1000, gossip_key=b"b"))
+
+    def test_the_name_of_the_field_in_any_case(self):
+        field = gossip_field(B, b"b").replace(b"Autocrypt-Gossip", b"AUTOCRYPT-gossip")
+        self.assertEqual(self.after([None, None], mail(A, 5, self.TO_B), field)[1],
+                         Entry(B, gossip_timestamp=5, gossip_key=b"b"))
+
+    def test_behind_the_empty_line_nothing_is_read(self):
+        self.assertEqual(self.after([None, None], mail(A, 5, self.TO_B),
+                                    b"Subject: x\r\n\r\n" + gossip_field(B, b"b")),
+                         [Entry(A, 5), None])
+
+    def test_more_recipients_than_100_L14(self):
+        outer = mail(A, 5, b"To: " + b", ".join([b"x@y"] * 150 + [B]) + b"\r\n")
+        self.assertEqual(self.after([None, None], outer, gossip_field(B, b"b"))[1],
+                         Entry(B, gossip_timestamp=5, gossip_key=b"b"))
+
+    def test_many_newcomers(self):
+        names = [b"p%d@x" % place for place in range(255)]
+        outer = mail(A, 5, b"To: " + b",".join(names) + b"\r\n")
+        payload = b"".join(gossip_field(name, b"k") for name in reversed(names))
+        expected = [Entry(A, 5)] + [Entry(name, gossip_timestamp=5, gossip_key=b"k")
+                                    for name in reversed(names)]
+        self.assertEqual(self.after([None] * 256, outer, payload), expected)
+        self.refused(8, bytes(255 * SLOT), RECEIPT, outer, payload)
+
+
+class Orders(Case):
+    """Messages whose keys differ in date give the same entries in any order."""
+
+    def test_three_messages(self):
+        import itertools
+        messages = [
+            (mail(A, 1000, key_field(A, b"one", True), b"To: " + B + b"\r\n"), gossip_field(B, b"b1")),
+            (mail(A, 3000), b""),
+            (mail(A, 2000, key_field(A, b"two"), b"Cc: " + B + b"\r\n"), gossip_field(B, b"b2")),
+        ]
+        expected = [Entry(A, 3000, 2000, b"two"), Entry(B, gossip_timestamp=2000, gossip_key=b"b2")]
+        for order in itertools.permutations(messages):
+            octets = bytes(2 * SLOT)
+            for outer, payload in order:
+                number, _, octets = process(octets, RECEIPT, outer, payload, UNSET)
+                self.assertEqual(number, 0)
+            self.assertEqual(entries(octets), expected)
+
+
+if __name__ == "__main__":
+    unittest.main()

@@ -1,0 +1,197 @@
+"""Recommending and target keys."""
+
+import unittest
+
+from paper.recommending import (AVAILABLE, DISABLE, DISCOURAGE, ENCRYPT, GAP_LIMIT, recommend,
+                                target_key)
+from paper.table import SLOT, Entry, slot_of, table_of
+
+GAP = 3_024_000
+
+FRESH = Entry(b"fresh@x", 5000, 5000, b"fresh key")
+KEEN = Entry(b"keen@x", 5000, 5000, b"keen key", True, 9, b"keen gossip")
+STALE = Entry(b"stale@x", 5000 + GAP + 1, 5000, b"stale key", True)
+HEARD = Entry(b"heard@x", gossip_timestamp=5000, gossip_key=b"heard gossip")
+SEEN = Entry(b"seen@x", 5000)
+BARE = Entry(b"bare@x")
+
+HELD = [FRESH, None, KEEN, STALE, HEARD, None, SEEN, BARE]
+TABLE = table_of(HELD)
+
+
+class Advice(unittest.TestCase):
+    def advice(self, recipients: bytes, mutual: bool = False, reply: bool = False,
+               octets: bytes = TABLE) -> int:
+        number, index, advice = recommend(octets, recipients, mutual, reply)
+        self.assertEqual((number, index), (0, 0))
+        return advice
+
+    def test_the_numbers_of_the_advices(self):
+        self.assertEqual((DISABLE, DISCOURAGE, AVAILABLE, ENCRYPT), (1, 2, 3, 4))
+
+    def test_one_recipient(self):
+        rows = [
+            # recipient, plain, mutual, reply, both
+            (b"unknown@x", DISABLE, DISABLE, DISABLE, DISABLE),
+            (b"seen@x", DISABLE, DISABLE, DISABLE, DISABLE),
+            (b"bare@x", DISABLE, DISABLE, DISABLE, DISABLE),
+            (b"heard@x", DISCOURAGE, DISCOURAGE, ENCRYPT, ENCRYPT),
+            (b"stale@x", DISCOURAGE, DISCOURAGE, ENCRYPT, ENCRYPT),
+            (b"fresh@x", AVAILABLE, AVAILABLE, ENCRYPT, ENCRYPT),
+            (b"keen@x", AVAILABLE, ENCRYPT, ENCRYPT, ENCRYPT),
+        ]
+        for name, plain, mutual, reply, both in rows:
+            self.assertEqual(self.advice(name), plain, name)
+            self.assertEqual(self.advice(name, mutual=True), mutual, name)
+            self.assertEqual(self.advice(name, reply=True), reply, name)
+            self.assertEqual(self.advice(name, mutual=True, reply=True), both, name)
+
+    def test_the_gap_V3(self):
+        """Proved examples: no reply, no preference, gap 3,024,000 and 3,024,001."""
+        self.assertEqual(GAP_LIMIT, 35 * 24 * 60 * 60)
+        for gap, expected in [(0, AVAILABLE), (GAP - 1, AVAILABLE), (GAP, AVAILABLE),
+                              (GAP + 1, DISCOURAGE), (10 * GAP, DISCOURAGE)]:
+            for timestamp in (0, 1, 1_500_000_000):
+                octets = slot_of(Entry(b"a@b", timestamp + gap, timestamp, b"k"))
+                self.assertEqual(self.advice(b"a@b", octets=octets), expected, gap)
+                octets = slot_of(Entry(b"a@b", timestamp + gap, timestamp, b"k", True))
+                self.assertEqual(self.advice(b"a@b", mutual=True, octets=octets),
+                                 ENCRYPT if gap <= GAP else DISCOURAGE)
+                self.assertEqual(self.advice(b"a@b", reply=True, octets=octets), ENCRYPT)
+
+    def test_gossip_beside_a_stale_key(self):
+        octets = slot_of(Entry(b"a@b", GAP + 1, 0, b"k", False, GAP + 1, b"g"))
+        self.assertEqual(self.advice(b"a@b", octets=octets), DISCOURAGE)
+        self.assertEqual(target_key(octets, b"a@b", False, False, 0), (296, 1))
+
+    def test_a_reply_never_lifts_disable_V1(self):
+        self.assertEqual(self.advice(b"unknown@x, fresh@x", mutual=True, reply=True), DISABLE)
+
+    def test_whole_lists(self):
+        rows = [
+            # recipients, plain, mutual, reply
+            (b"fresh@x, unknown@x", DISABLE, DISABLE, DISABLE),
+            (b"seen@x, keen@x", DISABLE, DISABLE, DISABLE),
+            (b"stale@x, unknown@x, keen@x", DISABLE, DISABLE, DISABLE),
+            (b"keen@x, keen@x", AVAILABLE, ENCRYPT, ENCRYPT),
+            (b"keen@x, fresh@x", AVAILABLE, AVAILABLE, ENCRYPT),
+            (b"fresh@x, keen@x", AVAILABLE, AVAILABLE, ENCRYPT),
+            (b"keen@x, stale@x", DISCOURAGE, DISCOURAGE, ENCRYPT),
+            (b"fresh@x, heard@x, keen@x", DISCOURAGE, DISCOURAGE, ENCRYPT),
+            (b"heard@x, stale@x", DISCOURAGE, DISCOURAGE, ENCRYPT),
+            (b"fresh@x", AVAILABLE, AVAILABLE, ENCRYPT),
+            (b"g: fresh@x, KEEN@X;, (c) \"n\" <fresh@X>", AVAILABLE, AVAILABLE, ENCRYPT),
+        ]
+        for recipients, plain, mutual, reply in rows:
+            self.assertEqual(self.advice(recipients), plain, recipients)
+            self.assertEqual(self.advice(recipients, mutual=True), mutual, recipients)
+            self.assertEqual(self.advice(recipients, reply=True), reply, recipients)
+
+    def test_addresses_are_compared_in_canonical_form(self):
+        self.assertEqual(self.advice(b"FRESH@X"), AVAILABLE)
+        octets = slot_of(Entry(b"\xc3\xa9@x", 1, 1, b"k"))
+        self.assertEqual(self.advice(b"\xc3\xa9@X", octets=octets), AVAILABLE)
+        self.assertEqual(self.advice(b"\xc3\x89@x", octets=octets), DISABLE)
+
+
+class Refusals(unittest.TestCase):
+    def refused(self, number: int, octets: bytes, recipients: bytes, index: int = 0) -> None:
+        for mutual in (False, True):
+            for reply in (False, True):
+                self.assertEqual(recommend(octets, recipients, mutual, reply), (number, index, 0))
+                for place in (0, 1, 99, 100):
+                    self.assertEqual(target_key(octets, recipients, mutual, reply, place), (0, 0))
+
+    def test_1(self):
+        for length in (0, SLOT - 1, SLOT + 1, 257 * SLOT):
+            self.refused(1, bytes(length), b"fresh@x")
+
+    def test_2(self):
+        self.refused(2, TABLE + TABLE, b"fresh@x", len(HELD))
+        self.refused(2, slot_of(Entry(b"A@b")), b"fresh@x", 0)
+
+    def test_10(self):
+        for recipients in [b"", b" ", b"fresh@x,", b",", b"fresh@x;", b"Bob", b"g:;", b"g:;,h:;",
+                           b"fresh@x, \"q\"@y", b"<>", b"fresh@x\r\n", b"a@b,\r\n c@d", b"(",
+                           b"fresh@x " + b"(" * 17 + b")" * 17]:
+            self.refused(10, TABLE, recipients)
+
+    def test_1_to_100_addresses_R9(self):
+        for count, number in [(1, 0), (2, 0), (99, 0), (100, 0), (101, 10), (200, 10)]:
+            recipients = b",".join([b"fresh@x"] * count)
+            if number == 0:
+                self.assertEqual(recommend(TABLE, recipients, False, False), (0, 0, AVAILABLE))
+            else:
+                self.refused(10, TABLE, recipients)
+        distinct = [b"p%d@x" % place for place in range(101)]
+        self.assertEqual(recommend(TABLE, b",".join(distinct[:100]), False, False), (0, 0, DISABLE))
+        self.refused(10, TABLE, b",".join(distinct))
+        # Empty groups take no place.
+        grouped = b"g:;," * 50 + b"g:" + b",".join([b"fresh@x"] * 100) + b";"
+        self.assertEqual(recommend(TABLE, grouped, False, False), (0, 0, AVAILABLE))
+
+    def test_no_limit_on_the_length_of_the_argument_R11(self):
+        recipients = b" " * 70000 + b"fresh@x"
+        self.assertEqual(recommend(TABLE, recipients, False, False), (0, 0, AVAILABLE))
+        self.assertEqual(target_key(TABLE, recipients, False, False, 0), (296, 9))
+
+    def test_a_folded_argument_R12(self):
+        self.refused(10, TABLE, b"fresh@x,\r\n keen@x")
+
+    def test_the_order_of_checking_R1(self):
+        self.refused(1, b"", b"")
+        self.refused(2, slot_of(Entry(b"A@b")), b"")
+        self.refused(10, TABLE, b"")
+
+
+class TargetKeys(unittest.TestCase):
+    def key(self, recipients: bytes, place: int) -> bytes:
+        start, length = target_key(TABLE, recipients, False, False, place)
+        # The answers to mutual and reply do not change the key.
+        for mutual in (False, True):
+            for reply in (False, True):
+                self.assertEqual(target_key(TABLE, recipients, mutual, reply, place), (start, length))
+        return TABLE[start:start + length]
+
+    def test_the_part_of_the_table(self):
+        self.assertEqual(target_key(TABLE, b"fresh@x", False, False, 0), (296, 9))
+        self.assertEqual(target_key(TABLE, b"KEEN@x", True, True, 0), (2 * SLOT + 296, 8))
+        self.assertEqual(target_key(TABLE, b"heard@x", False, False, 0), (4 * SLOT + 2344, 12))
+
+    def test_direct_before_gossip(self):
+        self.assertEqual(self.key(b"keen@x", 0), b"keen key")
+        self.assertEqual(self.key(b"heard@x", 0), b"heard gossip")
+        self.assertEqual(self.key(b"stale@x", 0), b"stale key")
+
+    def test_without_a_key(self):
+        for name in (b"unknown@x", b"seen@x", b"bare@x"):
+            self.assertEqual(target_key(TABLE, name, False, False, 0), (0, 0))
+
+    def test_the_list_is_disable_because_of_another_V2(self):
+        self.assertEqual(recommend(TABLE, b"unknown@x, fresh@x", False, False), (0, 0, DISABLE))
+        self.assertEqual(self.key(b"unknown@x, fresh@x", 0), b"")
+        self.assertEqual(self.key(b"unknown@x, fresh@x", 1), b"fresh key")
+
+    def test_places_count_addresses_V6(self):
+        recipients = b"h:;, fresh@x, g: keen@x, heard@x;, h:;, fresh@x"
+        self.assertEqual([self.key(recipients, place) for place in range(5)],
+                         [b"fresh key", b"keen key", b"heard gossip", b"fresh key", b""])
+        self.assertEqual(target_key(TABLE, recipients, False, False, 0),
+                         target_key(TABLE, recipients, False, False, 3))
+
+    def test_past_the_list_V4(self):
+        for place in (1, 2, 100, 255, 256, 1 << 32, (1 << 64) - 1):
+            self.assertEqual(target_key(TABLE, b"fresh@x", False, False, place), (0, 0))
+        hundred = b",".join([b"fresh@x"] * 100)
+        self.assertEqual(target_key(TABLE, hundred, False, False, 99), (296, 9))
+        self.assertEqual(target_key(TABLE, hundred, False, False, 100), (0, 0))
+
+    def test_the_largest_key_in_the_last_slot(self):
+        octets = bytes(255 * SLOT) + slot_of(Entry(b"a@b", 1, 1, b"k" * 2048, False, 2, b"g" * 2048))
+        self.assertEqual(target_key(octets, b"a@b", False, False, 0), (255 * SLOT + 296, 2048))
+        octets = bytes(255 * SLOT) + slot_of(Entry(b"a@b", gossip_timestamp=2, gossip_key=b"g" * 2048))
+        self.assertEqual(target_key(octets, b"a@b", False, False, 0), (255 * SLOT + 2344, 2048))
+
+
+if __name__ == "__main__":
+    unittest.main()

@@ -1,0 +1,308 @@
+"""The table: length, free and sound slots, entries."""
+
+import random
+import unittest
+
+from paper import table
+from paper.table import (ADDRESS_AT, BITS_AT, DIRECT_KEY_AT, GOSSIP_KEY_AT, SLOT, TIME_LIMIT, Entry,
+                         check, entries, entry_of, find, free_slots, is_sound_alone, slot_of, table_of)
+
+FULL = Entry(b"a@b.example", 2000, 1000, b"direct", True, 3000, b"gossip key")
+SENDER = Entry(b"a@b.example", 2000, 1000, b"direct")
+SEEN = Entry(b"a@b.example", 2000)
+HEARD = Entry(b"a@b.example", gossip_timestamp=3000, gossip_key=b"gossip key")
+BARE = Entry(b"a@b.example")
+
+
+def changed(slot: bytes, at: int, content: bytes) -> bytes:
+    return slot[:at] + content + slot[at + len(content):]
+
+
+def little(value: int, length: int) -> bytes:
+    return value.to_bytes(length, "little")
+
+
+class Layout(unittest.TestCase):
+    def test_a_full_slot_octet_by_octet(self):
+        expected = (
+            b"\x41\x31"                              # 0-1 mark
+            + b"\x0b\x00"                            # 2-3 address length
+            + b"\x0f"                                # 4 all four bits
+            + b"\x00\x00\x00"                        # 5-7
+            + b"\xd0\x07\x00\x00\x00\x00\x00\x00"    # 8-15 last seen 2000
+            + b"\xe8\x03\x00\x00\x00\x00\x00\x00"    # 16-23 Autocrypt timestamp 1000
+            + b"\xb8\x0b\x00\x00\x00\x00\x00\x00"    # 24-31 gossip timestamp 3000
+            + b"\x06\x00"                            # 32-33 direct key length
+            + b"\x0a\x00"                            # 34-35 gossip key length
+            + b"\x00\x00\x00\x00"                    # 36-39
+            + b"a@b.example" + bytes(256 - 11)       # 40-295 address
+            + b"direct" + bytes(2048 - 6)            # 296-2343 direct key
+            + b"gossip key" + bytes(2048 - 10))      # 2344-4391 gossip key
+        self.assertEqual(len(expected), 4392)
+        self.assertEqual(slot_of(FULL), expected)
+        self.assertEqual(entry_of(expected), FULL)
+
+    def test_the_bits(self):
+        for entry, bits in [(BARE, 0), (SEEN, 1), (SENDER, 3), (FULL, 15), (HEARD, 4)]:
+            self.assertEqual(slot_of(entry)[BITS_AT], bits)
+            self.assertEqual(entry_of(slot_of(entry)), entry)
+
+    def test_a_free_slot(self):
+        self.assertEqual(slot_of(None), bytes(4392))
+        self.assertIsNone(entry_of(bytes(4392)))
+
+    def test_the_largest_slot(self):
+        address = b"a" * 62 + b"@" + b".".join([b"b" * 63] * 3)
+        entry = Entry(address, TIME_LIMIT, TIME_LIMIT, b"\xff" * 2048, True, TIME_LIMIT, b"\xfe" * 2048)
+        self.assertEqual(len(address), 254)
+        self.assertEqual(check(slot_of(entry)), (0, 0))
+        self.assertEqual(entry_of(slot_of(entry)), entry)
+
+    def test_zero_is_a_real_time(self):
+        entry = Entry(b"a@b", 0, 0, b"k", False, 0, b"g")
+        self.assertEqual(check(slot_of(entry)), (0, 0))
+        self.assertEqual(entry_of(slot_of(entry)), entry)
+        self.assertEqual(entry_of(slot_of(Entry(b"a@b", 0))).last_seen, 0)
+        self.assertIsNone(entry_of(slot_of(Entry(b"a@b"))).last_seen)
+
+
+class Length(unittest.TestCase):
+    def test_1_to_256_whole_slots(self):
+        for length in [0, 1, SLOT - 1, SLOT + 1, 2 * SLOT - 1, 255 * SLOT + 1, 256 * SLOT - 1,
+                       256 * SLOT + 1, 257 * SLOT, 512 * SLOT, 300 * SLOT]:
+            self.assertEqual(check(bytes(length)), (1, 0), length)
+        for slots in [1, 2, 3, 14, 15, 255, 256]:
+            self.assertEqual(check(bytes(slots * SLOT)), (0, 0), slots)
+
+    def test_length_before_soundness_R1(self):
+        self.assertEqual(check(b"\xff" * (SLOT - 1)), (1, 0))
+        self.assertEqual(check(b"\xff" * (257 * SLOT)), (1, 0))
+
+
+class Soundness(unittest.TestCase):
+    def sound(self, slot: bytes) -> None:
+        self.assertEqual(len(slot), SLOT)
+        self.assertEqual(check(slot), (0, 0))
+        self.assertEqual(slot_of(entry_of(slot)), slot)
+
+    def broken(self, slot: bytes) -> None:
+        self.assertEqual(len(slot), SLOT)
+        self.assertEqual(check(slot), (2, 0))
+
+    def test_sound_slots_T2_T3(self):
+        for entry in [FULL, SENDER, SEEN, HEARD, BARE,
+                      Entry(b"a@b", 5, gossip_timestamp=9, gossip_key=b"g"),
+                      Entry(b"a@b", 5, 5, b"k"), Entry(b"a@b", 5, 5, b"k", True)]:
+            self.sound(slot_of(entry))
+
+    def test_marks_T1(self):
+        for mark in range(65536):
+            octets = mark.to_bytes(2, "big")
+            if octets == b"\x41\x31":
+                continue
+            if mark % 257 == 0 or octets[0] == 0x41 or octets[1] == 0x31 or mark in (0, 0x3141, 0x4132):
+                self.broken(changed(slot_of(BARE), 0, octets))
+        self.broken(b"\x41\x31" + bytes(SLOT - 2))
+
+    def test_a_free_slot_is_all_zero_T1(self):
+        for at in list(range(2, 45)) + [295, 296, 2343, 2344, 4391]:
+            self.broken(changed(bytes(SLOT), at, b"\x01"))
+            self.broken(changed(bytes(SLOT), at, b"\x80"))
+        self.broken(changed(bytes(SLOT), 0, b"\x41"))
+        self.broken(changed(bytes(SLOT), 1, b"\x31"))
+
+    def test_the_address_is_canonical_T7(self):
+        for text in [b"", b"a", b"A@b", b"a@B", b"a@b.", b"a @b", b"<a@b>", b"a@b@c",
+                     b"a" * 65 + b"@b", b"a@" + b"b" * 64, b"a@\xc3\xa9", b"\x00@b", b"a@b\x00"]:
+            self.broken(slot_of(Entry(text)))
+        for text in [b"a@b", b"a" * 64 + b"@b", b"a@" + b"b" * 63, b"\xc3\x89@b", b"\xff@b"]:
+            self.sound(slot_of(Entry(text)))
+
+    def test_the_address_length_T5(self):
+        domain = b".".join([b"b" * 63] * 3)
+        self.sound(slot_of(Entry(b"a" * 62 + b"@" + domain)))
+        self.broken(slot_of(Entry(b"a" * 63 + b"@" + domain)))
+        self.broken(slot_of(Entry(b"a" * 64 + b"@" + domain)))
+        self.assertEqual(len(b"a" * 64 + b"@" + domain), 256)
+        slot = slot_of(BARE)
+        for length in [0, 10, 12, 254, 255, 256, 257, 0x0b00, 65535]:
+            self.broken(changed(slot, 2, little(length, 2)))
+
+    def test_bits_4_to_7(self):
+        for entry in (FULL, BARE, SEEN):
+            for bit in (16, 32, 64, 128):
+                slot = slot_of(entry)
+                self.broken(changed(slot, BITS_AT, bytes([slot[BITS_AT] | bit])))
+
+    def test_octets_5_to_7_and_36_to_39(self):
+        for entry in (FULL, BARE):
+            for at in [5, 6, 7, 36, 37, 38, 39]:
+                for octet in (b"\x01", b"\x80", b"\xff"):
+                    self.broken(changed(slot_of(entry), at, octet))
+
+    def test_times_are_in_range(self):
+        far = Entry(b"a@b", TIME_LIMIT, TIME_LIMIT, b"k", True, TIME_LIMIT, b"g")
+        self.sound(slot_of(far))
+        for at in (8, 16, 24):
+            slot = slot_of(far)
+            self.broken(changed(slot, at, little(TIME_LIMIT + 1, 8)))
+            self.broken(changed(slot, at, b"\xff" * 8))
+        self.sound(changed(slot_of(SEEN), 8, little(TIME_LIMIT, 8)))
+        self.broken(changed(slot_of(SEEN), 8, little(TIME_LIMIT + 1, 8)))
+
+    def test_absent_times_are_zero_T6(self):
+        for at in (8, 16, 24):
+            for value in (1, 256, 1 << 56, TIME_LIMIT, TIME_LIMIT + 1):
+                self.broken(changed(slot_of(BARE), at, little(value, 8)))
+        self.broken(changed(slot_of(SENDER), 24, little(1, 8)))
+        self.broken(changed(slot_of(HEARD), 16, little(1, 8)))
+        self.broken(changed(slot_of(HEARD), 8, little(1, 8)))
+        self.broken(changed(slot_of(SEEN), 16, little(1, 8)))
+
+    def test_key_lengths_where_the_bit_is_set(self):
+        for place, at, other in [("direct_key", 32, 296), ("gossip_key", 34, 2344)]:
+            for length in (1, 2, 2047, 2048):
+                entry = Entry(b"a@b", 2, 1, b"k", False, 1, b"g")
+                setattr(entry, place, b"\x07" * length)
+                self.sound(slot_of(entry))
+            for length in (0, 2049, 4096, 65535):
+                slot = changed(slot_of(FULL), at, little(length, 2))
+                slot = changed(slot, other, bytes(2048))
+                self.broken(slot)
+
+    def test_absent_key_lengths_are_zero(self):
+        for entry, at in [(BARE, 32), (BARE, 34), (SEEN, 32), (HEARD, 32), (SENDER, 34)]:
+            for length in (1, 2, 2048, 2049):
+                self.broken(changed(slot_of(entry), at, little(length, 2)))
+
+    def test_past_a_length_is_zero(self):
+        for at in [40 + 11, 40 + 12, 295, 296 + 6, 296 + 7, 2343, 2344 + 10, 2344 + 11, 4391]:
+            self.broken(changed(slot_of(FULL), at, b"\x01"))
+        # Keys may hold zeros, at their end too.
+        self.sound(slot_of(Entry(b"a@b", 2, 1, b"\0", False, 1, b"\0\0")))
+        self.sound(changed(slot_of(FULL), 296 + 5, b"\0"))
+
+    def test_absent_keys_are_zero(self):
+        for entry, at in [(BARE, 296), (BARE, 2343), (BARE, 2344), (BARE, 4391), (HEARD, 296),
+                          (HEARD, 2343), (SENDER, 2344), (SENDER, 4391), (SEEN, 296), (SEEN, 2344)]:
+            self.broken(changed(slot_of(entry), at, b"\x01"))
+
+    def test_mutual_implies_a_direct_key(self):
+        for entry in (BARE, SEEN, HEARD):
+            slot = slot_of(entry)
+            self.broken(changed(slot, BITS_AT, bytes([slot[BITS_AT] | 8])))
+
+    def test_a_direct_key_implies_last_seen(self):
+        slot = slot_of(Entry(b"a@b", 0, 0, b"k"))
+        self.sound(slot)
+        self.broken(changed(slot, BITS_AT, b"\x02"))
+        self.broken(changed(slot, BITS_AT, b"\x0a"))
+
+    def test_last_seen_is_not_below_the_timestamp(self):
+        for last_seen, timestamp, good in [(1000, 1000, True), (999, 1000, False), (1001, 1000, True),
+                                           (0, 1, False), (TIME_LIMIT, TIME_LIMIT, True),
+                                           (255, 256, False), (256, 255, True)]:
+            slot = slot_of(Entry(b"a@b", last_seen, timestamp, b"k"))
+            if good:
+                self.sound(slot)
+            else:
+                self.broken(slot)
+
+    def test_bits_without_their_content(self):
+        # A key bit set on a slot that holds no key.
+        for bit in (2, 4):
+            slot = slot_of(SEEN)
+            self.broken(changed(slot, BITS_AT, bytes([slot[BITS_AT] | bit])))
+        # A key bit cleared on a slot that holds one.
+        for bits in (13, 11, 7 - 2, 4, 0, 1, 3 + 8):
+            self.broken(changed(slot_of(FULL), BITS_AT, bytes([bits])))
+        # Mutual alone cleared is sound.
+        self.sound(changed(slot_of(FULL), BITS_AT, b"\x07"))
+
+    def test_every_octet_of_a_slot_matters_or_not(self):
+        """Which octets may change alone, one bit each, without breaking a full slot."""
+        free = {4}
+        free |= {8, 9, 10, 11, 12, 16, 17, 24, 25, 26, 27, 28}
+        # A key may end in zeros, so a greater length may be sound.
+        free |= {32, 33, 34, 35}
+        free |= set(range(40, 51)) | set(range(296, 302)) | set(range(2344, 2354))
+        slot = slot_of(FULL)
+        for at in range(SLOT):
+            if at not in free:
+                for bit in (1, 128):
+                    self.assertFalse(is_sound_alone(changed(slot, at, bytes([slot[at] ^ bit]))), at)
+
+
+class Tables(unittest.TestCase):
+    def test_in_no_lower_slot(self):
+        one, two, three = Entry(b"a@b"), Entry(b"c@d", 5), Entry(b"a@b", 7)
+        self.assertEqual(check(table_of([one, two, three])), (2, 2))
+        self.assertEqual(check(table_of([one, three])), (2, 1))
+        self.assertEqual(check(table_of([None, one, None, three])), (2, 3))
+        self.assertEqual(check(table_of([one, two, None])), (0, 0))
+        self.assertEqual(check(table_of([Entry(b"a@b"), Entry(b"a@b.c"), Entry(b"aa@b")])), (0, 0))
+
+    def test_two_spellings_T7(self):
+        self.assertEqual(check(table_of([Entry(b"a@b"), Entry(b"A@b")])), (2, 1))
+
+    def test_the_lowest_index_T4(self):
+        bad = slot_of(Entry(b"A@b"))
+        good = slot_of(Entry(b"a@b"))
+        self.assertEqual(check(good + bytes(SLOT) + bad + bad), (2, 2))
+        self.assertEqual(check(bad + good + good), (2, 0))
+        self.assertEqual(check(good + good + bad), (2, 1))
+        # A lower slot that is itself broken has the lower index.
+        broken = changed(good, 5, b"\x01")
+        self.assertEqual(check(broken + good), (2, 0))
+        self.assertEqual(check(good * 256), (2, 1))
+        last = bytes(255 * SLOT) + bad
+        self.assertEqual(check(last), (2, 255))
+
+    def test_a_full_table(self):
+        held = [Entry(b"a%d@b" % place) for place in range(256)]
+        self.assertEqual(check(table_of(held)), (0, 0))
+        self.assertEqual(entries(table_of(held)), held)
+        self.assertEqual(free_slots(held), [])
+        self.assertEqual(find(held, b"A255@B"), 255)
+
+    def test_finding(self):
+        held = [None, Entry(b"a@b"), None, Entry(b"c@d")]
+        self.assertEqual(find(held, b"a@b"), 1)
+        self.assertEqual(find(held, b"C@D"), 3)
+        self.assertIsNone(find(held, b"e@f"))
+        self.assertEqual(free_slots(held), [0, 2])
+
+    def test_there_and_back(self):
+        source = random.Random(3)
+        for _ in range(200):
+            held: list[Entry | None] = []
+            for place in range(source.randrange(1, 6)):
+                if source.random() < 0.3:
+                    held.append(None)
+                    continue
+                entry = Entry(b"p%d@x" % place)
+                if source.random() < 0.7:
+                    entry.last_seen = source.choice([0, 1, 5000, TIME_LIMIT])
+                    if source.random() < 0.7:
+                        entry.autocrypt_timestamp = source.randrange(entry.last_seen + 1)
+                        entry.direct_key = source.randbytes(source.choice([1, 3, 2048]))
+                        entry.mutual = source.random() < 0.5
+                if source.random() < 0.5:
+                    entry.gossip_timestamp = source.choice([0, 1, 5000, TIME_LIMIT])
+                    entry.gossip_key = source.randbytes(source.choice([1, 3, 2048]))
+                held.append(entry)
+            octets = table_of(held)
+            self.assertEqual(check(octets), (0, 0))
+            self.assertEqual(entries(octets), held)
+
+
+class Limits(unittest.TestCase):
+    def test_the_numbers_of_the_paper(self):
+        self.assertEqual((table.SLOT, table.SLOTS_LIMIT), (4392, 256))
+        self.assertEqual((table.KEY_LIMIT, table.TIME_LIMIT), (2048, 253402300799))
+        self.assertEqual((ADDRESS_AT, DIRECT_KEY_AT, GOSSIP_KEY_AT),
+                         ((40, 296), (296, 2344), (2344, 4392)))
+
+
+if __name__ == "__main__":
+    unittest.main()
