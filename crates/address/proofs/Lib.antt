@@ -1,0 +1,7 @@
+pub mod Pieces
+pub mod Running
+pub mod Labels
+pub mod Atoms
+pub mod Plain
+pub mod Sides
+pub mod Forms
