@@ -1,0 +1,27 @@
+use Rattle.slots.proofs.Reading.{reading}
+use borrow.Author.Needs.{needs}
+use Rattle.slots.proofs.is_zero_past.Statement.{statement}
+use Rattle.slots.proofs.is_zero_past.Tie as tie
+use Rattle.slots.proofs.is_zero_past.Reads as reads
+use Rattle.slots.proofs.is_zero_past.Lts as lts
+use Rattle.slots.proofs.zero_behind.Reads as zero-behind-reads
+
+-- src/lib.rt:303:5
+zero-behind-requires : tie.Need-zero-behind-requires
+zero-behind-requires c κs = search needs
+
+-- src/lib.rt:304:11
+zero-behind-requires-2 : tie.Need-zero-behind-requires-2
+zero-behind-requires-2 c κs = search needs
+
+-- src/lib.rt:305:11
+zero-behind-requires-3 : tie.Need-zero-behind-requires-3
+zero-behind-requires-3 c κs = search needs
+
+-- src/lib.rt:299:1
+returns : tie.Need-returns
+returns c = search reading
+
+pub is-zero-past-spec : {M : Type 1} → statement M
+is-zero-past-spec =
+    tie.close (tie.spec zero-behind-requires zero-behind-requires-2 zero-behind-requires-3 returns)
