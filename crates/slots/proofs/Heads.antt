@@ -45,11 +45,11 @@ module _ (n : Slot) where
         let k : length (putAt d 0 mark) ≡ length d = put-length d mark 0 (omega arith) in
         e₄
         ∙ rw (e₃, e₂, e₁, em)
-          (put-three (putAt d 0 mark) (digits 2 (n .«address_length»)) (digits 1 (bitsOf n)) (digits 3 0) 2 2 1
-          (length-digits 2 (n .«address_length»))
-          (length-digits 1 (bitsOf n))
-          (omega arith)
-          ∙ put-more d mark (digits 2 (n .«address_length») ++ (digits 1 (bitsOf n) ++ digits 3 0)) 0 2 refl (omega arith))
+        (put-three (putAt d 0 mark) (digits 2 (n .«address_length»)) (digits 1 (bitsOf n)) (digits 3 0) 2 2 1
+        (length-digits 2 (n .«address_length»))
+        (length-digits 1 (bitsOf n))
+        (omega arith)
+        ∙ put-more d mark (digits 2 (n .«address_length») ++ (digits 1 (bitsOf n) ++ digits 3 0)) 0 2 refl (omega arith))
 
     pub times-put : (o₁ o₂ o₃ : List ℕ) → o₁ ≡ putAt d 8 (digits 8 (n .«last_seen»)) → o₂ ≡ putAt o₁ 16 (digits 8 (n .timestamp))
         → o₃ ≡ putAt o₂ 24 (digits 8 (n .«gossip_timestamp»)) → o₃ ≡ putAt d 8 (times n)
@@ -57,10 +57,10 @@ module _ (n : Slot) where
     times-put o₁ o₂ o₃ e₁ e₂ e₃ =
         e₃
         ∙ rw (e₂, e₁)
-          (put-three d (digits 8 (n .«last_seen»)) (digits 8 (n .timestamp)) (digits 8 (n .«gossip_timestamp»)) 8 8 8
-          (length-digits 8 (n .«last_seen»))
-          (length-digits 8 (n .timestamp))
-          (omega arith))
+        (put-three d (digits 8 (n .«last_seen»)) (digits 8 (n .timestamp)) (digits 8 (n .«gossip_timestamp»)) 8 8 8
+        (length-digits 8 (n .«last_seen»))
+        (length-digits 8 (n .timestamp))
+        (omega arith))
 
     pub lengths-put : (o₁ o₂ o₃ : List ℕ) → o₁ ≡ putAt d 32 (digits 2 (n .«direct_length»)) → o₂ ≡ putAt o₁ 34 (digits 2 (n .«gossip_length»))
         → o₃ ≡ putAt o₂ 36 (digits 4 0) → o₃ ≡ putAt d 32 (lengths n)
@@ -68,10 +68,10 @@ module _ (n : Slot) where
     lengths-put o₁ o₂ o₃ e₁ e₂ e₃ =
         e₃
         ∙ rw (e₂, e₁)
-          (put-three d (digits 2 (n .«direct_length»)) (digits 2 (n .«gossip_length»)) (digits 4 0) 32 2 2
-          (length-digits 2 (n .«direct_length»))
-          (length-digits 2 (n .«gossip_length»))
-          (omega arith))
+        (put-three d (digits 2 (n .«direct_length»)) (digits 2 (n .«gossip_length»)) (digits 4 0) 32 2 2
+        (length-digits 2 (n .«direct_length»))
+        (length-digits 2 (n .«gossip_length»))
+        (omega arith))
 
     pub head-put : (o₁ o₂ o₃ : List ℕ) → o₁ ≡ putAt d 0 (opening n) → o₂ ≡ putAt o₁ 8 (times n)
         → o₃ ≡ putAt o₂ 32 (lengths n) → o₃ ≡ putAt d 0 (head n)
@@ -114,7 +114,7 @@ over-zeros h a p r k g m eh la em =
     rw zeros
     (rw add-zero at behind
     ∙ rw (text, count, ← replicate-append-replicate {A = ℕ} (r - length a) (k + g) 0, ← replicate-append-replicate {A = ℕ} k g 0)
-      (ap (λ (l : List ℕ). h ++ l) (sym (append-assoc a (replicate (r - length a) 0) (replicate k 0 ++ replicate g 0)))))
+    (ap (λ (l : List ℕ). h ++ l) (sym (append-assoc a (replicate (r - length a) 0) (replicate k 0 ++ replicate g 0)))))
 
 pub begun : (d a o₁ o₂ o₃ : List ℕ) (n : Slot) → (length d ≡ slotLength) × (length a ≤ addressRoom)
     → o₁ ≡ replicate (length d) 0 → n ≡ emptyNumbers (length a) → o₂ ≡ putAt o₁ 0 (head n) → o₃ ≡ putAt o₂ 40 a → o₃ ≡ slotOf (newcomer a)
@@ -122,6 +122,6 @@ unfolding slotOf areas numbersFor newcomer
 begun d a o₁ o₂ o₃ n h e₁ en e₂ e₃ =
     e₃
     ∙ rw (e₂, e₁, en, padded-none)
-      (over-zeros (head (emptyNumbers (length a))) a 40 256 2048 2048 (length d) (length-head (emptyNumbers (length a))) (h .1) (h .0))
+    (over-zeros (head (emptyNumbers (length a))) a 40 256 2048 2048 (length d) (length-head (emptyNumbers (length a))) (h .1) (h .0))
 
 pub ruleset putting = (opening-put, times-put, lengths-put, head-put, padded-put, begun, needs)

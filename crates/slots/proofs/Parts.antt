@@ -3,7 +3,9 @@
 --     drop-take                  what is left of the first m elements
 --     drop-zeros                 what is left of a run of zeros
 --     follows                    a part and the part behind it are one part
+--     drop-past                  what is left behind the first of two lists
 --     put-first                  writing at the front
+--     put-over                   writing over all of it
 --     put-front, put-behind      writing over the first of two lists, or over the second
 --     put-more, put-three        writing on behind what was just written
 --     put-length                 writing keeps the length
@@ -12,7 +14,7 @@
 use Prim.Native.Nat.{ℕ, suc, zero, _+_, _-_, _<_, _≤_, min}
 use mathlib.Core.Path.{_≡_, refl, sym, ap, _∙_}
 use mathlib.Core.Logic.{⊎-elim}
-use mathlib.Core.List.{List, [], _∷_, _++_, append-assoc}
+use mathlib.Core.List.{List, [], _∷_, _++_, append-assoc, append-nil}
 use native.Mathlib.Nat.{min-eq-left, min-eq-right, sub-self, zero-add}
 use native.Mathlib.Omega.{arith}
 use lib.ListN.{length, getD, take, drop, replicate, length-append, length-take, length-drop, drop-of-length-le, take-append-drop}
@@ -53,6 +55,9 @@ drop-zeros (suc n) (suc m) = let e : suc m - suc n ≡ m - n = omega arith in rw
 pub follows : (at n m : ℕ) (s : List ℕ) → take (n + m) (drop at s) ≡ take n (drop at s) ++ take m (drop (at + n) s)
 follows at n m s = take-add n m (drop at s) ∙ rw drop-drop
 
+pub drop-past : (x y : List ℕ) (n at : ℕ) → length x ≡ n → drop (n + at) (x ++ y) ≡ drop at y
+drop-past x y n at e = rw (← e) (drop-append-add x y at)
+
 pub put-first : (d w : List ℕ) → putAt d 0 w ≡ w ++ drop (length w) d
 unfolding putAt
 put-first d w = rw zero-add
@@ -60,6 +65,9 @@ put-first d w = rw zero-add
 pub put-front : (x y w : List ℕ) → length x ≡ length w → putAt (x ++ y) 0 w ≡ w ++ y
 unfolding putAt
 put-front x y w e = rw (zero-add, ← e) (ap (λ (l : List ℕ). w ++ l) (drop-at x y (length x) refl))
+
+pub put-over : (x w : List ℕ) → length x ≡ length w → putAt x 0 w ≡ w
+put-over x w e = put-first x w ∙ rw (drop-of-length-le x {i = length w} (omega arith)) (append-nil w)
 
 pub put-behind : (x y w : List ℕ) (n at : ℕ) → length x ≡ n → putAt (x ++ y) (n + at) w ≡ x ++ putAt y at w
 unfolding putAt

@@ -25,19 +25,19 @@ module _ (s : List ℕ) where
   pub numbers-read : (a l t g d k : ℕ)
       → a ≡ addressLength s → l ≡ lastSeen s → t ≡ timestamp s → g ≡ gossipTimestamp s → d ≡ directLength s → k ≡ gossipLength s
       → _≡_ {A = Slot}
-        (record {
-          «address_length» = a;
-          seen = hasLastSeen s;
-          direct = hasDirect s;
-          gossip = hasGossip s;
-          «mutual» = isMutual s;
-          «last_seen» = l;
-          timestamp = t;
-          «gossip_timestamp» = g;
-          «direct_length» = d;
-          «gossip_length» = k;
-        })
-        (numbersOf s)
+      (record {
+        «address_length» = a;
+        seen = hasLastSeen s;
+        direct = hasDirect s;
+        gossip = hasGossip s;
+        «mutual» = isMutual s;
+        «last_seen» = l;
+        timestamp = t;
+        «gossip_timestamp» = g;
+        «direct_length» = d;
+        «gossip_length» = k;
+      })
+      (numbersOf s)
   unfolding numbersOf
   numbers-read a l t g d k ea el et eg ed ek = rw (ea, el, et, eg, ed, ek)
 
@@ -103,19 +103,19 @@ module _ (s : List ℕ) (at room count n : ℕ) (e : n ≡ min count room) where
 
 pub seen-read : (n : Slot) (date l : ℕ) → l ≡ max (n .«last_seen») date
     → _≡_ {A = Slot}
-      (record {
-        «address_length» = n .«address_length»;
-        seen = true;
-        direct = n .direct;
-        gossip = n .gossip;
-        «mutual» = n .«mutual»;
-        «last_seen» = l;
-        timestamp = n .timestamp;
-        «gossip_timestamp» = n .«gossip_timestamp»;
-        «direct_length» = n .«direct_length»;
-        «gossip_length» = n .«gossip_length»;
-      })
-      (numbersSeen date n)
+    (record {
+      «address_length» = n .«address_length»;
+      seen = true;
+      direct = n .direct;
+      gossip = n .gossip;
+      «mutual» = n .«mutual»;
+      «last_seen» = l;
+      timestamp = n .timestamp;
+      «gossip_timestamp» = n .«gossip_timestamp»;
+      «direct_length» = n .«direct_length»;
+      «gossip_length» = n .«gossip_length»;
+    })
+    (numbersSeen date n)
 seen-read n date l e = rw e
 
 pub bits-read : (n : Slot) (a b c d : ℕ)

@@ -35,10 +35,11 @@ all-nine a b c d e f g h i t =
     let t₆ : (a && b && c && d && e && f) ≡ true = and-left (a && b && c && d && e && f) g t₇ in
     let t₅ : (a && b && c && d && e) ≡ true = and-left (a && b && c && d && e) f t₆ in
     let t₄ : (a && b && c && d) ≡ true = and-left (a && b && c && d) e t₅ in
-    let t₃ : (a && b && c) ≡ true = and-left (a && b && c) d t₄ in
-    (all-three a b c t₃,
-    (and-right (a && b && c) d t₄, and-right (a && b && c && d) e t₅, and-right (a && b && c && d && e) f t₆),
-    (and-right (a && b && c && d && e && f) g t₇, and-right (a && b && c && d && e && f && g) h t₈, and-right (a && b && c && d && e && f && g && h) i t))
+    let t₃ : (a && b && c) ≡ true = and-left (a && b && c) d t₄ in (
+      all-three a b c t₃,
+      (and-right (a && b && c) d t₄, and-right (a && b && c && d) e t₅, and-right (a && b && c && d && e) f t₆),
+      (and-right (a && b && c && d && e && f) g t₇, and-right (a && b && c && d && e && f && g) h t₈, and-right (a && b && c && d && e && f && g && h) i t),
+    )
 
 pub otherwise : (a b : Bool) → (a || b) ≡ true → a ≡ false → b ≡ true
 otherwise true b h e = absurd (false≢true (sym e))

@@ -38,19 +38,33 @@ impl Slot {
 
     // The widths of a length and of a time, and the place of each part, from the one before.
     pub const LENGTH_WIDTH: usize = 2;
+
     pub const TIME_WIDTH: usize = 8;
+
     pub const ADDRESS_LENGTH_AT: usize = 2;
+
     pub const BITS_AT: usize = Self::ADDRESS_LENGTH_AT + Self::LENGTH_WIDTH;
+
     pub const CLEAR_AT: usize = Self::BITS_AT + 1;
+
     pub const LAST_SEEN_AT: usize = Self::CLEAR_AT + 3;
+
     pub const TIMESTAMP_AT: usize = Self::LAST_SEEN_AT + Self::TIME_WIDTH;
+
     pub const GOSSIP_TIMESTAMP_AT: usize = Self::TIMESTAMP_AT + Self::TIME_WIDTH;
+
     pub const DIRECT_LENGTH_AT: usize = Self::GOSSIP_TIMESTAMP_AT + Self::TIME_WIDTH;
+
     pub const GOSSIP_LENGTH_AT: usize = Self::DIRECT_LENGTH_AT + Self::LENGTH_WIDTH;
+
     pub const CLEAR_TOO_AT: usize = Self::GOSSIP_LENGTH_AT + Self::LENGTH_WIDTH;
+
     pub const ADDRESS_AT: usize = Self::CLEAR_TOO_AT + 4;
+
     pub const DIRECT_AT: usize = Self::ADDRESS_AT + Self::ADDRESS_ROOM;
+
     pub const GOSSIP_AT: usize = Self::DIRECT_AT + Self::KEY_LIMIT;
+
     pub const LEN: usize = Self::GOSSIP_AT + Self::KEY_LIMIT;
 
     // An empty entry: an address of the given length, and all else absent.
@@ -78,7 +92,11 @@ impl Slot {
     {
         let bits = slot[Self::BITS_AT];
         Self {
-            address_length: octets::number_at(slot, Self::ADDRESS_LENGTH_AT, Self::LENGTH_WIDTH) as usize,
+            address_length: octets::number_at(
+                slot,
+                Self::ADDRESS_LENGTH_AT,
+                Self::LENGTH_WIDTH,
+            ) as usize,
             seen: bits % 2 == 1,
             direct: bits / 2 % 2 == 1,
             gossip: bits / 4 % 2 == 1,
@@ -86,8 +104,16 @@ impl Slot {
             last_seen: octets::number_at(slot, Self::LAST_SEEN_AT, Self::TIME_WIDTH),
             timestamp: octets::number_at(slot, Self::TIMESTAMP_AT, Self::TIME_WIDTH),
             gossip_timestamp: octets::number_at(slot, Self::GOSSIP_TIMESTAMP_AT, Self::TIME_WIDTH),
-            direct_length: octets::number_at(slot, Self::DIRECT_LENGTH_AT, Self::LENGTH_WIDTH) as usize,
-            gossip_length: octets::number_at(slot, Self::GOSSIP_LENGTH_AT, Self::LENGTH_WIDTH) as usize,
+            direct_length: octets::number_at(
+                slot,
+                Self::DIRECT_LENGTH_AT,
+                Self::LENGTH_WIDTH,
+            ) as usize,
+            gossip_length: octets::number_at(
+                slot,
+                Self::GOSSIP_LENGTH_AT,
+                Self::LENGTH_WIDTH,
+            ) as usize,
         }
     }
 
@@ -95,7 +121,9 @@ impl Slot {
     fn in_range(self) -> bool
         ensures { λ r. ⌜ r ≡ inRange self ⌝ }
     {
-        (self.last_seen <= Self::TIME_LIMIT) & (self.timestamp <= Self::TIME_LIMIT) & (self.gossip_timestamp <= Self::TIME_LIMIT)
+        (self.last_seen <= Self::TIME_LIMIT)
+            & (self.timestamp <= Self::TIME_LIMIT)
+            & (self.gossip_timestamp <= Self::TIME_LIMIT)
     }
 
     // "key lengths are 1 to 2,048 where the bit is set"
@@ -133,7 +161,10 @@ impl Slot {
     fn bits(self) -> u64
         ensures { λ r. ⌜ r ≡ bitsOf self ⌝ }
     {
-        weight(self.seen, 1) + weight(self.direct, 2) + weight(self.gossip, 4) + weight(self.mutual, 8)
+        weight(self.seen, 1)
+            + weight(self.direct, 2)
+            + weight(self.gossip, 4)
+            + weight(self.mutual, 8)
     }
 
     // "Raise last seen to the date."
@@ -197,7 +228,12 @@ impl Slot {
     {
         let mark = Self::MARK;
         octets::put(slot, 0, &mark);
-        octets::put_number(slot, Self::ADDRESS_LENGTH_AT, Self::LENGTH_WIDTH, self.address_length as u64);
+        octets::put_number(
+            slot,
+            Self::ADDRESS_LENGTH_AT,
+            Self::LENGTH_WIDTH,
+            self.address_length as u64,
+        );
         octets::put_number(slot, Self::BITS_AT, 1, self.bits());
         octets::put_number(slot, Self::CLEAR_AT, 3, 0);
     }
@@ -209,7 +245,12 @@ impl Slot {
     {
         octets::put_number(slot, Self::LAST_SEEN_AT, Self::TIME_WIDTH, self.last_seen);
         octets::put_number(slot, Self::TIMESTAMP_AT, Self::TIME_WIDTH, self.timestamp);
-        octets::put_number(slot, Self::GOSSIP_TIMESTAMP_AT, Self::TIME_WIDTH, self.gossip_timestamp);
+        octets::put_number(
+            slot,
+            Self::GOSSIP_TIMESTAMP_AT,
+            Self::TIME_WIDTH,
+            self.gossip_timestamp,
+        );
     }
 
     // Writes octets 32 to 39.
@@ -217,8 +258,18 @@ impl Slot {
         requires { ⌜ length (now slot) ≡ slotLength ⌝ }
         ensures { λ _. ⌜ now (slot .exit) ≡ putAt (now (slot .entry)) 32 (lengths self) ⌝ }
     {
-        octets::put_number(slot, Self::DIRECT_LENGTH_AT, Self::LENGTH_WIDTH, self.direct_length as u64);
-        octets::put_number(slot, Self::GOSSIP_LENGTH_AT, Self::LENGTH_WIDTH, self.gossip_length as u64);
+        octets::put_number(
+            slot,
+            Self::DIRECT_LENGTH_AT,
+            Self::LENGTH_WIDTH,
+            self.direct_length as u64,
+        );
+        octets::put_number(
+            slot,
+            Self::GOSSIP_LENGTH_AT,
+            Self::LENGTH_WIDTH,
+            self.gossip_length as u64,
+        );
         octets::put_number(slot, Self::CLEAR_TOO_AT, 4, 0);
     }
 

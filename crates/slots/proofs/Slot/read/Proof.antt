@@ -1,40 +1,30 @@
+-- `slots::Slot::read` meets its contract: the laws of `Reading` answer every need. Assumes nothing.
 use Rattle.slots.proofs.Reading.{reading}
 use borrow.Author.Needs.{needs}
 use Rattle.slots.proofs.Slot.read.Statement.{statement}
 use Rattle.slots.proofs.Slot.read.Tie as tie
-use Rattle.slots.proofs.Slot.read.Reads as reads
-use Rattle.slots.proofs.Slot.read.Lts as lts
-use Rattle.octets.proofs.number_at.Reads as number-at-reads
 
--- src/lib.rt:79:20
 shared-slice-read-bits : tie.Need-shared-slice-read-bits
 shared-slice-read-bits c = search needs
 
--- src/lib.rt:81:29
 number-at-requires : tie.Need-number-at-requires
 number-at-requires c κs = search needs
 
--- src/lib.rt:86:24
 number-at-requires-2 : tie.Need-number-at-requires-2
 number-at-requires-2 c κs = search needs
 
--- src/lib.rt:87:24
 number-at-requires-3 : tie.Need-number-at-requires-3
 number-at-requires-3 c κs = search needs
 
--- src/lib.rt:88:31
 number-at-requires-4 : tie.Need-number-at-requires-4
 number-at-requires-4 c κs = search needs
 
--- src/lib.rt:89:28
 number-at-requires-5 : tie.Need-number-at-requires-5
 number-at-requires-5 c κs = search needs
 
--- src/lib.rt:90:28
 number-at-requires-6 : tie.Need-number-at-requires-6
 number-at-requires-6 c κs = search needs
 
--- src/lib.rt:75:5
 returns : tie.Need-returns
 returns c = search reading
 
