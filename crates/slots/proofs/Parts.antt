@@ -9,6 +9,7 @@
 --     put-front, put-behind      writing over the first of two lists, or over the second
 --     put-more, put-three        writing on behind what was just written
 --     put-length                 writing keeps the length
+--     part-before, part-behind   what was not written over
 --     part-back                  a part that was lent on, back in its place
 -- Assumes nothing.
 use Prim.Native.Nat.{ℕ, suc, zero, _+_, _-_, _<_, _≤_, min}
@@ -18,7 +19,7 @@ use mathlib.Core.List.{List, [], _∷_, _++_, append-assoc, append-nil}
 use native.Mathlib.Nat.{min-eq-left, min-eq-right, sub-self, zero-add}
 use native.Mathlib.Omega.{arith}
 use lib.ListN.{length, getD, take, drop, replicate, length-append, length-take, length-drop, drop-of-length-le, take-append-drop}
-use lib.Seq.{take-all, take-take, take-add, drop-drop, take-at, drop-at, take-append-le, take-append-add, drop-append-add, length-take-le, drop-nil, take-nil}
+use lib.Seq.{take-all, take-take, take-add, drop-drop, take-at, drop-at, take-append-le, drop-append-le, take-append-add, drop-append-add, length-take-le, drop-nil, take-nil}
 use Rattle.octets.specs.Written.{putAt}
 use Rattle.octets.proofs.Lists.{lt-or-le}
 
@@ -103,3 +104,25 @@ pub put-three : (d x y z : List ℕ) (at n m : ℕ) → length x ≡ n → lengt
 put-three d x y z at n m ex ey h =
     let k : length (putAt d at x) ≡ length d = put-length d x at (omega arith) in
     put-more (putAt d at x) y z (at + n) m ey (omega arith) ∙ put-more d x (y ++ z) at n ex (omega arith)
+
+-- a part that lies before what was written, or behind it, is as it was
+pub part-before : (d w : List ℕ) (at p n : ℕ) → p + n ≤ at → at ≤ length d → take n (drop p (putAt d at w)) ≡ take n (drop p d)
+unfolding putAt
+part-before d w at p n h l =
+    let k : length (take at d) ≡ at = length-take-le at d l in
+    rw (drop-append-le p (take at d) (w ++ drop (at + length w) d) (omega arith), drop-take p at d)
+    (take-append-le n (take (at - p) (drop p d)) (w ++ drop (at + length w) d) (simp (length-take, length-drop) (omega arith))
+    ∙ take-take n (at - p) (drop p d) (omega arith))
+
+pub part-behind : (d w : List ℕ) (at p n : ℕ) → at + length w ≤ p → at ≤ length d → take n (drop p (putAt d at w)) ≡ take n (drop p d)
+unfolding putAt
+part-behind d w at p n h l =
+    let k : length (take at d) ≡ at = length-take-le at d l in
+    let a : p ≡ length (take at d) + (length w + (p - at - length w)) = omega arith in
+    let b : at + length w + (p - at - length w) ≡ p = omega arith in
+    ap (take n)
+    (ap (λ (q : ℕ). drop q (take at d ++ (w ++ drop (at + length w) d))) a
+    ∙ drop-append-add (take at d) (w ++ drop (at + length w) d) (length w + (p - at - length w))
+    ∙ drop-append-add w (drop (at + length w) d) (p - at - length w)
+    ∙ drop-drop (p - at - length w) (at + length w) d
+    ∙ ap (λ (q : ℕ). drop q d) b)

@@ -24,6 +24,9 @@ pub struct Slot {
 }
 
 impl Slot {
+    // "1 to 256 slots"
+    pub const MOST: usize = 256;
+
     // "A two-octet mark opens each slot: 41 31 used"
     pub const MARK: [u8; 2] = *b"A1";
 
