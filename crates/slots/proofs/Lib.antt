@@ -1,0 +1,6 @@
+pub mod Parts
+pub mod Reading
+pub mod Heads
+pub mod Sounds
+pub mod Entries
+pub mod Made
