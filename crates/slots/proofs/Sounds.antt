@@ -16,7 +16,7 @@ use Rattle.octets.specs.Octets.{allZero, sameOctets}
 use Rattle.octets.proofs.Comparing.{same-true}
 use Rattle.octets.proofs.Zeros.{zero-true}
 use Rattle.address.specs.Address.{plain, canonical, isCanonical}
-use Rattle.address.proofs.Pieces.{and-left, and-right}
+use Rattle.address.proofs.Every.{and-left, and-right}
 use Rattle.address.proofs.Sides.{plain-most}
 use Rattle.slots.specs.declared.Slot.{Slot}
 use Rattle.slots.specs.Slot.{slotLength, keyLimit, timeLimit, mark, part, oneTo, addressLength, bits, hasLastSeen, hasDirect, hasGossip, isMutual, lastSeen, timestamp, gossipTimestamp, directLength, gossipLength, addressArea, directArea, gossipArea, addressOf, directKeyOf, gossipKeyOf, numbersOf, free, marked, canonicalAddress, clear, inRange, lengthsInRange, absentZero, zeroPast, mutualDirect, directSeen, sound}
