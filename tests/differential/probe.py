@@ -211,3 +211,22 @@ class Probe:
 
     def holds(self, s: bytes, wanted: bytes) -> bool:
         return self._call("probe_holds", ctypes.c_bool, _read + _read, s, len(s), wanted, len(wanted))
+
+    # table
+
+    def check(self, table: bytes) -> tuple[int, int]:
+        r = self._call("probe_check", Answer, _read, table, len(table))
+        return r.kind, r.value
+
+    def _slot(self, name: str, kinds: list, *words) -> int | None:
+        r = self._call(name, Answer, kinds, *words)
+        return r.value if r.kind == 0 else None
+
+    def find(self, table: bytes, address: bytes) -> int | None:
+        return self._slot("probe_find", _read + _read, table, len(table), address, len(address))
+
+    def lowest_free(self, table: bytes) -> int | None:
+        return self._slot("probe_lowest_free", _read, table, len(table))
+
+    def count_free(self, table: bytes) -> int:
+        return self._call("probe_count_free", _size, _read, table, len(table))

@@ -2,7 +2,7 @@
 // address, last seen, Autocrypt timestamp, direct key length, `mutual` or `none`, gossip timestamp, gossip key length.
 // A refusal prints `refused` and its number.
 ghost use Prim.Native.Nat.{_<_};
-ghost use Rattle.table.specs.Table.{slotsOf};
+ghost use Rattle.table.specs.Table.{slots as slotsOf};
 use libc::STDIN_FILENO;
 use libc::STDOUT_FILENO;
 
