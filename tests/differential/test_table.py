@@ -1,4 +1,6 @@
 """Crates slots and table, and the listing program, against the independent program."""
+import platform
+import shutil
 import subprocess
 import unittest
 from dataclasses import replace
@@ -80,10 +82,12 @@ class Table(unittest.TestCase):
 
 
 def program(name: str) -> list[str]:
-    """How a program of the repository is run here: by the toolchain's emulator where there is one."""
-    rt = Path(subprocess.run(["sh", "-c", "readlink -f $(command -v rt)"], capture_output=True, text=True, check=True).stdout.strip())
-    emulators = list(rt.parents[1].glob(f"on/{subprocess.run(['uname', '-m'], capture_output=True, text=True).stdout.strip()}/toolchain/bin/qemu-x86_64"))
-    return [str(emulators[0]), "-L", str(rt.parents[1] / "toolchain")] * bool(emulators) + [str(ROOT / "target" / "bin" / name)]
+    """How a program of the repository is run: by the toolchain's own loader, and by its emulator where it brings one."""
+    kit = Path(shutil.which("rt")).resolve().parents[1]
+    tools = kit / "on" / platform.machine() / "toolchain"
+    emulator = tools / "bin" / "qemu-x86_64"
+    loader = [str(tools / "lib" / "ld-linux-x86-64.so.2"), "--library-path", str(tools / "lib")]
+    return [str(emulator)] * emulator.exists() + loader + [str(ROOT / "target" / "bin" / name)]
 
 
 class Listing(unittest.TestCase):
