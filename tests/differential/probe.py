@@ -21,6 +21,17 @@ class FieldPlaces(ctypes.Structure):
     _fields_ = [(name, ctypes.c_uint64) for name in ("kind", "name_end", "value", "end")]
 
 
+class ListPlaces(ctypes.Structure):
+    _fields_ = [
+        ("kind", ctypes.c_uint64),
+        ("from_", ctypes.c_uint64),
+        ("to", ctypes.c_uint64),
+        ("at", ctypes.c_size_t),
+        ("stage", ctypes.c_uint64),
+        ("inside", ctypes.c_bool),
+    ]
+
+
 class Lent:
     """A buffer that is lent for one call."""
 
@@ -174,3 +185,29 @@ class Probe:
         lent = Lent(out)
         r = self._call("probe_canonical", Answer, _read + _write, s, len(s), *lent.words())
         return r.kind, r.value, lent.now()
+
+    # list
+
+    def addresses(self, s: bytes) -> list[bytes] | None:
+        """The list's addresses, handed out one after the other; None: unreadable."""
+        found, at, stage, inside = [], 0, 0, False
+        kinds = _read + [_size, ctypes.c_uint64, ctypes.c_bool]
+        while True:
+            r = self._call("probe_next_address", ListPlaces, kinds, s, len(s), at, stage, inside)
+            if r.kind != 0:
+                return found if r.kind == 2 else None
+            if not at <= r.from_ < r.to <= r.at <= len(s):
+                raise AssertionError(f"places out of order: {at} {r.from_} {r.to} {r.at}")
+            found.append(s[r.from_ : r.to])
+            at, stage, inside = r.at, r.stage, r.inside
+
+    def count(self, s: bytes) -> int | None:
+        r = self._call("probe_count", Answer, _read, s, len(s))
+        return r.value if r.kind == 0 else None
+
+    def only(self, s: bytes) -> bytes | None:
+        r = self._call("probe_only", ListPlaces, _read, s, len(s))
+        return s[r.from_ : r.to] if r.kind == 0 else None
+
+    def holds(self, s: bytes, wanted: bytes) -> bool:
+        return self._call("probe_holds", ctypes.c_bool, _read + _read, s, len(s), wanted, len(wanted))

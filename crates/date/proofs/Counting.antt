@@ -4,7 +4,7 @@
 --     Walked                        the invariant of both walks: the days of the k years or months passed
 -- Assumes nothing.
 use Prim.Native.Nat.{ℕ, zero, suc, _+_, _-_, _*_, _%_, _≤_, _<_}
-use mathlib.Core.Path.{_≡_, refl, sym, ap, _∙_}
+use mathlib.Core.Path.{_≡_, refl, sym, _∙_}
 use mathlib.Core.Bool.{Bool, true, false}
 use mathlib.Core.List.{List, [], _∷_}
 use native.Mathlib.Numerals.{add-one}
@@ -151,4 +151,5 @@ unfolding dayCount
 day-bound year month day hy hm hd = omega (arith, year-bound (year - 1900), month-bound year (month - 1))
 
 pub ruleset walking = (no-year, year-done, year-more, no-month, month-done, month-more, needs)
+
 pub ruleset counting = (counted, years-fit, days-fit, needs)

@@ -5,18 +5,18 @@
 --     only-if-..                 where a definition has an answer, its tests hold
 --     number-below, number-small     how large a number of so many digits is
 -- Assumes nothing.
-use Prim.Native.Nat.{ℕ, zero, suc, _+_, _-_, _*_, _^_, _≤_, _<_}
-use mathlib.Core.Path.{_≡_, refl, sym, ap, _∙_}
+use Prim.Native.Nat.{ℕ, suc, _+_, _-_, _*_, _^_, _≤_, _<_}
+use mathlib.Core.Path.{_≡_, refl, sym, _∙_}
 use mathlib.Core.Bool.{Bool, true, false, _&&_}
 use mathlib.Core.List.{List, [], _∷_}
-use mathlib.Core.Option.{Option, some, none, bind}
+use mathlib.Core.Option.{Option, some, none, bind, Option·none-ne-some}
 use native.Mathlib.Nat.{add-zero, zero-add, pow-le-pow-right, pow-succ'}
 use native.Mathlib.Numerals.{add-one}
 use native.Mathlib.Omega.{arith}
 use mir.Val.{Fits}
 use mir.Syntax.{w64}
 use borrow.Author.Needs.{needs}
-use borrow.Author.Tests.{leb-true, leb-false, le-leb, lt-leb}
+use borrow.Author.Tests.{leb-true, le-leb, lt-leb}
 use lib.Dec.{leb}
 use lib.ListN.{length, getD, drop}
 use Rattle.octets.proofs.Lists.{drop-one, drop-done}
@@ -147,7 +147,7 @@ value-below (x ∷ t) i n m h e = go (digitOf x) refl (λ d. value-below t (i + 
         (o : Option ℕ) → digitOf x ≡ o
         → ((d : ℕ) → 10 * n + d < 10 ^ (i + 1) → valueFrom (10 * n + d) t ≡ some m → m < 10 ^ (i + 1 + length t))
         → m < 10 ^ (i + suc (length t))
-    go none p rest = let z : _≡_ {A = ℕ} 0 1 = cc (rw p at e) in absurd (omega arith)
+    go none p rest = absurd (Option·none-ne-some m (rw p at e))
     go (some d) p rest =
         let w : i + suc (length t) ≡ i + 1 + length t = omega arith in
         rw w (rest d (digit-more n i d h (digit-small x d p)) (rw p at e))

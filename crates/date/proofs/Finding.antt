@@ -1,18 +1,16 @@
 -- The token at a place of the text.
 --     skip-any                      what is left behind blanks and comments, wherever the place is
 --     found-..                      an answer of `token`, and what the definition says
---     inside-..                     a token lies in the text
---     first-..                      what a caller learns from the answer: the first token of what is left
 -- Assumes nothing.
 use Prim.Native.Nat.{ℕ, suc, _+_, _-_, _≤_, _<_}
-use mathlib.Core.Path.{_≡_, refl, sym, ap, _∙_}
+use mathlib.Core.Path.{_≡_, sym, _∙_}
 use mathlib.Core.Logic.{⊎-elim}
-use mathlib.Core.List.{List, [], _∷_}
-use mathlib.Core.Option.{Option, some, none}
+use mathlib.Core.List.{List}
+use mathlib.Core.Option.{some}
 use native.Mathlib.Numerals.{add-one}
 use native.Mathlib.Omega.{arith}
 use borrow.Author.Needs.{needs}
-use lib.ListN.{length, getD, take, drop, length-drop}
+use lib.ListN.{length, getD, drop, length-drop}
 use lib.Seq.{drop-drop}
 use Rattle.octets.proofs.Lists.{lt-or-le, drop-one, drop-done}
 use Rattle.tokens.specs.Tokens.{skipped}
@@ -22,11 +20,10 @@ use Rattle.tokens.specs.declared.Reached.{Reached}
 use Rattle.tokens.specs.declared.Reached.the-variants.{To, Unreadable as Stuck}
 use Rattle.tokens.proofs.Skipping.{skip-left, skip-unreadable}
 use Rattle.tokens.proofs.Running.{run-length}
-use Rattle.date.specs.Date.{openingOf, further, tokenAt, firstToken, Token, token, end, unreadable}
-use Rattle.date.specs.Answers.{tokenIn, Inside}
+use Rattle.date.specs.Date.{openingOf, further, tokenAt, firstToken}
+use Rattle.date.specs.Answers.{tokenIn}
 use Rattle.date.specs.declared.token.Opening.{Opening}
 use Rattle.date.specs.declared.token.Opening.the-variants.{Number, Word, Plus, Minus, Mark}
-use Rattle.date.specs.declared.token.Found.{Found}
 use Rattle.date.specs.declared.token.Found.the-variants.{Between, End, Unreadable}
 use Rattle.date.proofs.Opened.{endOf}
 
@@ -44,8 +41,10 @@ module _ (s : List ℕ) (at : ℕ) (r : Reached) (e : r ≡ reached s (skipped (
     where
       within : at < length s → skipped (drop at s) ≡ some (drop n s)
       within l = skip-left s at r e n q (omega arith)
+
       same : length s ≤ at → drop at s ≡ drop (length s) s
       same l = drop-done s at l ∙ sym (drop-done s (length s) (omega arith))
+
       beyond : length s ≤ at → skipped (drop at s) ≡ some (drop n s)
       beyond l = rw (same l) (skip-left s (length s) r (rw (same l) at e) n q (omega arith))
 

@@ -7,3 +7,5 @@ pub mod Finding
 pub mod Reading
 pub mod Ranges
 pub mod Parts
+pub mod Effective
+pub mod Worked

@@ -4,10 +4,10 @@
 --     meant-as             the place that was asked for
 -- Assumes nothing.
 use Prim.Native.Nat.{ℕ, _+_, _-_, _*_, _/_, _%_, _≤_, _<_}
-use mathlib.Core.Path.{_≡_, refl, sym, ap, _∙_}
+use mathlib.Core.Path.{_≡_, refl, sym, _∙_}
 use mathlib.Core.Bool.{Bool, true, false}
 use mathlib.Core.List.{List, [], _∷_}
-use mathlib.Core.Option.{Option, some, none, bind}
+use mathlib.Core.Option.{some, bind}
 use native.Mathlib.Omega.{arith}
 use mir.Val.{Fits}
 use mir.Syntax.{w64}
@@ -18,12 +18,29 @@ use lib.Seq.{take-all}
 use Rattle.tokens.specs.Tokens.{belongs}
 use Rattle.octets.specs.Octets.{sameOctets}
 use Rattle.date.specs.Date.{
-  openingOf, numberOf, monthNames, zoneNames, zoneHours, placeIn, markOf, dayOf, monthOf, yearBy, yearOf, onlyIf, twoDigits, offsetBy,
-  offsetOf, hoursWest, kindOf, eastBy, westBy, meant
+  openingOf,
+  numberOf,
+  monthNames,
+  zoneNames,
+  zoneHours,
+  placeIn,
+  markOf,
+  dayOf,
+  monthOf,
+  yearBy,
+  yearOf,
+  onlyIf,
+  twoDigits,
+  offsetBy,
+  offsetOf,
+  hoursWest,
+  opensWith,
+  eastBy,
+  westBy,
+  meant,
 }
 use Rattle.date.specs.Answers.{meaning}
 use Rattle.date.specs.declared.token.Opening.{Opening}
-use Rattle.date.specs.declared.token.Opening.the-variants.{Number, Word, Plus, Minus, Mark}
 use Rattle.date.specs.declared.meaning.Place.{Place}
 use Rattle.date.specs.declared.meaning.Meaning.{Meaning}
 use Rattle.date.specs.declared.meaning.Meaning.the-variants.{Value, Nothing}
@@ -151,7 +168,9 @@ unfolding offsetBy onlyIf meaning
 offset-none n h = rw (lt-leb (n % 100) 59 h)
 
 pub ruleset years = (year-new, year-old, year-three, year-none, year-early, year-four, number-fits, year-is, year-no-number, needs)
+
 pub ruleset twos = (two-width, two-is, two-above, two-no-number, needs)
+
 pub ruleset offsets = (offset-width, offset-is, offset-no-number, offset-minutes, offset-none, number-fits, needs)
 
 module _ (t : List ℕ) (r : Meaning) (e : r ≡ meaning (placeIn t zoneNames)) where
@@ -176,22 +195,22 @@ module _ (t : List ℕ) (r : Meaning) (e : r ≡ meaning (placeIn t zoneNames)) 
 pub ruleset hours = (hours-below, hours-index, hours-is, hours-few, hours-none, needs)
 
 module _ (t : List ℕ) where
-  pub east-empty : length t ≡ 0 → Nothing ≡ meaning (eastBy (kindOf t) t)
+  pub east-empty : length t ≡ 0 → Nothing ≡ meaning (eastBy (opensWith t) t)
   unfolding openingOf belongs eastBy meaning
   east-empty h = rw (empty t h)
 
-  pub west-empty : length t ≡ 0 → Nothing ≡ meaning (westBy (kindOf t) t)
+  pub west-empty : length t ≡ 0 → Nothing ≡ meaning (westBy (opensWith t) t)
   unfolding openingOf belongs westBy meaning
   west-empty h = rw (empty t h)
 
   pub behind-sign : (r : Meaning) → r ≡ meaning (offsetOf (take (length t - 1) (drop 1 t))) → r ≡ meaning (offsetOf (drop 1 t))
   behind-sign r e = rw (take-all (length t - 1) (drop 1 t) (omega (arith, length-drop 1 t))) at e
 
-  module _ (g k : Opening) (e : g ≡ kindOf t) (q : g ≡ k) (r : Meaning) where
-    pub east-as : r ≡ meaning (eastBy k t) → r ≡ meaning (eastBy (kindOf t) t)
+  module _ (g k : Opening) (e : g ≡ opensWith t) (q : g ≡ k) (r : Meaning) where
+    pub east-as : r ≡ meaning (eastBy k t) → r ≡ meaning (eastBy (opensWith t) t)
     east-as h = rw (← e, q) h
 
-    pub west-as : r ≡ meaning (westBy k t) → r ≡ meaning (westBy (kindOf t) t)
+    pub west-as : r ≡ meaning (westBy k t) → r ≡ meaning (westBy (opensWith t) t)
     west-as h = rw (← e, q) h
 
 pub west-named : (n m : ℕ) → n ≡ m → Value (3600 * n) ≡ meaning (some (3600 * m))

@@ -3,10 +3,10 @@
 --     place-below     the place that is found is one of the table
 -- Assumes nothing.
 use Prim.Native.Nat.{ℕ, _+_, _-_, _*_, _≤_, _<_}
-use mathlib.Core.Path.{_≡_, refl, sym, ap, _∙_}
+use mathlib.Core.Path.{_≡_, refl, sym, _∙_}
 use mathlib.Core.Bool.{Bool, true, false}
 use mathlib.Core.List.{List, [], _∷_}
-use mathlib.Core.Option.{Option, some, none}
+use mathlib.Core.Option.{Option, some, none, Option·none-ne-some}
 use native.Mathlib.Omega.{arith}
 use borrow.Author.Needs.{needs}
 use lib.ListN.{length, take, drop, length-drop}
@@ -76,9 +76,9 @@ pub ruleset looking = (look-begin, look-end, look-found, look-on, needs)
 
 pub place-below : (t names : List ℕ) (j k : ℕ) → placeFrom j t names ≡ some k → 3 * k < 3 * j + length names
 unfolding placeFrom hereOr
-place-below t [] j k e = let z : _≡_ {A = ℕ} 0 1 = cc in absurd (omega arith)
-place-below t (a ∷ []) j k e = let z : _≡_ {A = ℕ} 0 1 = cc in absurd (omega arith)
-place-below t (a ∷ b ∷ []) j k e = let z : _≡_ {A = ℕ} 0 1 = cc in absurd (omega arith)
+place-below t [] j k e = absurd (Option·none-ne-some k e)
+place-below t (a ∷ []) j k e = absurd (Option·none-ne-some k e)
+place-below t (a ∷ b ∷ []) j k e = absurd (Option·none-ne-some k e)
 place-below t (a ∷ b ∷ c ∷ names) j k e = go (sameName t (a ∷ b ∷ c ∷ [])) refl (place-below t names (j + 1) k)
   where
     go :

@@ -1,26 +1,20 @@
--- The parts of a date, the date, and the effective date.
+-- The parts of a date, one after the other, and the Date.
 --     exists-..                  a day that exists in its month, and one that does not
 --     value-read, nothing-read   an answer that is a number, as a part of a date
 --     zone-..                    the zone
 --     end-..                     nothing may stand behind the zone
 --     date-..                    one part after the other, to the Date
---     option-dated               the Date, to the code's answer and back
---     effective-..               the effective date
 -- Assumes nothing.
-use Prim.Native.Nat.{ℕ, _+_, _-_, _*_, _≤_, _<_, min}
-use mathlib.Core.Path.{_≡_, refl, sym, ap, _∙_}
-use mathlib.Core.Bool.{Bool, true, false, _&&_}
-use mathlib.Core.List.{List, [], _∷_}
-use mathlib.Core.Option.{Option, some, none}
-use native.Mathlib.Omega.{arith}
+use Prim.Native.Nat.{ℕ, _+_, _-_, _≤_, _<_}
+use mathlib.Core.Path.{_≡_, refl}
+use mathlib.Core.List.{List}
+use mathlib.Core.Option.{Option}
 use borrow.Author.Needs.{needs}
 use borrow.Author.Tests.{le-leb, lt-leb}
-use lib.ListN.{length, drop}
+use lib.ListN.{drop}
 use Rattle.date.specs.Calendar.{leap, leapDay, monthLength, yearDays, monthDays, dayCount}
-use Rattle.date.specs.Date.{
-  onlyIf, Read, got, missing, firstToken, readOf, andThen, next, existing, zoned, epoch, ended, effectiveDate
-}
-use Rattle.date.specs.Answers.{datedOf, optionOf, meaning, tokenIn, readIn}
+use Rattle.date.specs.Date.{onlyIf, Read, got, firstToken, readOf, andThen, next, existing, zoned, epoch, ended}
+use Rattle.date.specs.Answers.{datedOf, meaning, tokenIn, readIn}
 use Rattle.date.specs.declared.token.Found.{Found}
 use Rattle.date.specs.declared.token.Found.the-variants.{Between, End, Unreadable}
 use Rattle.date.specs.declared.meaning.Place.the-variants.{East, West}
@@ -119,24 +113,3 @@ module _ (s : List ℕ) (g : Part) (u : Read) (e : readIn s g ≡ u) where
     date-then-missing q = rw (read-missing s g u e q)
 
 pub ruleset dating = (date-then, date-then-missing, date-last, date-missing, ranges, needs)
-
-pub option-dated : (o : Option ℕ) → optionOf (datedOf o) ≡ o
-unfolding optionOf datedOf
-option-dated none = refl
-option-dated (some n) = refl
-
-module _ (date : Dated) (receipt : ℕ) where
-  pub effective-none : date ≡ Unavailable → receipt ≡ effectiveDate (optionOf date) receipt
-  unfolding effectiveDate optionOf
-  effective-none q = rw q
-
-  module _ (n : ℕ) (q : date ≡ Available n) where
-    pub effective-date : n < receipt → n ≡ effectiveDate (optionOf date) receipt
-    unfolding effectiveDate optionOf
-    effective-date h = rw q (omega arith)
-
-    pub effective-receipt : receipt ≤ n → receipt ≡ effectiveDate (optionOf date) receipt
-    unfolding effectiveDate optionOf
-    effective-receipt h = rw q (omega arith)
-
-pub ruleset effects = (effective-none, effective-date, effective-receipt, needs)

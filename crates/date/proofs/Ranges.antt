@@ -3,22 +3,51 @@
 --     two-most .. west-some         what a token means, by the place
 --     range-..                      what a reader answers, by the place
 -- Assumes nothing.
-use Prim.Native.Nat.{ℕ, suc, _+_, _-_, _*_, _/_, _%_, _^_, _≤_, _<_}
-use mathlib.Core.Path.{_≡_, refl, sym, ap, _∙_}
+use Prim.Native.Nat.{ℕ, _+_, _-_, _*_, _/_, _%_, _^_, _≤_, _<_}
+use mathlib.Core.Path.{_≡_, refl}
 use mathlib.Core.Bool.{Bool, true, false, _&&_}
-use mathlib.Core.List.{List, [], _∷_}
-use mathlib.Core.Option.{Option, some, none, bind}
+use mathlib.Core.List.{List}
+use mathlib.Core.Option.{Option, some, none, bind, Option·none-ne-some}
 use native.Mathlib.Omega.{arith}
 use mir.Val.{Fits}
 use mir.Syntax.{w64}
 use borrow.Author.Tests.{leb-true, eqb-true, eq-eqb}
 use lib.Dec.{leb, eqb}
-use lib.ListN.{length, getD, drop}
+use lib.ListN.{length, drop}
 use Rattle.date.specs.Calendar.{monthLength, dayCount}
 use Rattle.date.specs.Date.{
-  onlyIf, numberOf, monthNames, zoneNames, zoneHours, placeIn, monthOf, yearBy, yearOf, twoDigits, offsetBy, offsetOf, hoursWest, westBy,
-  kindOf, meant, Token, token, end, unreadable, firstToken, Read, got, missing, readOf, andThen, next, optional, existing, calendarDay,
-  timeOfDay, localTime
+  onlyIf,
+  numberOf,
+  monthNames,
+  zoneNames,
+  zoneHours,
+  placeIn,
+  monthOf,
+  yearBy,
+  yearOf,
+  twoDigits,
+  offsetBy,
+  offsetOf,
+  hoursWest,
+  westBy,
+  opensWith,
+  meant,
+  Token,
+  token,
+  end,
+  unreadable,
+  firstToken,
+  Read,
+  got,
+  missing,
+  readOf,
+  andThen,
+  next,
+  optional,
+  existing,
+  calendarDay,
+  timeOfDay,
+  localTime,
 }
 use Rattle.date.specs.Answers.{readIn}
 use Rattle.date.specs.declared.token.Opening.{Opening}
@@ -26,9 +55,9 @@ use Rattle.date.specs.declared.token.Opening.the-variants.{Number, Word,
 use Rattle.date.specs.declared.meaning.Place.{Place}
 use Rattle.date.specs.declared.meaning.Place.the-variants.{Day, Month, Year, UpTo, Colon, West}
 use Rattle.date.specs.declared.Part.{Part}
-use Rattle.date.specs.declared.Part.the-variants.{Got, Missing}
+use Rattle.date.specs.declared.Part.the-variants.{Got}
 use Rattle.date.proofs.Counting.{at-most, monthLength-small, day-bound}
-use Rattle.date.proofs.Digits.{only-if-true, only-if-some, both-left, both-right, number-below, number-small}
+use Rattle.date.proofs.Digits.{only-if-true, only-if-some, both-right, number-below, number-small}
 use Rattle.date.proofs.Naming.{place-below}
 use Rattle.date.proofs.Reading.{read-got}
 
@@ -36,7 +65,7 @@ use Rattle.date.proofs.Reading.{read-got}
 bind-some :
     (o : Option ℕ) (f : ℕ → Option ℕ) (n : ℕ) (P : Type 0) → bind o f ≡ some n → ((m : ℕ) → o ≡ some m → f m ≡ some n → P) → P
 unfolding bind
-bind-some none f n P e h = let z : _≡_ {A = ℕ} 0 1 = cc in absurd (omega arith)
+bind-some none f n P e h = absurd (Option·none-ne-some n e)
 bind-some (some m) f n P e h = h m refl e
 
 two-most : (most : ℕ) (t : List ℕ) (n : ℕ) → twoDigits most t ≡ some n → n ≤ most
@@ -63,6 +92,7 @@ year-by width m n h l e = two (eqb width 2) refl
         let q : m + 1900 ≡ n = cc (rw (yearBy, eq-eqb width 2 w, p) at e) in
         let k : m < 10 ^ 2 = rw w at h in
         omega arith
+
     three : (b : Bool) → eqb width 3 ≡ b → eqb width 2 ≡ false → (1900 ≤ n) × (n ≤ 9999)
     three true p w =
         let q : m + 1900 ≡ n = cc (rw (yearBy, w, p) at e) in
@@ -72,6 +102,7 @@ year-by width m n h l e = two (eqb width 2) refl
         let o : onlyIf (eqb width 4 && leb 1900 m) (some m) ≡ some n = rw (yearBy, w, p) at e in
         let q : m ≡ n = cc (only-if-some (eqb width 4 && leb 1900 m) (some m) n o) in
         omega (arith, leb-true 1900 m (both-right (eqb width 4) (leb 1900 m) (only-if-true _ (some m) n o)))
+
     two : (b : Bool) → eqb width 2 ≡ b → (1900 ≤ n) × (n ≤ 9999)
     two true p = new (leb m 49) refl (eqb-true width 2 p)
     two false p = three (eqb width 3) refl p
@@ -83,10 +114,10 @@ year-some t n e =
     (λ m p q. year-by (length t) m n (number-below t m p) (number-small t m p) q)
 
 -- no zone is 100 hours away
-offset-some : (t : List ℕ) (n : ℕ) → offsetOf t ≡ some n → n ≤ 360000
+offset-some : (t : List ℕ) (n : ℕ) → offsetOf t ≡ some n → n ≤ 360_000
 unfolding offsetOf offsetBy
 offset-some t n e =
-    bind-some (numberOf t) (λ m. offsetBy m) n (n ≤ 360000) (only-if-some (eqb (length t) 4) _ n e)
+    bind-some (numberOf t) (λ m. offsetBy m) n (n ≤ 360_000) (only-if-some (eqb (length t) 4) _ n e)
     (λ m p q.
     let w : 3600 * (m / 100) + 60 * (m % 100) ≡ n = cc (only-if-some (leb (m % 100) 59) _ n q) in
     omega (arith, number-small t m p, leb-true (m % 100) 59 (only-if-true (leb (m % 100) 59) _ n q)))
@@ -99,13 +130,16 @@ hours-most t = go (placeIn t zoneNames) refl
     go none p = rw (hoursWest, p) (omega arith)
     go (some k) p = rw (hoursWest, p) (at-most 8 zoneHours (omega arith) k)
 
-west-some : (k : Opening) (t : List ℕ) (n : ℕ) → westBy k t ≡ some n → n ≤ 360000
+west-some : (k : Opening) (t : List ℕ) (n : ℕ) → westBy k t ≡ some n → n ≤ 360_000
 unfolding westBy
-west-some Number t n e = let z : _≡_ {A = ℕ} 0 1 = cc in absurd (omega arith)
+west-some Number t n e = absurd (Option·none-ne-some n e)
 west-some Word t n e = let q : 3600 * hoursWest t ≡ n = cc in omega (arith, hours-most t)
-west-some Plus t n e = let z : _≡_ {A = ℕ} 0 1 = cc in absurd (omega arith)
+west-some Plus t n e = absurd (Option·none-ne-some n e)
 west-some Minus t n e = offset-some (drop 1 t) n e
-west-some Mark t n e = let z : _≡_ {A = ℕ} 0 1 = cc in absurd (omega arith)
+west-some Mark t n e = absurd (Option·none-ne-some n e)
+
+not-missing : (n : ℕ) (v : List ℕ) → missing ≡ got n v → ⊥
+not-missing n v e = let z : _≡_ {A = ℕ} 0 1 = cc in omega arith
 
 read-some : (o : Option ℕ) (rest v : List ℕ) (n : ℕ) → readOf o rest ≡ got n v → o ≡ some n
 unfolding readOf
@@ -120,8 +154,8 @@ next-some what u v n P e h = go (firstToken u) refl
   where
     go : (w : Token) → firstToken u ≡ w → P
     go (token t rest) p = h t (read-some (meant what t) rest v n (rw (next, p) at e))
-    go end p = let z : _≡_ {A = ℕ} 0 1 = cc (rw (next, p) at e) in absurd (omega arith)
-    go unreadable p = let z : _≡_ {A = ℕ} 0 1 = cc (rw (next, p) at e) in absurd (omega arith)
+    go end p = absurd (not-missing n v (rw (next, p) at e))
+    go unreadable p = absurd (not-missing n v (rw (next, p) at e))
 
 optional-most : (opening : Place) (most : ℕ) (u v : List ℕ) (n : ℕ) → optional opening (UpTo most) u ≡ got n v → n ≤ most
 unfolding optional meant
@@ -137,7 +171,7 @@ then-some :
     → ((m : ℕ) (rest : List ℕ) → u ≡ got m rest → f m rest ≡ got n v → P) → P
 unfolding andThen
 then-some (got m rest) f v n P e h = h m rest refl e
-then-some missing f v n P e h = let z : _≡_ {A = ℕ} 0 1 = cc in absurd (omega arith)
+then-some missing f v n P e h = absurd (not-missing n v e)
 
 module _ (u v : List ℕ) (n : ℕ) where
   upto-most : (most : ℕ) → next (UpTo most) u ≡ got n v → n ≤ most
@@ -152,11 +186,11 @@ module _ (u v : List ℕ) (n : ℕ) where
   unfolding meant
   year-in e = next-some Year u v n ((1900 ≤ n) × (n ≤ 9999)) e (λ t p. year-some t n p)
 
-  west-in : next West u ≡ got n v → n ≤ 360000
+  west-in : next West u ≡ got n v → n ≤ 360_000
   unfolding meant
-  west-in e = next-some West u v n (n ≤ 360000) e (λ t p. west-some (kindOf t) t n p)
+  west-in e = next-some West u v n (n ≤ 360_000) e (λ t p. west-some (opensWith t) t n p)
 
-exists-in : (year month day n : ℕ) → year ≤ 9999 → month ≤ 12 → existing year month day ≡ some n → n ≤ 3000000
+exists-in : (year month day n : ℕ) → year ≤ 9999 → month ≤ 12 → existing year month day ≡ some n → n ≤ 3_000_000
 unfolding existing
 exists-in year month day n hy hm e =
     let p : dayCount year month day ≡ n = cc (only-if-some (leb 1 day && leb day (monthLength year month)) _ n e) in
@@ -165,32 +199,32 @@ exists-in year month day n hy hm e =
     rw (← p) (day-bound year month day hy hm (omega (arith, monthLength-small year month)))
 
 module _ (u v : List ℕ) (n : ℕ) where
-  days-in : calendarDay u ≡ got n v → n ≤ 3000000
+  days-in : calendarDay u ≡ got n v → n ≤ 3_000_000
   unfolding calendarDay
   days-in e =
-      then-some (next Day u) _ v n (n ≤ 3000000) e
-      (λ day a pd ed. then-some (next Month a) _ v n (n ≤ 3000000) ed
-      (λ month b pm em. then-some (next Year b) _ v n (n ≤ 3000000) em
+      then-some (next Day u) _ v n (n ≤ 3_000_000) e
+      (λ day a pd ed. then-some (next Month a) _ v n (n ≤ 3_000_000) ed
+      (λ month b pm em. then-some (next Year b) _ v n (n ≤ 3_000_000) em
       (λ year c py ey.
       exists-in year month day n (year-in b c year py .1) (month-in a b month pm .1) (read-some (existing year month day) c v n ey))))
 
-  time-in : timeOfDay u ≡ got n v → n ≤ 86400
+  time-in : timeOfDay u ≡ got n v → n ≤ 86_400
   unfolding timeOfDay
   time-in e =
-      then-some (next (UpTo 23) u) _ v n (n ≤ 86400) e
-      (λ hours a ph eh. then-some (next Colon a) _ v n (n ≤ 86400) eh
-      (λ _ b pc ec. then-some (next (UpTo 59) b) _ v n (n ≤ 86400) ec
-      (λ minutes c pm em. then-some (optional Colon (UpTo 60) c) _ v n (n ≤ 86400) em
+      then-some (next (UpTo 23) u) _ v n (n ≤ 86_400) e
+      (λ hours a ph eh. then-some (next Colon a) _ v n (n ≤ 86_400) eh
+      (λ _ b pc ec. then-some (next (UpTo 59) b) _ v n (n ≤ 86_400) ec
+      (λ minutes c pm em. then-some (optional Colon (UpTo 60) c) _ v n (n ≤ 86_400) em
       (λ seconds d ps es.
       let q : 3600 * hours + 60 * minutes + seconds ≡ n = cc in
       omega (arith, upto-most u a hours 23 ph, upto-most b c minutes 59 pm, optional-most Colon 60 c d seconds ps)))))
 
 module _ (u v : List ℕ) (n : ℕ) where
-  local-in : localTime u ≡ got n v → n ≤ 300000000000
+  local-in : localTime u ≡ got n v → n ≤ 300_000_000_000
   unfolding localTime
   local-in e =
-      then-some (calendarDay u) _ v n (n ≤ 300000000000) e
-      (λ days a pd ed. then-some (timeOfDay a) _ v n (n ≤ 300000000000) ed
+      then-some (calendarDay u) _ v n (n ≤ 300_000_000_000) e
+      (λ days a pd ed. then-some (timeOfDay a) _ v n (n ≤ 300_000_000_000) ed
       (λ seconds b ps es.
       let q : 86400 * days + seconds ≡ n = cc in
       omega (arith, days-in u a days pd, time-in a b seconds ps)))
@@ -217,16 +251,16 @@ module _ (s u : List ℕ) (g : Part) (n to : ℕ) (q : g ≡ Got n to) where
     pub range-last-year : n ≤ 9999
     range-last-year = year-in u (drop to s) n (read-got s g _ e n to q) .1
 
-  pub range-days : readIn s g ≡ calendarDay u → n ≤ 3000000
+  pub range-days : readIn s g ≡ calendarDay u → n ≤ 3_000_000
   range-days e = days-in u (drop to s) n (read-got s g _ e n to q)
 
-  pub range-time : readIn s g ≡ timeOfDay u → n ≤ 86400
+  pub range-time : readIn s g ≡ timeOfDay u → n ≤ 86_400
   range-time e = time-in u (drop to s) n (read-got s g _ e n to q)
 
-  pub range-local : readIn s g ≡ localTime u → n ≤ 300000000000
+  pub range-local : readIn s g ≡ localTime u → n ≤ 300_000_000_000
   range-local e = local-in u (drop to s) n (read-got s g _ e n to q)
 
-  pub range-west : (local : ℕ) → local ≤ 300000000000 → readIn s g ≡ next West u → Fits w64 (local + n)
+  pub range-west : (local : ℕ) → local ≤ 300_000_000_000 → readIn s g ≡ next West u → Fits w64 (local + n)
   range-west local h e = record { fits = omega (arith, west-in u (drop to s) n (read-got s g _ e n to q)) }
 
 pub ruleset ranges =

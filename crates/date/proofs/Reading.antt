@@ -1,21 +1,16 @@
 -- From tokens to the parts of a date.
 --     read-got, read-missing        an answer of the code, and what the definition reads
+--     first-.., inside-..           what an answer of `token` says
 --     next-..                       the token at a place
 --     optional-..                   a part that may be missing
 --     then-got, then-missing        one part after the other
---     range-..                      how large a number can be, by its place, so that no sum wraps
 -- Assumes nothing.
-use Prim.Native.Nat.{ℕ, _+_, _-_, _*_, _/_, _%_, _≤_, _<_}
-use mathlib.Core.Path.{_≡_, refl, sym, ap, _∙_}
-use mathlib.Core.Bool.{Bool, true, false, _&&_}
-use mathlib.Core.List.{List, [], _∷_}
-use mathlib.Core.Option.{Option, some, none}
-use native.Mathlib.Omega.{arith}
+use Prim.Native.Nat.{ℕ, _-_, _≤_}
+use mathlib.Core.Path.{_≡_, sym, _∙_}
+use mathlib.Core.List.{List}
 use borrow.Author.Needs.{needs}
-use borrow.Author.Tests.{leb-true}
-use lib.Dec.{leb, eqb}
-use lib.ListN.{length, getD, take, drop}
-use Rattle.date.specs.Date.{Token, token, end, unreadable, firstToken, meant, Read, got, missing, readOf, andThen, next, optional}
+use lib.ListN.{length, take, drop}
+use Rattle.date.specs.Date.{token, end, unreadable, firstToken, meant, Read, got, missing, readOf, andThen, next, optional}
 use Rattle.date.specs.Answers.{meaning, tokenIn, Inside, readIn}
 use Rattle.date.specs.declared.token.Found.{Found}
 use Rattle.date.specs.declared.token.Found.the-variants.{Between, End, Unreadable}

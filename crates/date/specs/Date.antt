@@ -11,7 +11,7 @@ use Prim.Native.Nat.{ℕ, _+_, _-_, _*_, _/_, _%_, min}
 use mathlib.Core.Bool.{Bool, true, false, _&&_}
 use mathlib.Core.List.{List, [], _∷_}
 use mathlib.Core.Option.{Option, some, none, bind}
-use lib.Dec.{leb, ltb, eqb}
+use lib.Dec.{leb, eqb}
 use lib.ListN.{length, getD, take, drop}
 use Rattle.octets.specs.Octets.{ascii, octet, sameOctets, sameName}
 use Rattle.tokens.specs.Tokens.{skipped, belongs, runLength}
@@ -27,12 +27,12 @@ use Rattle.date.specs.declared.meaning.Place.the-variants.{DayName, Comm
 unfoldable pub openingOf : ℕ → Opening
 openingOf x =
     elim (belongs Digit x) [
-      true ↦ Number
-    | false ↦ elim (belongs Letter x) [
-        true ↦ Word
-      | false ↦ elim (eqb x (octet "+")) [
-          true ↦ Plus
-        | false ↦ elim (eqb x (octet "-")) [ true ↦ Minus | false ↦ Mark ]
+      | true ↦ Number
+      | false ↦ elim (belongs Letter x) [
+        | true ↦ Word
+        | false ↦ elim (eqb x (octet "+")) [
+          | true ↦ Plus
+          | false ↦ elim (eqb x (octet "-")) [ true ↦ Minus | false ↦ Mark ]
         ]
       ]
     ]
@@ -76,7 +76,8 @@ valueFrom n (x ∷ s) = bind (digitOf x) (λ d. valueFrom (10 * n + d) s)
 unfoldable pub numberOf : List ℕ → Option ℕ
 numberOf t = onlyIf (leb (length t) 4) (valueFrom 0 t)
 
--- "Day and month names have three letters; names and zones are in any case."
+-- "Day and month names have three letters; names and zones are in any case." A table has one name after the other.
+-- "The day name must be one of seven, its truth isn't tested."
 abbrev pub dayNames : List ℕ
 dayNames = ascii "MonTueWedThuFriSatSun"
 
@@ -90,6 +91,7 @@ zoneNames = ascii "ESTEDTCSTCDTMSTMDTPSTPDT"
 abbrev pub zoneHours : List ℕ
 zoneHours = 5 ∷ 4 ∷ 6 ∷ 5 ∷ 7 ∷ 6 ∷ 8 ∷ 7 ∷ []
 
+-- k here, or the place found later
 unfoldable pub hereOr : Bool → ℕ → Option ℕ → Option ℕ
 hereOr true k later = some k
 hereOr false k later = later
@@ -104,7 +106,7 @@ placeFrom k t (a ∷ b ∷ c ∷ names) = hereOr (sameName t (a ∷ b ∷ c ∷ 
 abbrev pub placeIn : List ℕ → List ℕ → Option ℕ
 placeIn t names = placeFrom 0 t names
 
--- a mark means nothing but itself
+-- a comma or a colon stands for nothing
 unfoldable pub markOf : List ℕ → List ℕ → Option ℕ
 markOf t mark = onlyIf (sameOctets t mark) (some 0)
 
@@ -120,8 +122,8 @@ monthOf t = bind (placeIn t monthNames) (λ k. some (k + 1))
 unfoldable pub yearBy : ℕ → ℕ → Option ℕ
 yearBy width n =
     elim (eqb width 2) [
-      true ↦ elim (leb n 49) [ true ↦ some (n + 2000) | false ↦ some (n + 1900) ]
-    | false ↦ elim (eqb width 3) [ true ↦ some (n + 1900) | false ↦ onlyIf (eqb width 4 && leb 1900 n) (some n) ]
+      | true ↦ elim (leb n 49) [ true ↦ some (n + 2000) | false ↦ some (n + 1900) ]
+      | false ↦ elim (eqb width 3) [ true ↦ some (n + 1900) | false ↦ onlyIf (eqb width 4 && leb 1900 n) (some n) ]
     ]
 
 unfoldable pub yearOf : List ℕ → Option ℕ
@@ -142,6 +144,9 @@ offsetOf t = onlyIf (eqb (length t) 4) (bind (numberOf t) (λ n. offsetBy n))
 unfoldable pub hoursWest : List ℕ → ℕ
 hoursWest t = elim (placeIn t zoneNames) [ none ↦ 0 | some k ↦ getD zoneHours k 0 ]
 
+abbrev pub opensWith : List ℕ → Opening
+opensWith t = openingOf (getD t 0 0)
+
 -- how many seconds a zone t lies east, by what it opens with
 unfoldable pub eastBy : Opening → List ℕ → Option ℕ
 eastBy Number t = none
@@ -150,16 +155,13 @@ eastBy Plus t = offsetOf (drop 1 t)
 eastBy Minus t = none
 eastBy Mark t = none
 
--- how many seconds a zone t lies west
+-- how many seconds it lies west
 unfoldable pub westBy : Opening → List ℕ → Option ℕ
 westBy Number t = none
 westBy Word t = some (3600 * hoursWest t)
 westBy Plus t = none
 westBy Minus t = offsetOf (drop 1 t)
 westBy Mark t = none
-
-abbrev pub kindOf : List ℕ → Opening
-kindOf t = openingOf (getD t 0 0)
 
 -- what a token means at a place of a date; none: it may not stand there
 unfoldable pub meant : Place → List ℕ → Option ℕ
@@ -170,8 +172,8 @@ meant Month t = monthOf t
 meant Year t = yearOf t
 meant (UpTo most) t = twoDigits most t
 meant Colon t = markOf t (ascii ":")
-meant East t = eastBy (kindOf t) t
-meant West t = westBy (kindOf t) t
+meant East t = eastBy (opensWith t) t
+meant West t = westBy (opensWith t) t
 
 -- a number, and the octets that are left; or what was looked for is missing
 pub data Read : Type 0 where
@@ -182,6 +184,7 @@ unfoldable pub readOf : Option ℕ → List ℕ → Read
 readOf none rest = missing
 readOf (some n) rest = got n rest
 
+-- one part, and then the part that f reads behind it
 unfoldable pub andThen : Read → (ℕ → List ℕ → Read) → Read
 andThen (got n rest) f = f n rest
 andThen missing f = missing
@@ -225,19 +228,20 @@ localTime s = andThen (calendarDay s) (λ days a. andThen (timeOfDay a) (λ seco
 unfoldable pub zoned : ℕ → List ℕ → Read
 zoned local s =
     elim (next East s) [
-      got offset rest ↦ got (local - offset) rest
-    | missing ↦ andThen (next West s) (λ offset rest. got (local + offset) rest)
+      | got offset rest ↦ got (local - offset) rest
+      | missing ↦ andThen (next West s) (λ offset rest. got (local + offset) rest)
     ]
 
--- the seconds from 1900 to 1970
+-- the seconds from 1 January 1900 to 1 January 1970
 abbrev pub epoch : ℕ
 epoch = 86400 * dayCount 1970 1 1
 
--- "Instants before 1970 count as 0." Nothing may stand behind the zone.
+-- Nothing may stand behind the zone. "Instants before 1970 count as 0."
 unfoldable pub ended : Read → Option ℕ
 ended missing = none
 ended (got n s) = elim (firstToken s) [ token t rest ↦ none | end ↦ some (n - epoch) | unreadable ↦ none ]
 
+-- `[day-name,] day month year hh:mm[:ss] zone`
 unfoldable pub dateOf : List ℕ → Option ℕ
 dateOf s = ended (andThen (optional DayName Comma s) (λ _ a. andThen (localTime a) (λ local b. zoned local b)))
 

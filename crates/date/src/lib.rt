@@ -4,9 +4,9 @@ pub mod calendar; // leap years, months and the count of days
 pub mod meaning; // what a token means at each place of a date
 pub mod token; // the tokens of a date
 
-use meaning::{Meaning, Place};
+use meaning::Meaning;
+use meaning::Place;
 use token::Found;
-
 ghost use Prim.Native.Nat.{_+_, _-_, _*_, _≤_};
 ghost use mathlib.Core.Path.{_≡_};
 ghost use lib.ListN.{drop};
@@ -14,7 +14,7 @@ ghost use Rattle.date.specs.Date.{next as nextOf, optional as optionalOf
 ghost use Rattle.date.specs.Answers.{datedOf, optionOf, meaning as meaningOf, readIn};
 
 // The seconds from 1900 to 1970.
-const EPOCH: u64 = 2208988800;
+const EPOCH: u64 = 2_208_988_800;
 
 // A number, and the place behind what was read; or what was looked for is missing.
 pub enum Part {
@@ -86,6 +86,7 @@ fn calendar_day(s: &[u8], at: usize) -> Part
     }
 }
 
+// The seconds since midnight; 86,400 of them where the second is 60.
 fn clock(hours: u64, minutes: u64, seconds: u64) -> u64
     requires { ⌜ (hours ≤ 23) × (minutes ≤ 59) × (seconds ≤ 60) ⌝ }
     ensures { λ r. ⌜ r ≡ 3600 * hours + 60 * minutes + seconds ⌝ }
@@ -115,8 +116,9 @@ fn time_of_day(s: &[u8], at: usize) -> Part
     }
 }
 
+// The seconds since 1900. No day that can be written lies 3,000,000 days after 1900.
 fn seconds_of(days: u64, seconds: u64) -> u64
-    requires { ⌜ (days ≤ 3000000) × (seconds ≤ 86400) ⌝ }
+    requires { ⌜ (days ≤ 3_000_000) × (seconds ≤ 86_400) ⌝ }
     ensures { λ r. ⌜ r ≡ 86400 * days + seconds ⌝ }
 {
     86400 * days + seconds
@@ -145,9 +147,9 @@ fn above(a: u64, b: u64) -> u64
     if a < b { 0 } else { a - b }
 }
 
-// The zone: the seconds since 1900 at Greenwich.
+// The zone: the seconds since 1900 at Greenwich. "An east offset is subtracted, a west one added."
 fn zoned(s: &[u8], at: usize, local: u64) -> Part
-    requires { ⌜ local ≤ 300000000000 ⌝ }
+    requires { ⌜ local ≤ 300_000_000_000 ⌝ }
     ensures { λ r. ⌜ readIn (now (s .entry)) r ≡ zonedOf local (drop at (now (s .entry))) ⌝ }
 {
     match next(s, at, Place::East) {

@@ -1,13 +1,13 @@
 // What a token means at each place of a date: numbers of few digits, names of three letters, marks and zones.
-use crate::token::Opening;
 use crate::token;
+use crate::token::Opening;
 use tokens::Class;
-
 ghost use Prim.Native.Nat.{_≤_, _<_};
 ghost use mathlib.Core.Path.{_≡_};
-ghost use Rattle.date.specs.Date.{digitOf, numberOf, placeIn, markOf, dayOf, monthOf, yearBy, yearOf, twoDigits, offsetBy, offsetOf, hoursWest, kindOf, eastBy, westBy, meant as meantOf};
+ghost use Rattle.date.specs.Date.{digitOf, numberOf, placeIn, markOf, dayOf, monthOf, yearBy, yearOf, twoDigits, offsetBy, offsetOf, hoursWest, opensWith, eastBy, westBy, meant as meantOf};
 ghost use Rattle.date.specs.Answers.{meaning as meaningOf};
 
+// The hours that the zones lie west, in the order of their names below.
 const ZONE_HOURS: [u64; 8] = [5, 4, 6, 5, 7, 6, 8, 7];
 
 // The places of a date. `UpTo` is a place of two digits, which stand for so much at most.
@@ -35,6 +35,7 @@ fn wide(x: u8) -> u64
     x as u64
 }
 
+// The number that one digit stands for.
 fn digit(x: u8) -> Meaning
     ensures { λ r. ⌜ r ≡ meaningOf (digitOf x) ⌝ }
 {
@@ -81,6 +82,7 @@ fn which(run: &[u8], names: &[u8]) -> Meaning
     Meaning::Nothing
 }
 
+// A comma or a colon, which stands for nothing.
 fn mark(run: &[u8], text: &[u8]) -> Meaning
     ensures { λ r. ⌜ r ≡ meaningOf (markOf (now (run .entry)) (now (text .entry))) ⌝ }
 {
@@ -90,6 +92,7 @@ fn mark(run: &[u8], text: &[u8]) -> Meaning
     Meaning::Nothing
 }
 
+// "Day has 1 or 2 digits"
 fn day(run: &[u8]) -> Meaning
     ensures { λ r. ⌜ r ≡ meaningOf (dayOf (now (run .entry))) ⌝ }
 {
@@ -99,6 +102,7 @@ fn day(run: &[u8]) -> Meaning
     number(run)
 }
 
+// The month, January being 1.
 fn month(run: &[u8]) -> Meaning
     ensures { λ r. ⌜ r ≡ meaningOf (monthOf (now (run .entry))) ⌝ }
 {
@@ -131,6 +135,7 @@ fn year_by(width: usize, n: u64) -> Meaning
     Meaning::Value(n)
 }
 
+// The year, of two, three or four digits.
 fn year(run: &[u8]) -> Meaning
     ensures { λ r. ⌜ r ≡ meaningOf (yearOf (now (run .entry))) ⌝ }
 {
@@ -170,6 +175,7 @@ fn offset_by(n: u64) -> Meaning
     Meaning::Value(3600 * (n / 100) + 60 * minutes)
 }
 
+// "sign and four digits": the digits behind the sign.
 fn offset(run: &[u8]) -> Meaning
     ensures { λ r. ⌜ r ≡ meaningOf (offsetOf (now (run .entry))) ⌝ }
 {
@@ -197,7 +203,7 @@ fn hours_west(run: &[u8]) -> u64
 
 // The seconds that a zone lies east.
 fn east(run: &[u8]) -> Meaning
-    ensures { λ r. ⌜ r ≡ meaningOf (eastBy (kindOf (now (run .entry))) (now (run .entry))) ⌝ }
+    ensures { λ r. ⌜ r ≡ meaningOf (eastBy (opensWith (now (run .entry))) (now (run .entry))) ⌝ }
 {
     if run.len() == 0 {
         return Meaning::Nothing;
@@ -213,7 +219,7 @@ fn east(run: &[u8]) -> Meaning
 
 // The seconds that a zone lies west.
 fn west(run: &[u8]) -> Meaning
-    ensures { λ r. ⌜ r ≡ meaningOf (westBy (kindOf (now (run .entry))) (now (run .entry))) ⌝ }
+    ensures { λ r. ⌜ r ≡ meaningOf (westBy (opensWith (now (run .entry))) (now (run .entry))) ⌝ }
 {
     if run.len() == 0 {
         return Meaning::Nothing;
@@ -227,6 +233,7 @@ fn west(run: &[u8]) -> Meaning
     }
 }
 
+// What the token means at a place of a date.
 pub fn meant(at: Place, run: &[u8]) -> Meaning
     ensures { λ r. ⌜ r ≡ meaningOf (meantOf at (now (run .entry))) ⌝ }
 {

@@ -1,7 +1,7 @@
 // The tokens of a date: "whole runs of digits or letters, a sign with its digits, comma and colon", with spaces, tabs
 // and comments between them. A long run costs its length.
-use tokens::{Class, Reached};
-
+use tokens::Class;
+use tokens::Reached;
 ghost use Prim.Native.Nat.{_+_, _<_};
 ghost use mathlib.Core.Path.{_≡_};
 ghost use lib.ListN.{length, getD, drop};
@@ -24,6 +24,7 @@ pub enum Found {
     Unreadable,
 }
 
+// What the octet opens. Any that opens no token of a date counts as a mark.
 pub fn opened_by(x: u8) -> Opening
     ensures { λ r. ⌜ r ≡ openingOf x ⌝ }
 {

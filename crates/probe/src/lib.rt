@@ -146,6 +146,24 @@ pub extern "C" fn probe_run_end(s: &[u8], at: usize, class: u8) -> usize {
     }
 }
 
+// kind 0: seconds since 1970; 1: unavailable
+#[no_mangle]
+pub extern "C" fn probe_date(value: &[u8]) -> Answer {
+    match date::date(value) {
+        date::Dated::Available(n) => Answer { kind: 0, value: n },
+        date::Dated::Unavailable => Answer { kind: 1, value: 0 },
+    }
+}
+
+#[no_mangle]
+pub extern "C" fn probe_effective_date(available: bool, seconds: u64, receipt: u64) -> u64 {
+    if available {
+        date::effective_date(date::Dated::Available(seconds), receipt)
+    } else {
+        date::effective_date(date::Dated::Unavailable, receipt)
+    }
+}
+
 #[repr(C)]
 pub struct FieldPlaces {
     pub kind: u64,
@@ -231,4 +249,104 @@ pub extern "C" fn probe_canonical(s: &[u8], out: &mut [u8]) -> Answer {
         },
         address::Written::NoRoom => Answer { kind: 2, value: 0 },
     }
+}
+
+// A cursor in a list and what was handed out before it. kind 0: an address; 1: the list is unreadable; 2: its end
+#[repr(C)]
+pub struct ListPlaces {
+    pub kind: u64,
+    pub from: u64,
+    pub to: u64,
+    pub at: usize,
+    pub stage: u64,
+    pub inside: bool,
+}
+
+fn stage_of(n: u64) -> list::grammar::Stage {
+    match n {
+        0 => list::grammar::Stage::Place,
+        1 => list::grammar::Stage::Opened,
+        2 => list::grammar::Stage::Phrase,
+        3 => list::grammar::Stage::Angle,
+        4 => list::grammar::Stage::Closing,
+        _ => list::grammar::Stage::Behind,
+    }
+}
+
+fn stage_number(stage: list::grammar::Stage) -> u64 {
+    match stage {
+        list::grammar::Stage::Place => 0,
+        list::grammar::Stage::Opened => 1,
+        list::grammar::Stage::Phrase => 2,
+        list::grammar::Stage::Angle => 3,
+        list::grammar::Stage::Closing => 4,
+        list::grammar::Stage::Behind => 5,
+    }
+}
+
+fn handed_none(kind: u64) -> ListPlaces {
+    ListPlaces {
+        kind,
+        from: 0,
+        to: 0,
+        at: 0,
+        stage: 0,
+        inside: false,
+    }
+}
+
+#[no_mangle]
+pub extern "C" fn probe_next_address(s: &[u8], at: usize, stage: u64, inside: bool) -> ListPlaces {
+    let cursor = list::Cursor {
+        at,
+        stage: stage_of(stage),
+        inside,
+    };
+    match list::next_address(s, cursor) {
+        list::Handed::Address { from, to, next } => {
+            let stage = next.stage;
+            ListPlaces {
+                kind: 0,
+                from: from as u64,
+                to: to as u64,
+                at: next.at,
+                stage: stage_number(stage),
+                inside: next.inside,
+            }
+        }
+        list::Handed::Unreadable => handed_none(1),
+        list::Handed::End => handed_none(2),
+    }
+}
+
+// kind 0: so many addresses; 1: unreadable
+#[no_mangle]
+pub extern "C" fn probe_count(s: &[u8]) -> Answer {
+    match list::count(s) {
+        list::Counted::Count(n) => Answer {
+            kind: 0,
+            value: n as u64,
+        },
+        list::Counted::Unreadable => Answer { kind: 1, value: 0 },
+    }
+}
+
+#[no_mangle]
+pub extern "C" fn probe_only(s: &[u8]) -> ListPlaces {
+    match list::only_address(s) {
+        list::Only::One { from, to } => ListPlaces {
+            kind: 0,
+            from: from as u64,
+            to: to as u64,
+            at: 0,
+            stage: 0,
+            inside: false,
+        },
+        list::Only::Other => handed_none(1),
+    }
+}
+
+#[no_mangle]
+pub extern "C" fn probe_holds(s: &[u8], wanted: &[u8]) -> bool {
+    list::holds(s, wanted)
 }

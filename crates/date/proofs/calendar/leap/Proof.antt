@@ -1,14 +1,11 @@
+-- `date::calendar::leap` meets its contract: each test is the definition's. The laws of `Counting` answer every need. Assumes nothing.
+use Rattle.date.proofs.Counting.{calendar}
 use Rattle.date.proofs.calendar.leap.Statement.{statement}
 use Rattle.date.proofs.calendar.leap.Tie as tie
-use Rattle.date.proofs.calendar.leap.Reads as reads
-use Rattle.date.proofs.calendar.leap.Lts as lts
-use Rattle.date.proofs.Counting.{calendar}
 
--- src/calendar.rt:14:9
 returns : tie.Need-returns
 returns c = search calendar
 
--- src/calendar.rt:10:1
 returns-2 : tie.Need-returns-2
 returns-2 c = search calendar
 

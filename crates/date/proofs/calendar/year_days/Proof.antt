@@ -1,12 +1,9 @@
+-- `date::calendar::year_days` meets its contract: the laws of `Counting` keep the walk's invariant and answer every need. Assumes nothing.
 use Prim.Native.Nat.{_-_}
 use Rattle.date.specs.Calendar.{yearDays}
-use Rattle.date.proofs.Counting.{Walked}
+use Rattle.date.proofs.Counting.{Walked, walking}
 use Rattle.date.proofs.calendar.year_days.Statement.{statement}
 use Rattle.date.proofs.calendar.year_days.Tie as tie
-use Rattle.date.proofs.calendar.year_days.Reads as reads
-use Rattle.date.proofs.calendar.year_days.Lts as lts
-use Rattle.date.proofs.calendar.leap_day.Reads as leap-day-reads
-use Rattle.date.proofs.Counting.{walking}
 
 abbrev Inv-loop : tie.InvT-loop
 Inv-loop years days₀ k₀ days k = Walked yearDays 366 years days k
@@ -14,39 +11,30 @@ Inv-loop years days₀ k₀ days k = Walked yearDays 366 years days k
 abbrev μ-loop : tie.MeasureT-loop
 μ-loop years days₀ k₀ days k = years - k
 
--- src/calendar.rt:44:5
 loop-holds : tie.Need-loop-holds Inv-loop μ-loop
 loop-holds c = search walking
 
--- src/calendar.rt:45:32
 add-leap-day : tie.Need-add-leap-day Inv-loop μ-loop
 add-leap-day c = search walking
 
--- src/calendar.rt:45:23
 leap-day-requires : tie.Need-leap-day-requires Inv-loop μ-loop
 leap-day-requires c κs = search walking
 
--- src/calendar.rt:45:17
 add-days : tie.Need-add-days Inv-loop μ-loop
 add-days c = search walking
 
--- src/calendar.rt:45:9
 add-days-2 : tie.Need-add-days-2 Inv-loop μ-loop
 add-days-2 c = search walking
 
--- src/calendar.rt:46:9
 add-k : tie.Need-add-k Inv-loop μ-loop
 add-k c = search walking
 
--- src/calendar.rt:44:5
 loop-less : tie.Need-loop-less Inv-loop μ-loop
 loop-less c = search walking
 
--- src/calendar.rt:44:5
 loop-again : tie.Need-loop-again Inv-loop μ-loop
 loop-again c = search walking
 
--- src/calendar.rt:38:1
 returns : tie.Need-returns Inv-loop μ-loop
 returns c = search walking
 

@@ -1,42 +1,32 @@
+-- `date::meaning::year_by` meets its contract: the laws of `Meant` answer every need, by the tests and by what is called. Assumes nothing.
+use Rattle.date.proofs.Meant.{years}
 use Rattle.date.proofs.meaning.year_by.Statement.{statement}
 use Rattle.date.proofs.meaning.year_by.Tie as tie
-use Rattle.date.proofs.meaning.year_by.Reads as reads
-use Rattle.date.proofs.meaning.year_by.Lts as lts
-use Rattle.date.proofs.Meant.{years}
 
--- src/meaning.rt:118:35
 add-t5 : tie.Need-add-t5
 add-t5 c = search years
 
--- src/meaning.rt:118:13
 returns : tie.Need-returns
 returns c = search years
 
--- src/meaning.rt:120:31
 add-t6 : tie.Need-add-t6
 add-t6 c = search years
 
--- src/meaning.rt:120:9
 returns-2 : tie.Need-returns-2
 returns-2 c = search years
 
--- src/meaning.rt:123:31
 add-t7 : tie.Need-add-t7
 add-t7 c = search years
 
--- src/meaning.rt:123:9
 returns-3 : tie.Need-returns-3
 returns-3 c = search years
 
--- src/meaning.rt:126:9
 returns-4 : tie.Need-returns-4
 returns-4 c = search years
 
--- src/meaning.rt:129:9
 returns-5 : tie.Need-returns-5
 returns-5 c = search years
 
--- src/meaning.rt:112:1
 returns-6 : tie.Need-returns-6
 returns-6 c = search years
 

@@ -1,92 +1,68 @@
+-- `date::token::token_end` meets its contract: the run behind the first octet goes by what that octet opens. The laws of `Opened` answer every need. Assumes nothing.
+use Rattle.date.proofs.Opened.{ending}
 use Rattle.date.proofs.token.token_end.Statement.{statement}
 use Rattle.date.proofs.token.token_end.Tie as tie
-use Rattle.date.proofs.token.token_end.Reads as reads
-use Rattle.date.proofs.token.token_end.Lts as lts
-use Rattle.date.proofs.token.opened_by.Reads as opened-by-reads
-use Rattle.tokens.proofs.run_end.Reads as run-end-reads
-use Rattle.date.proofs.Opened.{ending}
 
--- src/token.rt:50:21
 shared-slice-read-opened-by : tie.Need-shared-slice-read-opened-by
 shared-slice-read-opened-by c = search ending
 
--- src/token.rt:50:11
 opened-by-requires : tie.Need-opened-by-requires
 opened-by-requires c κs = search ending
 
--- src/token.rt:51:47
 enum-told : tie.Need-enum-told
 enum-told c = search ending
 
--- src/token.rt:51:47
 add-run-end : tie.Need-add-run-end
 add-run-end c = search ending
 
--- src/token.rt:51:28
 run-end-requires : tie.Need-run-end-requires
 run-end-requires c κs = search ending
 
--- src/token.rt:52:45
 enum-told-2 : tie.Need-enum-told-2
 enum-told-2 c = search ending
 
--- src/token.rt:52:45
 add-run-end-2 : tie.Need-add-run-end-2
 add-run-end-2 c = search ending
 
--- src/token.rt:52:26
 run-end-requires-2 : tie.Need-run-end-requires-2
 run-end-requires-2 c κs = search ending
 
--- src/token.rt:53:45
 enum-told-3 : tie.Need-enum-told-3
 enum-told-3 c = search ending
 
--- src/token.rt:53:45
 add-run-end-3 : tie.Need-add-run-end-3
 add-run-end-3 c = search ending
 
--- src/token.rt:53:26
 run-end-requires-3 : tie.Need-run-end-requires-3
 run-end-requires-3 c κs = search ending
 
--- src/token.rt:54:46
 enum-told-4 : tie.Need-enum-told-4
 enum-told-4 c = search ending
 
--- src/token.rt:54:46
 add-run-end-4 : tie.Need-add-run-end-4
 add-run-end-4 c = search ending
 
--- src/token.rt:54:27
 run-end-requires-4 : tie.Need-run-end-requires-4
 run-end-requires-4 c κs = search ending
 
--- src/token.rt:55:26
 enum-told-5 : tie.Need-enum-told-5
 enum-told-5 c = search ending
 
--- src/token.rt:55:26
 add-result : tie.Need-add-result
 add-result c = search ending
 
--- src/token.rt:46:1
 returns : tie.Need-returns
 returns c = search ending
 
--- src/token.rt:46:1
 returns-2 : tie.Need-returns-2
 returns-2 c = search ending
 
--- src/token.rt:46:1
 returns-3 : tie.Need-returns-3
 returns-3 c = search ending
 
--- src/token.rt:46:1
 returns-4 : tie.Need-returns-4
 returns-4 c = search ending
 
--- src/token.rt:46:1
 returns-5 : tie.Need-returns-5
 returns-5 c = search ending
 
