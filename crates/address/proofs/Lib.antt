@@ -1,0 +1,12 @@
+pub mod Every
+pub mod Pieces
+pub mod Running
+pub mod Joined
+pub mod Atoms
+pub mod Labels
+pub mod Plain
+pub mod Sides
+pub mod Room
+pub mod Forms
+pub mod Spelling
+pub mod Worked

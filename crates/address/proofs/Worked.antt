@@ -1,0 +1,101 @@
+-- Worked examples, by computing the definitions: a table of plain addresses, one of texts that are none, and some canonical forms.
+-- Assumes nothing.
+use Prim.Native.Nat.{ℕ}
+use mathlib.Core.Path.{_≡_, refl}
+use mathlib.Core.Bool.{true, false, not}
+use mathlib.Core.List.{List, [], _∷_, _++_}
+use lib.ListN.{length, replicate}
+use Rattle.octets.specs.Octets.{ascii, octet, lower, lowered, sameOctets}
+use Rattle.tokens.specs.Tokens.{sign, belongs}
+use Rattle.address.specs.Pieces.{every, onFirst, pieces, before, behind}
+use Rattle.address.specs.Address.{atom, localPart, labelOctet, freeEnds, label, domain, plain, canonical, isCanonical, addressOctet}
+
+-- an address with a local part of so many octets, one with a label of so many, and one with a last label of so many after 193 octets
+localPartOf : ℕ → List ℕ
+localPartOf n = replicate n (octet "a") ++ ascii "@b.example"
+
+labelOf : ℕ → List ℕ
+labelOf n = ascii "a@" ++ replicate n (octet "b")
+
+addressOf : ℕ → List ℕ
+addressOf n = replicate 64 (octet "a") ++ ascii "@" ++ replicate 63 (octet "b") ++ ascii "." ++ replicate 63 (octet "c") ++ ascii "." ++ replicate n (octet "d")
+
+plains : List (List ℕ)
+plains =
+    ascii "a@b"
+    ∷ ascii "1@2"
+    ∷ ascii "A@B.example"
+    ∷ ascii "a.b+c=d@e.f--g.example"
+    ∷ ascii "!#$%&'*+-/=?^_`{|}~@b"
+    ∷ (195 ∷ 164 ∷ ascii "@b")
+    ∷ localPartOf 1
+    ∷ localPartOf 64
+    ∷ labelOf 63
+    ∷ addressOf 61
+    ∷ []
+
+noPlains : List (List ℕ)
+noPlains =
+    []
+    ∷ ascii "a"
+    ∷ ascii "@"
+    ∷ ascii "a@"
+    ∷ ascii "@b"
+    ∷ ascii "a@b@c"
+    ∷ ascii ".a@b"
+    ∷ ascii "a.@b"
+    ∷ ascii "a..b@c"
+    ∷ ascii "a@.b"
+    ∷ ascii "a@b."
+    ∷ ascii "a@b..c"
+    ∷ ascii "a@-b"
+    ∷ ascii "a@b-"
+    ∷ ascii "a@b-.c"
+    ∷ ascii "a@b_c"
+    ∷ ascii "a@[1]"
+    ∷ ascii " a@b"
+    ∷ ascii "a@b "
+    ∷ ascii "a b@c"
+    ∷ ascii "<a@b>"
+    ∷ ascii "\"a\"@b"
+    ∷ (ascii "a@" ++ 195 ∷ 164 ∷ [])
+    ∷ localPartOf 65
+    ∷ labelOf 0
+    ∷ labelOf 64
+    ∷ addressOf 62
+    ∷ []
+
+all-plain : every plain plains ≡ true
+unfolding plains localPartOf labelOf addressOf plain localPart atom domain label labelOctet freeEnds every onFirst pieces before behind belongs sign
+all-plain = refl
+
+none-plain : every (λ s. not (plain s)) noPlains ≡ true
+unfolding noPlains localPartOf labelOf addressOf plain localPart atom domain label labelOctet freeEnds every onFirst pieces before behind belongs sign
+none-plain = refl
+
+-- 254 octets and 255
+long-254 : length (addressOf 61) ≡ 254
+unfolding addressOf
+long-254 = refl
+
+-- "A@B is written a@b"; octets of 128 and above stay as they are
+form : canonical (ascii "A@B.Example") ≡ ascii "a@b.example"
+unfolding canonical lowered lower
+form = refl
+
+form-kept : canonical (195 ∷ 132 ∷ ascii "Z-9[@B") ≡ 195 ∷ 132 ∷ ascii "z-9[@b"
+unfolding canonical lowered lower
+form-kept = refl
+
+capital : isCanonical (ascii "a@B.example") ≡ false
+unfolding isCanonical canonical lowered lower sameOctets plain localPart atom domain label labelOctet freeEnds every onFirst pieces before behind belongs sign
+capital = refl
+
+small : isCanonical (ascii "a@b.example") ≡ true
+unfolding isCanonical canonical lowered lower sameOctets plain localPart atom domain label labelOctet freeEnds every onFirst pieces before behind belongs sign
+small = refl
+
+-- what else stands in no plain address, beside all below 33: what lists and fields put between addresses
+apart : every (λ x. not (addressOctet x)) (127 ∷ ascii ",:;<>\"()[]\\") ≡ true
+unfolding every addressOctet belongs sign
+apart = refl

@@ -1,0 +1,172 @@
+// Plain addresses and their canonical form. A test of an address passes over it once, atom by atom and label by label.
+ghost use Prim.Native.Nat.{_+_};
+ghost use mathlib.Core.Path.{_≡_};
+ghost use lib.Dec.{eqb};
+ghost use lib.ListN.{length, drop};
+ghost use Rattle.octets.specs.Octets.{sameOctets, lower as lowerOf, lowered};
+ghost use Rattle.address.specs.Pieces.{run};
+ghost use Rattle.address.specs.Address.{labelOctet, domain, plain, canonical as canonicalOf, isCanonical};
+ghost use Rattle.address.specs.Answers.{localOf, labelShape, writtenOf, ontoIfFits};
+use tokens::Class;
+
+// "A plain address has at most 254 octets."
+const LONGEST: usize = 254;
+
+// "The local part is 1 to 64 octets"
+const LONGEST_LOCAL: usize = 64;
+
+// "labels .. of 1 to 63 ASCII letters, digits and hyphens"
+const LONGEST_LABEL: usize = 63;
+
+// The length of the local part that a text opens with.
+enum Local {
+    Part(usize),
+    NoPart,
+}
+
+// The length of what was written; or nothing was, since it has no room.
+pub enum Written {
+    Length(usize),
+    NoRoom,
+}
+
+// The local part that `s` opens with and an `@` follows: atoms joined by dots.
+fn local_part(s: &[u8]) -> Local
+    ensures { λ r. ⌜ r ≡ localOf (now (s .entry)) ⌝ }
+{
+    let mut i = 0;
+    while i < s.len() {
+        let end = tokens::run_end(s, i, Class::Atom);
+        if end == i {
+            return Local::NoPart;
+        }
+        if s.len() <= end {
+            return Local::NoPart;
+        }
+        if s[end] == b'@' {
+            if end <= LONGEST_LOCAL {
+                return Local::Part(end);
+            }
+            return Local::NoPart;
+        }
+        if s[end] != b'.' {
+            return Local::NoPart;
+        }
+        i = end + 1;
+    }
+    Local::NoPart
+}
+
+fn label_octet(x: u8) -> bool
+    ensures { λ r. ⌜ r ≡ labelOctet x ⌝ }
+{
+    tokens::within(Class::Letter, x) | tokens::within(Class::Digit, x) | (x == b'-')
+}
+
+// The end of the run of letters, digits and hyphens that begins at the place `at`.
+fn label_end(s: &[u8], at: usize) -> usize
+    ensures { λ r. ⌜ r ≡ at + run labelOctet (drop at (now (s .entry))) ⌝ }
+{
+    let mut i = at;
+    while i < s.len() {
+        if !label_octet(s[i]) {
+            return i;
+        }
+        i += 1;
+    }
+    i
+}
+
+// Has a run of letters, digits and hyphens the length and the ends of a label?
+fn shaped(run: &[u8]) -> bool
+    ensures { λ r. ⌜ r ≡ labelShape (now (run .entry)) ⌝ }
+{
+    let n = run.len();
+    if n == 0 {
+        return false;
+    }
+    if LONGEST_LABEL < n {
+        return false;
+    }
+    (run[0] != b'-') & (run[n - 1] != b'-')
+}
+
+// Is what stands from the place `at` on a domain: labels joined by dots?
+fn is_domain(s: &[u8], at: usize) -> bool
+    ensures { λ r. ⌜ r ≡ domain (drop at (now (s .entry))) ⌝ }
+{
+    let mut i = at;
+    while i < s.len() {
+        let end = label_end(s, i);
+        if !shaped(&s[i..end]) {
+            return false;
+        }
+        if s.len() <= end {
+            return true;
+        }
+        if s[end] != b'.' {
+            return false;
+        }
+        i = end + 1;
+    }
+    false
+}
+
+// Is it a plain address and nothing else? The length first: a long text costs nothing.
+pub fn is_plain(s: &[u8]) -> bool
+    ensures { λ r. ⌜ r ≡ plain (now (s .entry)) ⌝ }
+{
+    if LONGEST < s.len() {
+        return false;
+    }
+    match local_part(s) {
+        Local::Part(n) => is_domain(s, n + 1),
+        Local::NoPart => false,
+    }
+}
+
+fn small(x: u8) -> bool
+    ensures { λ r. ⌜ r ≡ eqb (lowerOf x) x ⌝ }
+{
+    octets::lower(x) == x
+}
+
+// Is there no ASCII capital?
+fn is_small(s: &[u8]) -> bool
+    ensures { λ r. ⌜ r ≡ sameOctets (lowered (now (s .entry))) (now (s .entry)) ⌝ }
+{
+    let mut i = 0;
+    while i < s.len() {
+        if !small(s[i]) {
+            return false;
+        }
+        i += 1;
+    }
+    true
+}
+
+// Is it a plain address that is its own canonical form?
+pub fn is_canonical(s: &[u8]) -> bool
+    ensures { λ r. ⌜ r ≡ isCanonical (now (s .entry)) ⌝ }
+{
+    if is_plain(s) { is_small(s) } else { false }
+}
+
+// Writes the canonical form to the front of `out`, where it fits.
+pub fn canonical(s: &[u8], out: &mut [u8]) -> Written
+    ensures { λ r. ⌜ r ≡ writtenOf (canonicalOf (now (s .entry))) (length (now (out .entry))) ⌝ }
+    ensures { λ _. ⌜ now (out .exit) ≡ ontoIfFits (canonicalOf (now (s .entry))) (now (out .entry)) ⌝ }
+{
+    if out.len() < s.len() {
+        return Written::NoRoom;
+    }
+    octets::put_lower(out, 0, s);
+    Written::Length(s.len())
+}
+
+// "Addresses are compared in canonical form only."
+pub fn same_address(a: &[u8], b: &[u8]) -> bool
+    ensures { λ r. ⌜ r ≡ sameOctets (canonicalOf (now (a .entry))) (canonicalOf (now (b .entry))) ⌝ }
+{
+    octets::same_name(a, b)
+}
