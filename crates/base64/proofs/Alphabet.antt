@@ -1,0 +1,187 @@
+-- The alphabet: what characters stand for, and the table that has it for each octet.
+--     below             a value is below 64
+--     is-value, is-pad, is-other    a sign by its number
+--     sign-of-letter    the sign of a value's letter is the value
+--     tabled            the table once the first values are in it, with what `signs` asks
+--     the rulesets      lettering for `letter_of`, tabling for `signs`, finding for `sign_of`
+-- Assumes nothing.
+use Prim.Native.Nat.{ℕ, zero, suc, _+_, _-_, _<_, _≤_}
+use mathlib.Core.Path.{_≡_, refl, sym, ap, _∙_, subst}
+use mathlib.Core.Logic.{_⊎_, inl, inr}
+use Rattle.octets.proofs.Lists.{lt-or-le}
+use mathlib.Core.Bool.{Bool, true, false, cond, _&&_}
+use mathlib.Core.List.{List, [], _∷_}
+use native.Mathlib.Nat.{zero-add, add-zero, le-of-suc-le-suc, not-suc-le-zero}
+use native.Mathlib.Numerals.{add-one}
+use native.Mathlib.Omega.{arith}
+use borrow.Author.Needs.{needs}
+use borrow.Author.Tests.{eqb-true, leb-true, lt-ltb, le-ltb, eq-eqb, ne-eqb}
+use lib.Dec.{leb, ltb, eqb}
+use lib.ListN.{length, getD, set, replicate, length-set, length-replicate}
+use Rattle.base64.specs.Base64.{letter, signOf, between, pad}
+use Rattle.base64.specs.Steps.{codeOf, Signs, Low}
+use Rattle.base64.specs.declared.Sign.{Sign}
+use Rattle.base64.specs.declared.Sign.the-variants.{Value, Pad, Other}
+
+-- by cases on a test
+pub by-test : {A : Type 0} (P : A → Type 0) (b : Bool) (x y : A) → (b ≡ true → P x) → (b ≡ false → P y) → P (cond b x y)
+by-test P true x y f g = f refl
+by-test P false x y f g = g refl
+
+upper : (first last x : ℕ) → between first last x ≡ true → x ≤ last
+upper first last x e = go (leb first x) (leb x last) refl e
+  where
+    go : (a b : Bool) → leb x last ≡ b → (a && b) ≡ true → x ≤ last
+    go true true q e = leb-true x last q
+    go true false q e = let z : _≡_ {A = ℕ} 0 1 = cc in omega arith
+    go false b q e = let z : _≡_ {A = ℕ} 0 1 = cc in omega arith
+
+Small : Sign → Type 0
+Small s = (p : ℕ) → s ≡ Value p → p < 64
+
+small : (n : ℕ) → n < 64 → Small (Value n)
+unfolding Small
+small n h p e = let q : n ≡ p = cc in omega arith
+
+no-value-pad : Small Pad
+unfolding Small
+no-value-pad p e = let z : _≡_ {A = ℕ} 0 1 = cc in omega arith
+
+no-value-other : Small Other
+unfolding Small
+no-value-other p e = let z : _≡_ {A = ℕ} 0 1 = cc in omega arith
+
+all-small : (x : ℕ) → Small (signOf x)
+unfolding signOf
+all-small x =
+    by-test Small (between 65 90 x) (Value (x - 65)) _ (λ t. small (x - 65) (omega (arith, upper 65 90 x t)))
+    λ _. by-test Small (between 97 122 x) (Value (x - 97 + 26)) _ (λ t. small (x - 97 + 26) (omega (arith, upper 97 122 x t)))
+    λ _. by-test Small (between 48 57 x) (Value (x - 48 + 52)) _ (λ t. small (x - 48 + 52) (omega (arith, upper 48 57 x t)))
+    λ _. by-test Small (eqb x 43) (Value 62) _ (λ _. small 62 (omega arith))
+    λ _. by-test Small (eqb x 47) (Value 63) _ (λ _. small 63 (omega arith))
+    λ _. by-test Small (eqb x pad) Pad Other (λ _. no-value-pad) (λ _. no-value-other)
+
+pub below : (x p : ℕ) → signOf x ≡ Value p → p < 64
+unfolding Small
+below x p e = all-small x p e
+
+-- a sign by its number
+module _ (s : Sign) (small : (p : ℕ) → s ≡ Value p → p < 64) where
+  pub is-value : codeOf s < 64 → Value (codeOf s) ≡ s
+  unfolding codeOf
+  is-value h = go s refl
+    where
+      go : (t : Sign) → s ≡ t → Value (codeOf s) ≡ s
+      go (Value v) e = rw e
+      go Pad e = absurd (omega (arith, ap codeOf e))
+      go Other e = absurd (omega (arith, ap codeOf e))
+
+  pub is-pad : codeOf s ≡ 64 → Pad ≡ s
+  unfolding codeOf
+  is-pad h = go s refl
+    where
+      go : (t : Sign) → s ≡ t → Pad ≡ s
+      go (Value v) e = absurd (omega (arith, ap codeOf e, small v e))
+      go Pad e = sym e
+      go Other e = absurd (omega (arith, ap codeOf e))
+
+  pub is-other : (codeOf s < 64 → ⊥) → (codeOf s ≡ 64 → ⊥) → Other ≡ s
+  unfolding codeOf
+  is-other h k = go s refl
+    where
+      go : (t : Sign) → s ≡ t → Other ≡ s
+      go (Value v) e = absurd (h (omega (arith, ap codeOf e, small v e)))
+      go Pad e = absurd (k (ap codeOf e))
+      go Other e = sym e
+
+-- a test that passes at each number below n, by computing it
+abbrev passes : (ℕ → Bool) → ℕ → Bool
+passes f zero = true
+passes f (suc n) = f n && passes f n
+
+passes-at : (f : ℕ → Bool) (n : ℕ) → passes f n ≡ true → (k : ℕ) → k < n → f k ≡ true
+passes-at f zero e k h = absurd (omega arith)
+passes-at f (suc n) e k h = go (f n) refl e (lt-or-le k n) (λ t l. passes-at f n t k l)
+  where
+    go : (b : Bool) → f n ≡ b → (b && passes f n) ≡ true → (k < n) ⊎ (n ≤ k) → (passes f n ≡ true → k < n → f k ≡ true) → f k ≡ true
+    go true q t (inl l) ih = ih t l
+    go true q t (inr l) ih = let r : k ≡ n = omega arith in rw r q
+    go false q t l ih = let z : _≡_ {A = ℕ} 0 1 = cc in absurd (omega arith)
+
+letter-known : (v : ℕ) → v < 64 → eqb (codeOf (signOf (letter v))) v ≡ true
+unfolding signOf letter codeOf
+letter-known v h = passes-at (λ v. eqb (codeOf (signOf (letter v))) v) 64 refl v h
+
+pub sign-of-letter : (v : ℕ) → v < 64 → signOf (letter v) ≡ Value v
+sign-of-letter v h =
+    let e : codeOf (signOf (letter v)) ≡ v = eqb-true _ v (letter-known v h) in
+    sym (is-value (signOf (letter v)) (below (letter v)) (omega arith)) ∙ ap Value e
+
+-- the table once the values below n are in it
+unfoldable pub tabled : ℕ → List ℕ
+tabled zero = replicate 256 65
+tabled (suc n) = set (tabled n) (letter n) n
+
+table-known : (x : ℕ) → x < 256 → eqb (getD (set (tabled 64) 61 64) x 0) (codeOf (signOf x)) ≡ true
+unfolding signOf letter codeOf tabled
+table-known x h = passes-at (λ x. eqb (getD (set (tabled 64) 61 64) x 0) (codeOf (signOf x))) 256 refl x h
+
+pub whole : Signs (set (tabled 64) 61 64)
+whole = record { at = λ x h. eqb-true _ _ (table-known x h) }
+
+-- `letter_of`, by its tests
+module _ (v : ℕ) where
+  pub capital : v < 26 → 65 + v ≡ letter v
+  unfolding letter
+  capital h = rw (lt-ltb v 26 h)
+
+  pub minuscule : 26 ≤ v → v < 52 → 97 + (v - 26) ≡ letter v
+  unfolding letter
+  minuscule k h = rw (le-ltb v 26 k, lt-ltb v 52 h)
+
+  pub digit : 52 ≤ v → v < 62 → 48 + (v - 52) ≡ letter v
+  unfolding letter
+  digit k h = rw (le-ltb v 26 (omega arith), le-ltb v 52 k, lt-ltb v 62 h)
+
+  pub plus : 62 ≤ v → v ≡ 62 → 43 ≡ letter v
+  unfolding letter
+  plus k h = rw (le-ltb v 26 (omega arith), le-ltb v 52 (omega arith), le-ltb v 62 k, eq-eqb v 62 h)
+
+  pub slash : 62 ≤ v → (v ≡ 62 → ⊥) → 47 ≡ letter v
+  unfolding letter
+  slash k h = rw (le-ltb v 26 (omega arith), le-ltb v 52 (omega arith), le-ltb v 62 k, ne-eqb v 62 h)
+
+pub ruleset lettering = (capital, minuscule, digit, plus, slash, needs)
+
+-- `sign_of`, by its tests
+module _ (t : List ℕ) (x : ℕ) (signs : Signs t) (h : x < 256) where
+  pub found-value : getD t x 0 < 64 → Value (getD t x 0) ≡ signOf x
+  found-value k = let e = signs .at x h in rw e (is-value (signOf x) (below x) (omega arith))
+
+  pub found-pad : getD t x 0 ≡ 64 → Pad ≡ signOf x
+  found-pad k = is-pad (signOf x) (below x) (sym (signs .at x h) ∙ k)
+
+  pub found-other : 64 ≤ getD t x 0 → (getD t x 0 ≡ 64 → ⊥) → Other ≡ signOf x
+  found-other k l = is-other (signOf x) (below x) (λ u. omega (arith, signs .at x h)) (λ u. l (signs .at x h ∙ u))
+
+pub low-pad : Low Pad
+low-pad = tt
+
+pub low-other : Low Other
+low-other = tt
+
+pub ruleset finding = (found-value, found-pad, found-other, needs)
+
+-- `signs`
+pub tabled-none : replicate 256 65 ≡ tabled 0
+unfolding tabled
+tabled-none = refl
+
+pub tabled-more : (t : List ℕ) (v x : ℕ) → t ≡ tabled v → x ≡ letter v → set t x v ≡ tabled (v + 1)
+unfolding tabled
+tabled-more t v x e q = rw (add-one, e, q)
+
+pub tabled-all : (t : List ℕ) (v : ℕ) → t ≡ tabled v → v ≤ 64 → 64 ≤ v → Signs (set t 61 64)
+tabled-all t v e h k = let q : v ≡ 64 = omega arith in rw (e, q) whole
+
+pub ruleset tabling = (tabled-none, tabled-more, tabled-all, needs)

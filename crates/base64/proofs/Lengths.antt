@@ -1,0 +1,37 @@
+-- How long encoded texts and their lines are.
+--     length-encode    four characters for every three octets begun
+--     length-laid      the rest of a text, with the line breaks in it
+--     length-lines     three characters more for every line begun
+--     the ruleset      counting, for `lines_length`
+-- Assumes nothing.
+use Prim.Native.Nat.{ℕ, zero, suc, _+_, _-_, _*_, _/_}
+use mathlib.Core.Path.{_≡_, refl, sym}
+use mathlib.Core.List.{List, [], _∷_}
+use native.Mathlib.Omega.{arith}
+use borrow.Author.Needs.{needs}
+use lib.ListN.{length}
+use Rattle.base64.specs.Base64.{encode, laid, lines}
+
+pub length-encode : (s : List ℕ) → length (encode s) ≡ (length s + 2) / 3 * 4
+unfolding encode
+length-encode [] = refl
+length-encode (a ∷ []) = refl
+length-encode (a ∷ b ∷ []) = refl
+length-encode (a ∷ b ∷ c ∷ rest) = omega (arith, length-encode rest)
+
+pub length-laid : (k : ℕ) (t : List ℕ) → length (laid k t) ≡ length t + 2 + (length t - k + 75) / 76 * 3
+unfolding laid
+length-laid zero [] = refl
+length-laid (suc k) [] = omega arith
+length-laid zero (x ∷ t) = omega (arith, length-laid 75 t)
+length-laid (suc k) (x ∷ t) = omega (arith, length-laid k t)
+
+pub length-lines : (t : List ℕ) → length (lines t) ≡ length t + (length t + 75) / 76 * 3
+unfolding lines
+length-lines [] = refl
+length-lines (x ∷ t) = omega (arith, length-laid 75 t)
+
+pub lines-counted : (s : List ℕ) → (length s + 2) / 3 * 4 + ((length s + 2) / 3 * 4 + 75) / 76 * 3 ≡ length (lines (encode s))
+lines-counted s = sym (rw (length-lines, length-encode))
+
+pub ruleset counting = (lines-counted, needs)

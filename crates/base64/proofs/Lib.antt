@@ -1,0 +1,9 @@
+pub mod Alphabet
+pub mod Groups
+pub mod Blanks
+pub mod Nexts
+pub mod Measuring
+pub mod Putting
+pub mod Filling
+pub mod Lengths
+pub mod Laying

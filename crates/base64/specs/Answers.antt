@@ -1,0 +1,20 @@
+-- From what the rule gives to what the code answers and leaves in lent memory.
+--     decodedOf    the answer for a text that stands for these octets, or for none, with so much room
+--     leftIn       what the lent memory holds after it: the octets, or what it held
+use Prim.Native.Nat.{ℕ}
+use mathlib.Core.Bool.{cond}
+use mathlib.Core.List.{List}
+use mathlib.Core.Option.{Option, some, none}
+use lib.Dec.{leb}
+use lib.ListN.{length}
+use Rattle.octets.specs.Written.{onto}
+use Rattle.base64.specs.declared.Decoded.{Decoded}
+use Rattle.base64.specs.declared.Decoded.the-variants.{Octets, NotBase64, NoRoom}
+
+unfoldable pub decodedOf : Option (List ℕ) → ℕ → Decoded
+decodedOf none room = NotBase64
+decodedOf (some w) room = cond (leb (length w) room) (Octets (length w)) NoRoom
+
+unfoldable pub leftIn : Option (List ℕ) → List ℕ → List ℕ
+leftIn none d = d
+leftIn (some w) d = cond (leb (length w) (length d)) (onto w d) d

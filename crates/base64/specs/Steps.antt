@@ -1,0 +1,90 @@
+-- What the private functions answer: the steps between the rule of `Base64` and the code's places.
+--     codeOf, Signs    a sign as a number, and a table that has the number of each octet's sign
+--     Low              a sign whose value, if it has one, is below 64
+--     NextLetter       what `next_letter` answers
+--     stepOf           what a text goes on with whose next four characters are a group
+--     NextGroup        what `next_group` answers
+--     sizeOf, Room     how many octets a text stands for, and that they have room
+--     characters       the four characters of a group
+--     lineBreak, piece    the line break before a group, and the group behind it
+--     after            how many groups a line takes behind the next one
+use Prim.Native.Nat.{ℕ, zero, suc, _+_, _<_, _≤_}
+use mathlib.Core.Path.{_≡_}
+use mathlib.Core.List.{List, [], _∷_, _++_}
+use mathlib.Core.Option.{Option, some, none}
+use lib.ListN.{length, getD, take, drop}
+use Rattle.base64.specs.Base64.{signOf, before, decode, withoutBlanks, encode, cr, lf, space}
+use Rattle.base64.specs.declared.Sign.{Sign}
+use Rattle.base64.specs.declared.Sign.the-variants.{Value, Pad, Other}
+use Rattle.base64.specs.declared.Group.{Group}
+use Rattle.base64.specs.declared.Group.the-variants.{Three as GThree, Two as GTwo, One as GOne, Broken as GBroken}
+use Rattle.base64.specs.declared.Letter.{Letter}
+use Rattle.base64.specs.declared.Letter.the-variants.{End as Over, At}
+use Rattle.base64.specs.declared.Four.{Four}
+use Rattle.base64.specs.declared.Next.{Next}
+use Rattle.base64.specs.declared.Next.the-variants.{Three, Two, One, End, Broken}
+use Rattle.base64.specs.declared.Size.{Size}
+use Rattle.base64.specs.declared.Size.the-variants.{Of, Wrong}
+
+-- the value, or 64 for a pad and 65 for all else
+unfoldable pub codeOf : Sign → ℕ
+codeOf (Value v) = v
+codeOf Pad = 64
+codeOf Other = 65
+
+pub record Signs (table : List ℕ) : Type 0 where
+  pub at : (x : ℕ) → x < 256 → getD table x 0 ≡ codeOf (signOf x)
+
+-- a value is below 64
+abbrev pub Low : Sign → Type 0
+Low (Value v) = v < 64
+Low Pad = Unit
+Low Other = Unit
+
+-- x is the next character of s from the place `at` on that is no blank, and n the place behind it; or there are only blanks
+unfoldable pub NextLetter : List ℕ → ℕ → Letter → Type 0
+NextLetter s at Over = withoutBlanks (drop at s) ≡ []
+NextLetter s at (At x n) = (withoutBlanks (drop at s) ≡ x ∷ withoutBlanks (drop n s)) × (at < n) × (n ≤ length s)
+
+-- a group, the place behind it and the characters that follow: with pads it is the last
+unfoldable pub stepOf : Group → ℕ → List ℕ → Next
+stepOf (GThree x y z) n rest = Three x y z n
+stepOf (GTwo x y) n [] = Two x y
+stepOf (GTwo x y) n (c ∷ rest) = Broken
+stepOf (GOne x) n [] = One x
+stepOf (GOne x) n (c ∷ rest) = Broken
+stepOf GBroken n rest = Broken
+
+-- what s stands for from the place `at` on: three octets and what it stands for from the place n on, or its last octets, or nothing
+unfoldable pub NextGroup : List ℕ → ℕ → Next → Type 0
+NextGroup s at (Three x y z n) =
+    (decode (withoutBlanks (drop at s)) ≡ before (x ∷ y ∷ z ∷ []) (decode (withoutBlanks (drop n s)))) × (at + 4 ≤ n) × (n ≤ length s)
+NextGroup s at (Two x y) = decode (withoutBlanks (drop at s)) ≡ some (x ∷ y ∷ [])
+NextGroup s at (One x) = decode (withoutBlanks (drop at s)) ≡ some (x ∷ [])
+NextGroup s at End = decode (withoutBlanks (drop at s)) ≡ some []
+NextGroup s at Broken = decode (withoutBlanks (drop at s)) ≡ none
+
+unfoldable pub sizeOf : Option (List ℕ) → Size
+sizeOf none = Wrong
+sizeOf (some w) = Of (length w)
+
+abbrev pub Room : Option (List ℕ) → ℕ → Type 0
+Room none n = ⊥
+Room (some w) n = length w ≤ n
+
+abbrev pub characters : Four → List ℕ
+characters f = f .0 ∷ f .1 ∷ f .2 ∷ f .3 ∷ []
+
+-- what ends a line that takes no group more and begins the next
+unfoldable pub lineBreak : ℕ → List ℕ
+lineBreak zero = cr ∷ lf ∷ space ∷ []
+lineBreak (suc n) = []
+
+-- the group that begins at the place i of s, behind the line break that it may want
+unfoldable pub piece : List ℕ → ℕ → ℕ → List ℕ
+piece s i k = lineBreak k ++ take 4 (encode (drop i s))
+
+-- a line takes 19 groups
+unfoldable pub after : ℕ → ℕ
+after zero = 18
+after (suc n) = n

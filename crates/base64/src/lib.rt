@@ -1,0 +1,466 @@
+// Base64 as key data has it: a text is decoded with its blanks left out, and octets are written as
+// the lines of a field. What is right is said by specs/Base64.antt.
+ghost use Prim.Native.Nat.{_+_, _*_, _≤_, _<_};
+ghost use mathlib.Core.Path.{_≡_};
+ghost use mathlib.Core.List.{[], _∷_, _++_};
+ghost use lib.ListN.{length, drop};
+ghost use Rattle.octets.specs.Written.{putAt};
+ghost use Rattle.base64.specs.Base64.{letter, signOf, closed, grouped, groupOf, decode as octetsOf, blank, withoutBlanks, encode, laid, lines};
+ghost use Rattle.base64.specs.Answers.{decodedOf, leftIn};
+ghost use Rattle.base64.specs.Steps.{Signs, Low, NextLetter, stepOf, NextGroup, sizeOf, Room, characters, lineBreak, piece, after};
+
+// What a character stands for.
+pub enum Sign {
+    Value(u8),
+    Pad,
+    Other,
+}
+
+// What four characters stand for.
+pub enum Group {
+    Three(u8, u8, u8),
+    Two(u8, u8),
+    One(u8),
+    Broken,
+}
+
+// What decoding answers: how many octets it wrote, or why it wrote none.
+pub enum Decoded {
+    Octets(usize),
+    NotBase64,
+    NoRoom,
+}
+
+// The next character that is no blank, with the place behind it.
+enum Letter {
+    End,
+    At(u8, usize),
+}
+
+// What a text goes on with: three octets and the place behind their characters, its last octets, its
+// end, or what is not Base64.
+enum Next {
+    Three(u8, u8, u8, usize),
+    Two(u8, u8),
+    One(u8),
+    End,
+    Broken,
+}
+
+enum Size {
+    Of(usize),
+    Wrong,
+}
+
+// Four characters that stand for the octets of one group.
+struct Four(u8, u8, u8, u8);
+
+// The character of a value.
+fn letter_of(value: u8) -> u8
+    requires { ⌜ value < 64 ⌝ }
+    ensures { λ r. ⌜ r ≡ letter value ⌝ }
+{
+    if value < 26 {
+        return b'A' + value;
+    }
+    if value < 52 {
+        return b'a' + (value - 26);
+    }
+    if value < 62 {
+        return b'0' + (value - 52);
+    }
+    if value == 62 {
+        return b'+';
+    }
+    b'/'
+}
+
+// For each octet what it stands for as a character: a value, 64 for the pad, 65 for nothing. It is made
+// once a text, since looking a character up in it takes a third of the time of comparing.
+fn signs() -> [u8; 256]
+    ensures { λ r. ⌜ Signs r ⌝ }
+{
+    let mut table = [65u8; 256];
+    let mut value: u8 = 0;
+    while value < 64 {
+        let at = letter_of(value) as usize;
+        table[at] = value;
+        value += 1;
+    }
+    table[61] = 64;
+    table
+}
+
+fn sign_of(table: &[u8; 256], x: u8) -> Sign
+    requires { ⌜ Signs (now table) ⌝ }
+    ensures { λ r. ⌜ (r ≡ signOf x) × Low r ⌝ }
+{
+    let at = x as usize;
+    let value = table[at];
+    if value < 64 {
+        return Sign::Value(value);
+    }
+    if value == 64 {
+        return Sign::Pad;
+    }
+    Sign::Other
+}
+
+fn three(p: u8, q: u8, r: u8, s: u8) -> Group
+    requires { ⌜ (p < 64) × (q < 64) × (r < 64) × (s < 64) ⌝ }
+    ensures { λ g. ⌜ g ≡ closed p q (Sign.Value r) (Sign.Value s) ⌝ }
+{
+    Group::Three(p * 4 + q / 16, q % 16 * 16 + r / 4, r % 4 * 64 + s)
+}
+
+fn two(p: u8, q: u8, r: u8) -> Group
+    requires { ⌜ (p < 64) × (q < 64) × (r < 64) ⌝ }
+    ensures { λ g. ⌜ g ≡ closed p q (Sign.Value r) Sign.Pad ⌝ }
+{
+    if r % 4 == 0 {
+        Group::Two(p * 4 + q / 16, q % 16 * 16 + r / 4)
+    } else {
+        Group::Broken
+    }
+}
+
+fn one(p: u8, q: u8) -> Group
+    requires { ⌜ (p < 64) × (q < 64) ⌝ }
+    ensures { λ g. ⌜ g ≡ closed p q Sign.Pad Sign.Pad ⌝ }
+{
+    if q % 16 == 0 {
+        Group::One(p * 4 + q / 16)
+    } else {
+        Group::Broken
+    }
+}
+
+// Two values and the signs of two characters more.
+fn closed_group(p: u8, q: u8, third: Sign, fourth: Sign) -> Group
+    requires { ⌜ (p < 64) × (q < 64) × Low third × Low fourth ⌝ }
+    ensures { λ g. ⌜ g ≡ closed p q third fourth ⌝ }
+{
+    match third {
+        Sign::Value(r) => match fourth {
+            Sign::Value(s) => three(p, q, r, s),
+            Sign::Pad => two(p, q, r),
+            Sign::Other => Group::Broken,
+        },
+        Sign::Pad => match fourth {
+            Sign::Value(_) => Group::Broken,
+            Sign::Pad => one(p, q),
+            Sign::Other => Group::Broken,
+        },
+        Sign::Other => Group::Broken,
+    }
+}
+
+// The signs of four characters.
+fn signed_group(first: Sign, second: Sign, third: Sign, fourth: Sign) -> Group
+    requires { ⌜ Low first × Low second × Low third × Low fourth ⌝ }
+    ensures { λ g. ⌜ g ≡ grouped first second third fourth ⌝ }
+{
+    match first {
+        Sign::Value(p) => match second {
+            Sign::Value(q) => closed_group(p, q, third, fourth),
+            Sign::Pad => Group::Broken,
+            Sign::Other => Group::Broken,
+        },
+        Sign::Pad => Group::Broken,
+        Sign::Other => Group::Broken,
+    }
+}
+
+// What four characters stand for.
+fn group_of(table: &[u8; 256], a: u8, b: u8, c: u8, d: u8) -> Group
+    requires { ⌜ Signs (now table) ⌝ }
+    ensures { λ r. ⌜ r ≡ groupOf a b c d ⌝ }
+{
+    signed_group(
+        sign_of(table, a),
+        sign_of(table, b),
+        sign_of(table, c),
+        sign_of(table, d),
+    )
+}
+
+fn is_blank(x: u8) -> bool
+    ensures { λ r. ⌜ r ≡ blank x ⌝ }
+{
+    if x == b' ' {
+        return true;
+    }
+    x == b'\t'
+}
+
+// The next character from the place `at` on that is no blank.
+fn next_letter(src: &[u8], at: usize) -> Letter
+    ensures { λ r. ⌜ NextLetter (now (src .entry)) at r ⌝ }
+{
+    let mut i = at;
+    while i < src.len() {
+        let x = src[i];
+        i += 1;
+        if !is_blank(x) {
+            return Letter::At(x, i);
+        }
+    }
+    Letter::End
+}
+
+// What a text goes on with, whose next four characters are a group and end at the place `n`. A group with
+// pads is the last: only blanks may follow it.
+fn step(src: &[u8], group: Group, n: usize) -> Next
+    ensures { λ r. ⌜ r ≡ stepOf group n (withoutBlanks (drop n (now (src .entry)))) ⌝ }
+{
+    match group {
+        Group::Three(x, y, z) => Next::Three(x, y, z, n),
+        Group::Two(x, y) => match next_letter(src, n) {
+            Letter::End => Next::Two(x, y),
+            Letter::At(_, _) => Next::Broken,
+        },
+        Group::One(x) => match next_letter(src, n) {
+            Letter::End => Next::One(x),
+            Letter::At(_, _) => Next::Broken,
+        },
+        Group::Broken => Next::Broken,
+    }
+}
+
+// What the text goes on with from the place `at` on, with blanks anywhere.
+fn next_spaced(table: &[u8; 256], src: &[u8], at: usize) -> Next
+    requires { ⌜ Signs (now table) ⌝ }
+    ensures { λ r. ⌜ NextGroup (now (src .entry)) at r ⌝ }
+{
+    let Letter::At(a, i) = next_letter(src, at) else {
+        return Next::End;
+    };
+    let Letter::At(b, j) = next_letter(src, i) else {
+        return Next::Broken;
+    };
+    let Letter::At(c, k) = next_letter(src, j) else {
+        return Next::Broken;
+    };
+    let Letter::At(d, n) = next_letter(src, k) else {
+        return Next::Broken;
+    };
+    step(src, group_of(table, a, b, c, d), n)
+}
+
+// The same. Blanks are rare: where the next four octets make three there is none among them, and no
+// octet was compared with a blank.
+fn next_group(table: &[u8; 256], src: &[u8], at: usize) -> Next
+    requires { ⌜ Signs (now table) × (at ≤ length (now src)) ⌝ }
+    ensures { λ r. ⌜ NextGroup (now (src .entry)) at r ⌝ }
+{
+    if src.len() - at < 4 {
+        return next_spaced(table, src, at);
+    }
+    match group_of(table, src[at], src[at + 1], src[at + 2], src[at + 3]) {
+        Group::Three(x, y, z) => Next::Three(x, y, z, at + 4),
+        Group::Two(_, _) => next_spaced(table, src, at),
+        Group::One(_) => next_spaced(table, src, at),
+        Group::Broken => next_spaced(table, src, at),
+    }
+}
+
+// How many octets the text stands for.
+fn measure(table: &[u8; 256], src: &[u8]) -> Size
+    requires { ⌜ Signs (now table) ⌝ }
+    ensures { λ r. ⌜ r ≡ sizeOf (octetsOf (withoutBlanks (now (src .entry)))) ⌝ }
+{
+    let mut n: usize = 0;
+    let mut i: usize = 0;
+    loop {
+        match next_group(table, src, i) {
+            Next::Three(_, _, _, behind) => {
+                n += 3;
+                i = behind;
+            }
+            Next::Two(_, _) => return Size::Of(n + 2),
+            Next::One(_) => return Size::Of(n + 1),
+            Next::End => return Size::Of(n),
+            Next::Broken => return Size::Wrong,
+        }
+    }
+}
+
+// Writes the octets of a text that has been measured.
+fn write(table: &[u8; 256], src: &[u8], out: &mut [u8])
+    requires { ⌜ Signs (now table) × Room (octetsOf (withoutBlanks (now src))) (length (now out)) ⌝ }
+    ensures { λ _. ⌜ now (out .exit) ≡ leftIn (octetsOf (withoutBlanks (now (src .entry)))) (now (out .entry)) ⌝ }
+{
+    let mut o: usize = 0;
+    let mut i: usize = 0;
+    loop {
+        match next_group(table, src, i) {
+            Next::Three(x, y, z, behind) => {
+                out[o] = x;
+                out[o + 1] = y;
+                out[o + 2] = z;
+                o += 3;
+                i = behind;
+            }
+            Next::Two(x, y) => {
+                out[o] = x;
+                out[o + 1] = y;
+                return;
+            }
+            Next::One(x) => {
+                out[o] = x;
+                return;
+            }
+            Next::End => return,
+            Next::Broken => return,
+        }
+    }
+}
+
+// Decodes key data, with spaces and tabs anywhere, into the beginning of `out`. The text is read twice and
+// `out` written only when all of it is good and has room: a refusal leaves `out` as it was.
+pub fn decode(src: &[u8], out: &mut [u8]) -> Decoded
+    ensures { λ r. ⌜ r ≡ decodedOf (octetsOf (withoutBlanks (now (src .entry)))) (length (now (out .entry))) ⌝ }
+    ensures { λ _. ⌜ now (out .exit) ≡ leftIn (octetsOf (withoutBlanks (now (src .entry)))) (now (out .entry)) ⌝ }
+{
+    let table = signs();
+    match measure(&table, src) {
+        Size::Of(n) => {
+            if out.len() < n {
+                return Decoded::NoRoom;
+            }
+            write(&table, src, out);
+            Decoded::Octets(n)
+        }
+        Size::Wrong => Decoded::NotBase64,
+    }
+}
+
+// How long the lines of a key are: four characters for every three octets begun, and a space, a CR and
+// an LF for every 76 characters begun.
+pub fn lines_length(key: &[u8]) -> usize
+    ensures { λ r. ⌜ r ≡ length (lines (encode (now (key .entry)))) ⌝ }
+{
+    let text = (key.len() + 2) / 3 * 4;
+    text + (text + 75) / 76 * 3
+}
+
+fn four_of_one(a: u8) -> Four
+    ensures { λ r. ⌜ characters r ≡ encode (a ∷ []) ⌝ }
+{
+    Four(letter_of(a / 4), letter_of(a % 4 * 16), b'=', b'=')
+}
+
+fn four_of_two(a: u8, b: u8) -> Four
+    ensures { λ r. ⌜ characters r ≡ encode (a ∷ b ∷ []) ⌝ }
+{
+    Four(
+        letter_of(a / 4),
+        letter_of(a % 4 * 16 + b / 16),
+        letter_of(b % 16 * 4),
+        b'=',
+    )
+}
+
+fn four_of_three(a: u8, b: u8, c: u8) -> Four
+    ensures { λ r. ⌜ characters r ≡ encode (a ∷ b ∷ c ∷ []) ⌝ }
+{
+    Four(
+        letter_of(a / 4),
+        letter_of(a % 4 * 16 + b / 16),
+        letter_of(b % 16 * 4 + c / 64),
+        letter_of(c % 64),
+    )
+}
+
+// The four characters of the group that begins at the place `at`.
+fn four_at(key: &[u8], at: usize) -> Four
+    requires { ⌜ at < length (now key) ⌝ }
+    ensures { λ r. ⌜ encode (drop at (now (key .entry))) ≡ characters r ++ encode (drop (at + 3) (now (key .entry))) ⌝ }
+{
+    let left = key.len() - at;
+    if left == 1 {
+        return four_of_one(key[at]);
+    }
+    if left == 2 {
+        return four_of_two(key[at], key[at + 1]);
+    }
+    four_of_three(key[at], key[at + 1], key[at + 2])
+}
+
+// Ends a line that takes no group more, and begins the next. The answer is the place behind.
+fn break_line(out: &mut [u8], at: usize, takes: usize) -> usize
+    requires { ⌜ at + length (lineBreak takes) ≤ length (now out) ⌝ }
+    ensures { λ r. ⌜ (r ≡ at + length (lineBreak takes)) × (r ≤ at + 3) ⌝ }
+    ensures { λ _. ⌜ now (out .exit) ≡ putAt (now (out .entry)) at (lineBreak takes) ⌝ }
+{
+    if takes != 0 {
+        return at;
+    }
+    out[at] = b'\r';
+    out[at + 1] = b'\n';
+    out[at + 2] = b' ';
+    at + 3
+}
+
+fn put_four(out: &mut [u8], at: usize, f: Four)
+    requires { ⌜ at + 4 ≤ length (now out) ⌝ }
+    ensures { λ _. ⌜ now (out .exit) ≡ putAt (now (out .entry)) at (characters f) ⌝ }
+{
+    out[at] = f.0;
+    out[at + 1] = f.1;
+    out[at + 2] = f.2;
+    out[at + 3] = f.3;
+}
+
+// How many groups the line takes behind the next one: a whole line takes 19.
+fn takes_after(takes: usize) -> usize
+    ensures { λ r. ⌜ r ≡ after takes ⌝ }
+{
+    if takes == 0 { 18 } else { takes - 1 }
+}
+
+// Writes the group that begins at the place `i` of the key, behind the line break that it may want.
+// The answer is the place behind.
+fn put_group(key: &[u8], i: usize, out: &mut [u8], at: usize, takes: usize) -> usize
+    requires { ⌜ (i < length (now key)) × (at + length (piece (now key) i takes) ≤ length (now out)) ⌝ }
+    ensures { λ r. ⌜ (r ≡ at + length (piece (now (key .entry)) i takes)) × (r ≤ at + 7) ⌝ }
+    ensures { λ _. ⌜ now (out .exit) ≡ putAt (now (out .entry)) at (piece (now (key .entry)) i takes) ⌝ }
+{
+    let four = four_at(key, i);
+    let o = break_line(&mut *out, at, takes);
+    put_four(&mut *out, o, four);
+    o + 4
+}
+
+// Writes a key as lines from the place `at` on, behind the space that opens the first one. A group never
+// stands on two lines, since 76 is a multiple of 4. The answer is the place behind.
+fn lay(key: &[u8], out: &mut [u8], at: usize) -> usize
+    requires { ⌜ at + length (laid 76 (encode (now key))) ≤ length (now out) ⌝ }
+    ensures { λ r. ⌜ r ≡ at + length (laid 76 (encode (now (key .entry)))) ⌝ }
+    ensures { λ _. ⌜ now (out .exit) ≡ putAt (now (out .entry)) at (laid 76 (encode (now (key .entry)))) ⌝ }
+{
+    let mut o = at;
+    let mut i: usize = 0;
+    let mut takes: usize = 19;
+    while i < key.len() {
+        o = put_group(key, i, &mut *out, o, takes);
+        takes = takes_after(takes);
+        i += 3;
+    }
+    out[o] = b'\r';
+    out[o + 1] = b'\n';
+    o + 2
+}
+
+// Writes a key as the lines of a field from the place `at` on, and answers the place behind them.
+pub fn write_lines(key: &[u8], out: &mut [u8], at: usize) -> usize
+    requires { ⌜ at + length (lines (encode (now key))) ≤ length (now out) ⌝ }
+    ensures { λ r. ⌜ r ≡ at + length (lines (encode (now (key .entry)))) ⌝ }
+    ensures { λ _. ⌜ now (out .exit) ≡ putAt (now (out .entry)) at (lines (encode (now (key .entry)))) ⌝ }
+{
+    if key.len() == 0 {
+        return at;
+    }
+    out[at] = b' ';
+    lay(key, out, at + 1)
+}
