@@ -6,7 +6,7 @@ use mathlib.Core.Bool.{true, false, not}
 use mathlib.Core.List.{List, [], _∷_, _++_}
 use lib.ListN.{length, replicate}
 use Rattle.octets.specs.Octets.{ascii, octet, lower, lowered, sameOctets}
-use Rattle.tokens.specs.Tokens.{sign, belongs}
+use Rattle.tokens.specs.Tokens.{belongs}
 use Rattle.address.specs.Pieces.{every, onFirst, pieces, before, behind}
 use Rattle.address.specs.Address.{atom, localPart, labelOctet, freeEnds, label, domain, plain, canonical, isCanonical, addressOctet}
 
@@ -66,11 +66,11 @@ noPlains =
     ∷ []
 
 all-plain : every plain plains ≡ true
-unfolding plains localPartOf labelOf addressOf plain localPart atom domain label labelOctet freeEnds every onFirst pieces before behind belongs sign
+unfolding plains localPartOf labelOf addressOf plain localPart atom domain label labelOctet freeEnds every onFirst pieces before behind belongs
 all-plain = refl
 
 none-plain : every (λ s. not (plain s)) noPlains ≡ true
-unfolding noPlains localPartOf labelOf addressOf plain localPart atom domain label labelOctet freeEnds every onFirst pieces before behind belongs sign
+unfolding noPlains localPartOf labelOf addressOf plain localPart atom domain label labelOctet freeEnds every onFirst pieces before behind belongs
 none-plain = refl
 
 -- 254 octets and 255
@@ -88,14 +88,14 @@ unfolding canonical lowered lower
 form-kept = refl
 
 capital : isCanonical (ascii "a@B.example") ≡ false
-unfolding isCanonical canonical lowered lower sameOctets plain localPart atom domain label labelOctet freeEnds every onFirst pieces before behind belongs sign
+unfolding isCanonical canonical lowered lower sameOctets plain localPart atom domain label labelOctet freeEnds every onFirst pieces before behind belongs
 capital = refl
 
 small : isCanonical (ascii "a@b.example") ≡ true
-unfolding isCanonical canonical lowered lower sameOctets plain localPart atom domain label labelOctet freeEnds every onFirst pieces before behind belongs sign
+unfolding isCanonical canonical lowered lower sameOctets plain localPart atom domain label labelOctet freeEnds every onFirst pieces before behind belongs
 small = refl
 
 -- what else stands in no plain address, beside all below 33: what lists and fields put between addresses
 apart : every (λ x. not (addressOctet x)) (127 ∷ ascii ",:;<>\"()[]\\") ≡ true
-unfolding every addressOctet belongs sign
+unfolding every addressOctet belongs
 apart = refl
