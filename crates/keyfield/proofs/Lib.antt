@@ -1,0 +1,3 @@
+pub mod Parts
+pub mod Finding
+pub mod Trimming

@@ -1,0 +1,56 @@
+use borrow.Author.Needs.{needs}
+use Rattle.keyfield.proofs.with_address.Statement.{statement}
+use Rattle.keyfield.proofs.with_address.Tie as tie
+use Rattle.keyfield.proofs.with_address.Reads as reads
+use Rattle.keyfield.proofs.with_address.Lts as lts
+use Rattle.address.proofs.is_plain.Reads as is-plain-reads
+
+-- src/lib.rt:198:34
+enum-told : tie.Need-enum-told
+enum-told c = search needs
+
+-- src/lib.rt:198:34
+sub-is-plain : tie.Need-sub-is-plain
+sub-is-plain c = search needs
+
+-- src/lib.rt:198:34
+part-is-plain-start : tie.Need-part-is-plain-start
+part-is-plain-start c = search needs
+
+-- src/lib.rt:198:34
+part-is-plain-end : tie.Need-part-is-plain-end
+part-is-plain-end c = search needs
+
+-- src/lib.rt:198:16
+is-plain-requires : tie.Need-is-plain-requires
+is-plain-requires c κs = search needs
+
+-- src/lib.rt:204:28
+enum-told-2 : tie.Need-enum-told-2
+enum-told-2 c = search needs
+
+-- src/lib.rt:192:1
+returns : tie.Need-returns
+returns c = search needs
+
+-- src/lib.rt:192:1
+returns-2 : tie.Need-returns-2
+returns-2 c = search needs
+
+-- src/lib.rt:192:1
+returns-3 : tie.Need-returns-3
+returns-3 c = search needs
+
+pub with-address-spec : {M : Type 1} → statement M
+with-address-spec =
+    tie.close
+    (tie.spec
+    enum-told
+    sub-is-plain
+    part-is-plain-start
+    part-is-plain-end
+    is-plain-requires
+    enum-told-2
+    returns
+    returns-2
+    returns-3)
