@@ -11,7 +11,7 @@ use borrow.Author.Needs.{needs}
 use borrow.Author.Tests.{eq-eqb, ne-eqb}
 use lib.ListN.{length, getD, take, drop}
 use Rattle.address.specs.Pieces.{before, behind}
-use Rattle.keyfield.specs.Answers.{part}
+use Rattle.keyfield.specs.Answers.{part, Within, FirstAt}
 use Rattle.keyfield.proofs.Parts.{part-none, part-first}
 
 pub record Finding (s : List ℕ) (from to x i : ℕ) : Type 0 where
@@ -20,18 +20,18 @@ pub record Finding (s : List ℕ) (from to x i : ℕ) : Type 0 where
   pub so-far : from + length (before x (part s from to)) ≡ i + length (before x (part s i to))
 
 module _ (s : List ℕ) (from to x : ℕ) where
-  pub find-begin : (from ≤ to) × (to ≤ length s) → Finding s from to x from
-  find-begin h = record { upto = h .0; inside = h .1; so-far = refl }
+  pub find-begin : Within s from to → Finding s from to x from
+  find-begin h = record { upto = h .order; inside = h .upto; so-far = refl }
 
   module _ (i : ℕ) (h : Finding s from to x i) where
     pub find-read : i < to → i < length s
     find-read l = omega arith
 
-    pub find-here : i < to → getD s i 0 ≡ x → (i ≡ from + length (before x (part s from to))) × (i ≤ to)
+    pub find-here : i < to → getD s i 0 ≡ x → FirstAt s from to x i
     unfolding before
     find-here l e =
         let z : length (before x (part s i to)) ≡ 0 = rw (part-first s i to l (h .inside), before, eq-eqb (getD s i 0) x e) in
-        (omega (arith, h .so-far), h .upto)
+        record { is = omega (arith, h .so-far); upto = h .upto }
 
     pub find-next : i < to → (getD s i 0 ≡ x → ⊥) → Finding s from to x (i + 1)
     unfolding before
@@ -40,11 +40,11 @@ module _ (s : List ℕ) (from to x : ℕ) where
         rw (part-first s i to l (h .inside), before, ne-eqb (getD s i 0) x n) in
         record { upto = omega arith; inside = h .inside; so-far = omega (arith, h .so-far) }
 
-    pub find-end : to ≤ i → (i ≡ from + length (before x (part s from to))) × (i ≤ to)
+    pub find-end : to ≤ i → FirstAt s from to x i
     unfolding before
     find-end l =
         let e : i ≡ to = omega (arith, h .upto) in
         let z : length (before x (part s i to)) ≡ 0 = rw (e, part-none s to) in
-        (omega (arith, h .so-far), h .upto)
+        record { is = omega (arith, h .so-far); upto = h .upto }
 
 pub ruleset finding = (find-begin, find-read, find-here, find-next, find-end, needs)

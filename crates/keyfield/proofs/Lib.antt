@@ -1,3 +1,6 @@
 pub mod Parts
 pub mod Finding
 pub mod Trimming
+pub mod Cutting
+pub mod Naming
+pub mod Stepping

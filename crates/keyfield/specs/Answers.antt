@@ -1,6 +1,8 @@
 -- From the rules to what the code answers and leaves in lent memory. An answer gives places of the value; what they show stands between them.
 --     part                 what stands between two places
---     Trimmed              two places between which stands what another two have between them, trimmed
+--     Within               two places, in order
+--     FirstAt              the first place of an octet
+--     TrimmedFrom .. Trimmed    places between which stands what another two have between them, trimmed in front, behind, on both sides
 --     attributeAt          the attribute that an answer shows
 --     addressAt, stated    the address and the preference seen so far
 --     stepAt               the step that an answer shows
@@ -9,15 +11,16 @@
 --     shown                the outcome that an answer shows
 --     keyAnswer            the answer on a key alone
 --     keyIn                the key of a field, for what the memory lent for it holds afterwards
-use Prim.Native.Nat.{ℕ, _-_, _≤_}
+use Prim.Native.Nat.{ℕ, _+_, _-_, _≤_}
 use mathlib.Core.Path.{_≡_}
 use mathlib.Core.Bool.{Bool, true, false, cond}
 use mathlib.Core.List.{List}
 use mathlib.Core.Option.{Option, some, none}
 use lib.Dec.{leb}
 use lib.ListN.{length, take, drop}
+use Rattle.address.specs.Pieces.{before}
 use Rattle.address.specs.Address.{plain, canonical}
-use Rattle.keyfield.specs.Field.{Attribute, addr, preferEncrypt, keydata, ignored, spoiling, Step, on, last, spoils, Said, Field, mutualBy, saidOf, fieldOf, trimmed}
+use Rattle.keyfield.specs.Field.{Attribute, addr, preferEncrypt, keydata, ignored, spoiling, Step, on, last, spoils, Said, Field, mutualBy, saidOf, fieldOf, trimmedFront, trimmedBack, trimmed}
 use Rattle.keyfield.specs.declared.Part.{Part}
 use Rattle.keyfield.specs.declared.Attribute.{Attribute as Told}
 use Rattle.keyfield.specs.declared.Attribute.the-variants.{Addr, PreferEncrypt, Keydata, Ignored, Spoiling}
@@ -38,16 +41,31 @@ use Rattle.keyfield.specs.declared.Read.the-variants.{Valid, Spoiled, No
 unfoldable pub part : List ℕ → ℕ → ℕ → List ℕ
 part s from to = take (to - from) (drop from s)
 
+-- places of s, in order
+pub record Within (s : List ℕ) (from to : ℕ) : Type 0 where
+  pub order : from ≤ to
+  pub upto : to ≤ length s
+
+-- r is the first place of x there, or `to` where there is none
+pub record FirstAt (s : List ℕ) (from to x r : ℕ) : Type 0 where
+  pub is : r ≡ from + length (before x (part s from to))
+  pub upto : r ≤ to
+
+pub record TrimmedFrom (s : List ℕ) (from to r : ℕ) : Type 0 where
+  pub is : part s r to ≡ trimmedFront (part s from to)
+  pub low : from ≤ r
+  pub high : r ≤ to
+
+pub record TrimmedTo (s : List ℕ) (from to r : ℕ) : Type 0 where
+  pub is : part s from r ≡ trimmedBack (part s from to)
+  pub low : from ≤ r
+  pub high : r ≤ to
+
 pub record Trimmed (s : List ℕ) (from to : ℕ) (r : Part) : Type 0 where
   pub low : from ≤ r .from
   pub order : r .from ≤ r .to
   pub high : r .to ≤ to
   pub is : part s (r .from) (r .to) ≡ trimmed (part s from to)
-
--- places of s, in order
-pub record Within (s : List ℕ) (from to : ℕ) : Type 0 where
-  pub order : from ≤ to
-  pub upto : to ≤ length s
 
 unfoldable pub attributeAt : List ℕ → Told → Attribute
 attributeAt s (Addr from to) = addr (part s from to)

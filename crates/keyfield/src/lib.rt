@@ -1,12 +1,10 @@
 // One Autocrypt or Autocrypt-Gossip value, unfolded: its pieces are read from the first to the last, and the
 // key is decoded once the rest is known to be good. What is right is said by specs/Field.antt.
-ghost use Prim.Native.Nat.{_+_, _≤_};
 ghost use mathlib.Core.Path.{_≡_};
 ghost use lib.ListN.{length};
 ghost use Rattle.base64.specs.Answers.{leftIn};
-ghost use Rattle.address.specs.Pieces.{before};
-ghost use Rattle.keyfield.specs.Field.{trimmedFront, trimmedBack, nameOf, attributeOf, withAddress, withPreference, step, mutualBy, saidOf, keyOf, fieldOf};
-ghost use Rattle.keyfield.specs.Answers.{part, Trimmed, Tells, addressAt, Stands, stated, Steps, wholeOf, Scans, keyAnswer, Answered, keyIn};
+ghost use Rattle.keyfield.specs.Field.{nameOf, attributeOf, withAddress, withPreference, step, mutualBy, saidOf, keyOf, fieldOf};
+ghost use Rattle.keyfield.specs.Answers.{part, Within, FirstAt, TrimmedFrom, TrimmedTo, Trimmed, Tells, addressAt, Stands, stated, Steps, wholeOf, Scans, keyAnswer, Answered, keyIn};
 
 use base64::Decoded;
 
@@ -91,8 +89,8 @@ pub enum Read {
 
 // The first place from `from` on where an `x` stands; `to` where none stands before that.
 fn find(s: &[u8], from: usize, to: usize, x: u8) -> usize
-    requires { ⌜ (from ≤ to) × (to ≤ length (now s)) ⌝ }
-    ensures { λ r. ⌜ (r ≡ from + length (before x (part (now (s .entry)) from to))) × (r ≤ to) ⌝ }
+    requires { ⌜ Within (now s) from to ⌝ }
+    ensures { λ r. ⌜ FirstAt (now (s .entry)) from to x r ⌝ }
 {
     let mut i = from;
     while i < to {
@@ -106,8 +104,8 @@ fn find(s: &[u8], from: usize, to: usize, x: u8) -> usize
 
 // The first place from `from` on where no blank stands.
 fn skip_blanks(s: &[u8], from: usize, to: usize) -> usize
-    requires { ⌜ (from ≤ to) × (to ≤ length (now s)) ⌝ }
-    ensures { λ r. ⌜ (part (now (s .entry)) r to ≡ trimmedFront (part (now (s .entry)) from to)) × (from ≤ r) × (r ≤ to) ⌝ }
+    requires { ⌜ Within (now s) from to ⌝ }
+    ensures { λ r. ⌜ TrimmedFrom (now (s .entry)) from to r ⌝ }
 {
     let mut i = from;
     while i < to {
@@ -121,8 +119,8 @@ fn skip_blanks(s: &[u8], from: usize, to: usize) -> usize
 
 // The place behind the last octet before `to` that is no blank.
 fn leave_blanks(s: &[u8], from: usize, to: usize) -> usize
-    requires { ⌜ (from ≤ to) × (to ≤ length (now s)) ⌝ }
-    ensures { λ r. ⌜ (part (now (s .entry)) from r ≡ trimmedBack (part (now (s .entry)) from to)) × (from ≤ r) × (r ≤ to) ⌝ }
+    requires { ⌜ Within (now s) from to ⌝ }
+    ensures { λ r. ⌜ TrimmedTo (now (s .entry)) from to r ⌝ }
 {
     let mut i = to;
     while from < i {
@@ -136,7 +134,7 @@ fn leave_blanks(s: &[u8], from: usize, to: usize) -> usize
 
 // ".. trimmed of spaces and tabs"
 fn trim(s: &[u8], from: usize, to: usize) -> Part
-    requires { ⌜ (from ≤ to) × (to ≤ length (now s)) ⌝ }
+    requires { ⌜ Within (now s) from to ⌝ }
     ensures { λ r. ⌜ Trimmed (now (s .entry)) from to r ⌝ }
 {
     let start = skip_blanks(s, from, to);
@@ -168,7 +166,7 @@ fn name_of(name: &[u8]) -> Name
 
 // What the piece from `from` up to `to` says.
 fn attribute_at(s: &[u8], from: usize, to: usize) -> Attribute
-    requires { ⌜ (from ≤ to) × (to ≤ length (now s)) ⌝ }
+    requires { ⌜ Within (now s) from to ⌝ }
     ensures { λ r. ⌜ Tells (now (s .entry)) r (attributeOf (part (now (s .entry)) from to)) ⌝ }
 {
     let cut = find(s, from, to, b'=');
@@ -190,7 +188,7 @@ fn attribute_at(s: &[u8], from: usize, to: usize) -> Attribute
 
 // "`addr`, a plain address, .. once"
 fn with_address(s: &[u8], from: usize, to: usize, address: Place, preference: Preference) -> Next
-    requires { ⌜ (from ≤ to) × (to ≤ length (now s)) ⌝ }
+    requires { ⌜ Within (now s) from to ⌝ }
     ensures { λ r. ⌜ Steps (now (s .entry)) r (withAddress (addressAt (now (s .entry)) address) (stated preference) (part (now (s .entry)) from to)) ⌝ }
 {
     match address {
@@ -207,7 +205,7 @@ fn with_address(s: &[u8], from: usize, to: usize, address: Place, preference: Pr
 
 // "`prefer-encrypt` at most once, and any value but `mutual` means no preference"
 fn with_preference(s: &[u8], from: usize, to: usize, address: Place, preference: Preference) -> Next
-    requires { ⌜ (from ≤ to) × (to ≤ length (now s)) × Stands (now s) address ⌝ }
+    requires { ⌜ Within (now s) from to × Stands (now s) address ⌝ }
     ensures { λ r. ⌜ Steps (now (s .entry)) r (withPreference (addressAt (now (s .entry)) address) (stated preference) (part (now (s .entry)) from to)) ⌝ }
 {
     match preference {
@@ -225,7 +223,7 @@ fn with_preference(s: &[u8], from: usize, to: usize, address: Place, preference:
 
 // What the piece from `from` up to `to` comes to, behind the address and the preference seen so far.
 fn step_at(s: &[u8], from: usize, to: usize, address: Place, preference: Preference) -> Next
-    requires { ⌜ (from ≤ to) × (to ≤ length (now s)) × Stands (now s) address ⌝ }
+    requires { ⌜ Within (now s) from to × Stands (now s) address ⌝ }
     ensures { λ r. ⌜ Steps (now (s .entry)) r (step (addressAt (now (s .entry)) address) (stated preference) (attributeOf (part (now (s .entry)) from to))) ⌝ }
 {
     match attribute_at(s, from, to) {

@@ -1,45 +1,45 @@
-use borrow.Author.Needs.{needs}
 use Rattle.keyfield.proofs.with_address.Statement.{statement}
 use Rattle.keyfield.proofs.with_address.Tie as tie
 use Rattle.keyfield.proofs.with_address.Reads as reads
 use Rattle.keyfield.proofs.with_address.Lts as lts
 use Rattle.address.proofs.is_plain.Reads as is-plain-reads
+use Rattle.keyfield.proofs.Stepping.{addressing}
 
--- src/lib.rt:198:34
+-- src/lib.rt:196:34
 enum-told : tie.Need-enum-told
-enum-told c = search needs
+enum-told c = search addressing
 
--- src/lib.rt:198:34
+-- src/lib.rt:196:34
 sub-is-plain : tie.Need-sub-is-plain
-sub-is-plain c = search needs
+sub-is-plain c = search addressing
 
--- src/lib.rt:198:34
+-- src/lib.rt:196:34
 part-is-plain-start : tie.Need-part-is-plain-start
-part-is-plain-start c = search needs
+part-is-plain-start c = search addressing
 
--- src/lib.rt:198:34
+-- src/lib.rt:196:34
 part-is-plain-end : tie.Need-part-is-plain-end
-part-is-plain-end c = search needs
+part-is-plain-end c = search addressing
 
--- src/lib.rt:198:16
+-- src/lib.rt:196:16
 is-plain-requires : tie.Need-is-plain-requires
-is-plain-requires c κs = search needs
+is-plain-requires c κs = search addressing
 
--- src/lib.rt:204:28
+-- src/lib.rt:202:28
 enum-told-2 : tie.Need-enum-told-2
-enum-told-2 c = search needs
+enum-told-2 c = search addressing
 
--- src/lib.rt:192:1
+-- src/lib.rt:190:1
 returns : tie.Need-returns
-returns c = search needs
+returns c = search addressing
 
--- src/lib.rt:192:1
+-- src/lib.rt:190:1
 returns-2 : tie.Need-returns-2
-returns-2 c = search needs
+returns-2 c = search addressing
 
--- src/lib.rt:192:1
+-- src/lib.rt:190:1
 returns-3 : tie.Need-returns-3
-returns-3 c = search needs
+returns-3 c = search addressing
 
 pub with-address-spec : {M : Type 1} → statement M
 with-address-spec =
