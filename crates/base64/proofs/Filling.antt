@@ -1,5 +1,4 @@
 -- Writing the octets of a text that has been measured, and what decoding then answers and leaves.
---     octetsIn            the octets, where there are some
 --     Filled s d out i o  d is the memory as it came and out as it is now; the octets before the place i of s are in it, o of them
 --     the rulesets        filling for `write`, answering for `decode`
 -- Assumes nothing.
@@ -15,7 +14,7 @@ use Rattle.octets.specs.Written.{onto}
 use Rattle.octets.proofs.Writing.{Wrote, begin, kept, put, done}
 use Rattle.base64.proofs.Putting.{put-two, put-three, has-room}
 use Rattle.base64.specs.Base64.{before, decode, withoutBlanks}
-use Rattle.base64.specs.Answers.{decodedOf, leftIn}
+use Rattle.base64.specs.Answers.{decodedOf, leftIn, octetsIn}
 use Rattle.base64.specs.Steps.{NextGroup, sizeOf, Room}
 use Rattle.base64.proofs.Measuring.{nearer, read-three, read-two, read-one, read-end, read-broken}
 use Rattle.base64.specs.declared.Next.{Next}
@@ -24,16 +23,12 @@ use Rattle.base64.specs.declared.Size.{Size}
 use Rattle.base64.specs.declared.Size.the-variants.{Of, Wrong}
 use Rattle.base64.specs.declared.Decoded.the-variants.{Octets, NotBase64, NoRoom}
 
-unfoldable pub octetsIn : Option (List ℕ) → List ℕ
-octetsIn none = []
-octetsIn (some w) = w
-
 in-some : (o : Option (List ℕ)) (w : List ℕ) → o ≡ some w → octetsIn o ≡ w
 unfolding octetsIn
 in-some o w e = rw e
 
 -- what a text stands for, where it goes on with three octets
-behind-three : (w v : List ℕ) (o : Option (List ℕ)) → before w o ≡ some v → (o ≡ some (octetsIn o)) × (v ≡ w ++ octetsIn o)
+pub behind-three : (w v : List ℕ) (o : Option (List ℕ)) → before w o ≡ some v → (o ≡ some (octetsIn o)) × (v ≡ w ++ octetsIn o)
 unfolding before octetsIn
 behind-three w v none e = let z : _≡_ {A = ℕ} 0 1 = cc in absurd (omega arith)
 behind-three w v (some u) e = (refl, cc)

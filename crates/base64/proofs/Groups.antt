@@ -1,10 +1,11 @@
 -- What four characters stand for, by the cases of the rule.
 --     low-value                 a sign's value is below 64
---     three-is .. broken-first  each case of `closed` and `grouped`
---     the ruleset               grouping, for `three`, `two`, `one`, `closed_group`, `signed_group` and `group_of`
+--     three-is .. one-not      each case of `closed`
+--     broken-third .. two-values    the same of signs that were found
+--     the ruleset               grouping, for `three`, `two`, `one`, `closed_group` and `group_of`
 -- Assumes nothing.
 use Prim.Native.Nat.{ℕ, _+_, _*_, _/_, _%_, _<_}
-use mathlib.Core.Path.{_≡_, refl, _∙_}
+use mathlib.Core.Path.{_≡_, refl, sym, _∙_}
 use borrow.Author.Needs.{needs}
 use borrow.Author.Tests.{eq-eqb, ne-eqb}
 use Rattle.base64.specs.Base64.{signOf, closed, grouped, groupOf}
@@ -38,55 +39,55 @@ module _ (p q : ℕ) where
   unfolding closed
   one-not e = rw (ne-eqb (q % 16) 0 e)
 
--- the same of signs that were found to be such
-module _ (p q : ℕ) (x y : Sign) where
-  pub closed-three : (g : Group) (r s : ℕ) → x ≡ Value r → y ≡ Value s → g ≡ closed p q (Value r) (Value s) → g ≡ closed p q x y
-  closed-three g r s e f h = cc
-
-  pub closed-two : (g : Group) (r : ℕ) → x ≡ Value r → y ≡ Pad → g ≡ closed p q (Value r) Pad → g ≡ closed p q x y
-  closed-two g r e f h = cc
-
-  pub closed-one : (g : Group) → x ≡ Pad → y ≡ Pad → g ≡ closed p q Pad Pad → g ≡ closed p q x y
-  closed-one g e f h = cc
-
-  pub broken-third : x ≡ Other → Broken ≡ closed p q x y
+-- `closed_group`, by the signs that were found
+module _ (p q c d : ℕ) (x : Sign) (e : x ≡ signOf c) where
+  pub broken-third : x ≡ Other → Broken ≡ closed p q (signOf c) (signOf d)
   unfolding closed
-  broken-third e = rw e
+  broken-third k = rw (sym e ∙ k)
 
-  pub broken-fourth : (r : ℕ) → x ≡ Value r → y ≡ Other → Broken ≡ closed p q x y
-  unfolding closed
-  broken-fourth r e f = rw (e, f)
+  module _ (y : Sign) (f : y ≡ signOf d) where
+    pub closed-three : (g : Group) (r s : ℕ) → x ≡ Value r → y ≡ Value s → g ≡ closed p q (Value r) (Value s) → g ≡ closed p q (signOf c) (signOf d)
+    closed-three g r s k l h = cc
 
-  pub half-padded : (s : ℕ) → x ≡ Pad → y ≡ Value s → Broken ≡ closed p q x y
-  unfolding closed
-  half-padded s e f = rw (e, f)
+    pub closed-two : (g : Group) (r : ℕ) → x ≡ Value r → y ≡ Pad → g ≡ closed p q (Value r) Pad → g ≡ closed p q (signOf c) (signOf d)
+    closed-two g r k l h = cc
 
-  pub half-broken : x ≡ Pad → y ≡ Other → Broken ≡ closed p q x y
-  unfolding closed
-  half-broken e f = rw (e, f)
+    pub closed-one : (g : Group) → x ≡ Pad → y ≡ Pad → g ≡ closed p q Pad Pad → g ≡ closed p q (signOf c) (signOf d)
+    closed-one g k l h = cc
 
-module _ (u v x y : Sign) where
-  pub grouped-closed : (g : Group) (p q : ℕ) → u ≡ Value p → v ≡ Value q → g ≡ closed p q x y → g ≡ grouped u v x y
+    pub broken-fourth : (r : ℕ) → x ≡ Value r → y ≡ Other → Broken ≡ closed p q (signOf c) (signOf d)
+    unfolding closed
+    broken-fourth r k l = rw (sym e ∙ k, sym f ∙ l)
+
+    pub half-padded : (s : ℕ) → x ≡ Pad → y ≡ Value s → Broken ≡ closed p q (signOf c) (signOf d)
+    unfolding closed
+    half-padded s k l = rw (sym e ∙ k, sym f ∙ l)
+
+    pub half-broken : x ≡ Pad → y ≡ Other → Broken ≡ closed p q (signOf c) (signOf d)
+    unfolding closed
+    half-broken k l = rw (sym e ∙ k, sym f ∙ l)
+
+-- `group_of`
+module _ (a b c d : ℕ) (u : Sign) (e : u ≡ signOf a) where
+  pub pad-first : u ≡ Pad → Broken ≡ groupOf a b c d
   unfolding grouped
-  grouped-closed g p q e f h = rw (e, f) h
+  pad-first k = rw (sym e ∙ k)
 
-  pub pad-first : u ≡ Pad → Broken ≡ grouped u v x y
+  pub broken-first : u ≡ Other → Broken ≡ groupOf a b c d
   unfolding grouped
-  pad-first e = rw e
+  broken-first k = rw (sym e ∙ k)
 
-  pub broken-first : u ≡ Other → Broken ≡ grouped u v x y
-  unfolding grouped
-  broken-first e = rw e
+  module _ (p : ℕ) (k : u ≡ Value p) (v : Sign) (f : v ≡ signOf b) where
+    pub pad-second : v ≡ Pad → Broken ≡ groupOf a b c d
+    unfolding grouped
+    pad-second l = rw (sym e ∙ k, sym f ∙ l)
 
-  pub pad-second : (p : ℕ) → u ≡ Value p → v ≡ Pad → Broken ≡ grouped u v x y
-  unfolding grouped
-  pad-second p e f = rw (e, f)
+    pub broken-second : v ≡ Other → Broken ≡ groupOf a b c d
+    unfolding grouped
+    broken-second l = rw (sym e ∙ k, sym f ∙ l)
 
-  pub broken-second : (p : ℕ) → u ≡ Value p → v ≡ Other → Broken ≡ grouped u v x y
-  unfolding grouped
-  broken-second p e f = rw (e, f)
+    pub two-values : (g : Group) (q : ℕ) → v ≡ Value q → g ≡ closed p q (signOf c) (signOf d) → g ≡ groupOf a b c d
+    unfolding grouped
+    two-values g q l h = rw (sym e ∙ k, sym f ∙ l) h
 
-  pub of-signs : (g : Group) (a b c d : ℕ) → u ≡ signOf a → v ≡ signOf b → x ≡ signOf c → y ≡ signOf d → g ≡ grouped u v x y → g ≡ groupOf a b c d
-  of-signs g a b c d e f h k t = t ∙ rw (e, f, h, k)
-
-pub ruleset grouping = (low-value, three-is, two-is, two-not, one-is, one-not, closed-three, closed-two, closed-one, broken-third, broken-fourth, half-padded, half-broken, grouped-closed, pad-first, broken-first, pad-second, broken-second, of-signs, needs)
+pub ruleset grouping = (low-value, three-is, two-is, two-not, one-is, one-not, broken-third, closed-three, closed-two, closed-one, broken-fourth, half-padded, half-broken, pad-first, broken-first, pad-second, broken-second, two-values, needs)

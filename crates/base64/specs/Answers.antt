@@ -1,9 +1,10 @@
 -- From what the rule gives to what the code answers and leaves in lent memory.
 --     decodedOf    the answer for a text that stands for these octets, or for none, with so much room
+--     octetsIn     the octets, where there are some
 --     leftIn       what the lent memory holds after it: the octets, or what it held
 use Prim.Native.Nat.{ℕ}
 use mathlib.Core.Bool.{cond}
-use mathlib.Core.List.{List}
+use mathlib.Core.List.{List, []}
 use mathlib.Core.Option.{Option, some, none}
 use lib.Dec.{leb}
 use lib.ListN.{length}
@@ -14,6 +15,10 @@ use Rattle.base64.specs.declared.Decoded.the-variants.{Octets, NotBase64
 unfoldable pub decodedOf : Option (List ℕ) → ℕ → Decoded
 decodedOf none room = NotBase64
 decodedOf (some w) room = cond (leb (length w) room) (Octets (length w)) NoRoom
+
+unfoldable pub octetsIn : Option (List ℕ) → List ℕ
+octetsIn none = []
+octetsIn (some w) = w
 
 unfoldable pub leftIn : Option (List ℕ) → List ℕ → List ℕ
 leftIn none d = d

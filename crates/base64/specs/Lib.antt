@@ -1,3 +1,4 @@
 pub mod Base64
+pub mod Joined
 pub mod Answers
 pub mod Steps

@@ -135,38 +135,22 @@ fn one(p: u8, q: u8) -> Group
     }
 }
 
-// Two values and the signs of two characters more.
-fn closed_group(p: u8, q: u8, third: Sign, fourth: Sign) -> Group
-    requires { ⌜ (p < 64) × (q < 64) × Low third × Low fourth ⌝ }
-    ensures { λ g. ⌜ g ≡ closed p q third fourth ⌝ }
+// Two values and two characters more.
+fn closed_group(table: &[u8; 256], p: u8, q: u8, c: u8, d: u8) -> Group
+    requires { ⌜ Signs (now table) × (p < 64) × (q < 64) ⌝ }
+    ensures { λ g. ⌜ g ≡ closed p q (signOf c) (signOf d) ⌝ }
 {
-    match third {
-        Sign::Value(r) => match fourth {
+    match sign_of(table, c) {
+        Sign::Value(r) => match sign_of(table, d) {
             Sign::Value(s) => three(p, q, r, s),
             Sign::Pad => two(p, q, r),
             Sign::Other => Group::Broken,
         },
-        Sign::Pad => match fourth {
+        Sign::Pad => match sign_of(table, d) {
             Sign::Value(_) => Group::Broken,
             Sign::Pad => one(p, q),
             Sign::Other => Group::Broken,
         },
-        Sign::Other => Group::Broken,
-    }
-}
-
-// The signs of four characters.
-fn signed_group(first: Sign, second: Sign, third: Sign, fourth: Sign) -> Group
-    requires { ⌜ Low first × Low second × Low third × Low fourth ⌝ }
-    ensures { λ g. ⌜ g ≡ grouped first second third fourth ⌝ }
-{
-    match first {
-        Sign::Value(p) => match second {
-            Sign::Value(q) => closed_group(p, q, third, fourth),
-            Sign::Pad => Group::Broken,
-            Sign::Other => Group::Broken,
-        },
-        Sign::Pad => Group::Broken,
         Sign::Other => Group::Broken,
     }
 }
@@ -176,12 +160,15 @@ fn group_of(table: &[u8; 256], a: u8, b: u8, c: u8, d: u8) -> Group
     requires { ⌜ Signs (now table) ⌝ }
     ensures { λ r. ⌜ r ≡ groupOf a b c d ⌝ }
 {
-    signed_group(
-        sign_of(table, a),
-        sign_of(table, b),
-        sign_of(table, c),
-        sign_of(table, d),
-    )
+    match sign_of(table, a) {
+        Sign::Value(p) => match sign_of(table, b) {
+            Sign::Value(q) => closed_group(table, p, q, c, d),
+            Sign::Pad => Group::Broken,
+            Sign::Other => Group::Broken,
+        },
+        Sign::Pad => Group::Broken,
+        Sign::Other => Group::Broken,
+    }
 }
 
 fn is_blank(x: u8) -> bool

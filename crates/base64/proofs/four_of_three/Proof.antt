@@ -1,43 +1,32 @@
+-- `base64::four_of_three` meets its contract: the laws of `Laying` answer every need. Assumes nothing.
+use Rattle.base64.proofs.Laying.{fouring}
 use Rattle.base64.proofs.four_of_three.Statement.{statement}
 use Rattle.base64.proofs.four_of_three.Tie as tie
-use Rattle.base64.proofs.four_of_three.Reads as reads
-use Rattle.base64.proofs.four_of_three.Lts as lts
-use Rattle.base64.proofs.letter_of.Reads as letter-of-reads
-use Rattle.base64.proofs.Laying.{fouring}
 
--- src/lib.rt:133:10
 letter-of-requires : tie.Need-letter-of-requires
 letter-of-requires c κs = search fouring
 
--- src/lib.rt:133:38
 mul-letter-of : tie.Need-mul-letter-of
 mul-letter-of c = search fouring
 
--- src/lib.rt:133:38
 add-letter-of : tie.Need-add-letter-of
 add-letter-of c = search fouring
 
--- src/lib.rt:133:28
 letter-of-requires-2 : tie.Need-letter-of-requires-2
 letter-of-requires-2 c κs = search fouring
 
--- src/lib.rt:133:70
 mul-letter-of-2 : tie.Need-mul-letter-of-2
 mul-letter-of-2 c = search fouring
 
--- src/lib.rt:133:70
 add-letter-of-2 : tie.Need-add-letter-of-2
 add-letter-of-2 c = search fouring
 
--- src/lib.rt:133:60
 letter-of-requires-3 : tie.Need-letter-of-requires-3
 letter-of-requires-3 c κs = search fouring
 
--- src/lib.rt:133:92
 letter-of-requires-4 : tie.Need-letter-of-requires-4
 letter-of-requires-4 c κs = search fouring
 
--- src/lib.rt:130:1
 returns : tie.Need-returns
 returns c = search fouring
 

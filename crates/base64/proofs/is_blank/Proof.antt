@@ -1,14 +1,11 @@
+-- `base64::is_blank` meets its contract: the laws of `Blanks` answer every need. Assumes nothing.
+use Rattle.base64.proofs.Blanks.{skipping}
 use Rattle.base64.proofs.is_blank.Statement.{statement}
 use Rattle.base64.proofs.is_blank.Tie as tie
-use Rattle.base64.proofs.is_blank.Reads as reads
-use Rattle.base64.proofs.is_blank.Lts as lts
-use Rattle.base64.proofs.Blanks.{skipping}
 
--- src/lib.rt:191:9
 returns : tie.Need-returns
 returns c = search skipping
 
--- src/lib.rt:187:1
 returns-2 : tie.Need-returns-2
 returns-2 c = search skipping
 

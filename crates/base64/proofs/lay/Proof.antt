@@ -1,13 +1,9 @@
+-- `base64::lay` meets its contract: the laws of `Laying` keep the loop's invariant and answer every need. Assumes nothing.
 use Prim.Native.Nat.{_-_}
 use lib.ListN.{length}
-use Rattle.base64.proofs.Laying.{Laid}
+use Rattle.base64.proofs.Laying.{Laid, laying}
 use Rattle.base64.proofs.lay.Statement.{statement}
 use Rattle.base64.proofs.lay.Tie as tie
-use Rattle.base64.proofs.lay.Reads as reads
-use Rattle.base64.proofs.lay.Lts as lts
-use Rattle.base64.proofs.put_group.Reads as put-group-reads
-use Rattle.base64.proofs.takes_after.Reads as takes-after-reads
-use Rattle.base64.proofs.Laying.{laying}
 
 abbrev Inv-loop : tie.InvT-loop
 Inv-loop key out₀ at o₀ i₀ takes₀ out o i takes = Laid key out₀ out at i o takes
@@ -15,51 +11,39 @@ Inv-loop key out₀ at o₀ i₀ takes₀ out o i takes = Laid key out₀ out at
 abbrev μ-loop : tie.MeasureT-loop
 μ-loop key out₀ at o₀ i₀ takes₀ out o i takes = length key - i
 
--- src/lib.rt:200:5
 loop-holds : tie.Need-loop-holds Inv-loop μ-loop
 loop-holds c = search laying
 
--- src/lib.rt:201:9
 put-group-requires : tie.Need-put-group-requires Inv-loop μ-loop
 put-group-requires c κs = search laying
 
--- src/lib.rt:202:9
 takes-after-requires : tie.Need-takes-after-requires Inv-loop μ-loop
 takes-after-requires c κs = search laying
 
--- src/lib.rt:203:9
 add-i : tie.Need-add-i Inv-loop μ-loop
 add-i c = search laying
 
--- src/lib.rt:200:5
 loop-less : tie.Need-loop-less Inv-loop μ-loop
 loop-less c = search laying
 
--- src/lib.rt:200:5
 loop-again : tie.Need-loop-again Inv-loop μ-loop
 loop-again c = search laying
 
--- src/lib.rt:205:5
 slice-write-out : tie.Need-slice-write-out Inv-loop μ-loop
 slice-write-out c = search laying
 
--- src/lib.rt:206:9
 add-out : tie.Need-add-out Inv-loop μ-loop
 add-out c = search laying
 
--- src/lib.rt:206:5
 slice-write-out-2 : tie.Need-slice-write-out-2 Inv-loop μ-loop
 slice-write-out-2 c = search laying
 
--- src/lib.rt:207:5
 add-result : tie.Need-add-result Inv-loop μ-loop
 add-result c = search laying
 
--- src/lib.rt:192:1
 same-length : tie.Need-same-length Inv-loop μ-loop
 same-length c = search laying
 
--- src/lib.rt:192:1
 returns : tie.Need-returns Inv-loop μ-loop
 returns c = search laying
 

@@ -1,22 +1,17 @@
+-- `base64::one` meets its contract: the laws of `Groups` answer every need. Assumes nothing.
+use Rattle.base64.proofs.Groups.{grouping}
 use Rattle.base64.proofs.one.Statement.{statement}
 use Rattle.base64.proofs.one.Tie as tie
-use Rattle.base64.proofs.one.Reads as reads
-use Rattle.base64.proofs.one.Lts as lts
-use Rattle.base64.proofs.Groups.{grouping}
 
--- src/lib.rt:132:20
 mul-t6 : tie.Need-mul-t6
 mul-t6 c = search grouping
 
--- src/lib.rt:132:20
 add-t8 : tie.Need-add-t8
 add-t8 c = search grouping
 
--- src/lib.rt:127:1
 returns : tie.Need-returns
 returns c = search grouping
 
--- src/lib.rt:127:1
 returns-2 : tie.Need-returns-2
 returns-2 c = search grouping
 

@@ -1,22 +1,17 @@
+-- `base64::sign_of` meets its contract: the laws of `Alphabet` answer every need. Assumes nothing.
+use Rattle.base64.proofs.Alphabet.{finding}
 use Rattle.base64.proofs.sign_of.Statement.{statement}
 use Rattle.base64.proofs.sign_of.Tie as tie
-use Rattle.base64.proofs.sign_of.Reads as reads
-use Rattle.base64.proofs.sign_of.Lts as lts
-use Rattle.base64.proofs.Alphabet.{finding}
 
--- src/lib.rt:99:17
 element-copy-out-value : tie.Need-element-copy-out-value
 element-copy-out-value c = search finding
 
--- src/lib.rt:101:9
 returns : tie.Need-returns
 returns c = search finding
 
--- src/lib.rt:104:9
 returns-2 : tie.Need-returns-2
 returns-2 c = search finding
 
--- src/lib.rt:94:1
 returns-3 : tie.Need-returns-3
 returns-3 c = search finding
 

@@ -1,71 +1,53 @@
+-- `base64::step` meets its contract: the laws of `Nexts` answer every need. Assumes nothing.
+use Rattle.base64.proofs.Nexts.{stepping}
 use Rattle.base64.proofs.step.Statement.{statement}
 use Rattle.base64.proofs.step.Tie as tie
-use Rattle.base64.proofs.step.Reads as reads
-use Rattle.base64.proofs.step.Lts as lts
-use Rattle.base64.proofs.next_letter.Reads as next-letter-reads
-use Rattle.base64.proofs.Nexts.{stepping}
 
--- src/lib.rt:186:22
 enum-known-group : tie.Need-enum-known-group
 enum-known-group c = search stepping
 
--- src/lib.rt:187:20
 enum-known-group-2 : tie.Need-enum-known-group-2
 enum-known-group-2 c = search stepping
 
--- src/lib.rt:187:35
 next-letter-requires : tie.Need-next-letter-requires
 next-letter-requires c κs = search stepping
 
--- src/lib.rt:188:28
 enum-told : tie.Need-enum-told
 enum-told c = search stepping
 
--- src/lib.rt:189:33
 enum-told-2 : tie.Need-enum-told-2
 enum-told-2 c = search stepping
 
--- src/lib.rt:191:20
 enum-known-group-3 : tie.Need-enum-known-group-3
 enum-known-group-3 c = search stepping
 
--- src/lib.rt:191:32
 next-letter-requires-2 : tie.Need-next-letter-requires-2
 next-letter-requires-2 c κs = search stepping
 
--- src/lib.rt:192:28
 enum-told-3 : tie.Need-enum-told-3
 enum-told-3 c = search stepping
 
--- src/lib.rt:193:33
 enum-told-4 : tie.Need-enum-told-4
 enum-told-4 c = search stepping
 
--- src/lib.rt:195:26
 enum-told-5 : tie.Need-enum-told-5
 enum-told-5 c = search stepping
 
--- src/lib.rt:182:1
 returns : tie.Need-returns
 returns c = search stepping
 
--- src/lib.rt:182:1
 returns-2 : tie.Need-returns-2
 returns-2 c = search stepping
 
--- src/lib.rt:182:1
 returns-3 : tie.Need-returns-3
 returns-3 c = search stepping
 
--- src/lib.rt:182:1
 returns-4 : tie.Need-returns-4
 returns-4 c = search stepping
 
--- src/lib.rt:182:1
 returns-5 : tie.Need-returns-5
 returns-5 c = search stepping
 
--- src/lib.rt:182:1
 returns-6 : tie.Need-returns-6
 returns-6 c = search stepping
 

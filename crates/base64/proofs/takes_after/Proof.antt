@@ -1,18 +1,14 @@
+-- `base64::takes_after` meets its contract: the laws of `Laying` answer every need. Assumes nothing.
+use Rattle.base64.proofs.Laying.{breaking}
 use Rattle.base64.proofs.takes_after.Statement.{statement}
 use Rattle.base64.proofs.takes_after.Tie as tie
-use Rattle.base64.proofs.takes_after.Reads as reads
-use Rattle.base64.proofs.takes_after.Lts as lts
-use Rattle.base64.proofs.Laying.{breaking}
 
--- src/lib.rt:180:33
 sub-result : tie.Need-sub-result
 sub-result c = search breaking
 
--- src/lib.rt:177:1
 returns : tie.Need-returns
 returns c = search breaking
 
--- src/lib.rt:177:1
 returns-2 : tie.Need-returns-2
 returns-2 c = search breaking
 

@@ -1,34 +1,26 @@
+-- `base64::three` meets its contract: the laws of `Groups` answer every need. Assumes nothing.
+use Rattle.base64.proofs.Groups.{grouping}
 use Rattle.base64.proofs.three.Statement.{statement}
 use Rattle.base64.proofs.three.Tie as tie
-use Rattle.base64.proofs.three.Reads as reads
-use Rattle.base64.proofs.three.Lts as lts
-use Rattle.base64.proofs.Groups.{grouping}
 
--- src/lib.rt:113:18
 mul-t5 : tie.Need-mul-t5
 mul-t5 c = search grouping
 
--- src/lib.rt:113:18
 add-t7 : tie.Need-add-t7
 add-t7 c = search grouping
 
--- src/lib.rt:113:34
 mul-t9 : tie.Need-mul-t9
 mul-t9 c = search grouping
 
--- src/lib.rt:113:34
 add-t11 : tie.Need-add-t11
 add-t11 c = search grouping
 
--- src/lib.rt:113:55
 mul-t13 : tie.Need-mul-t13
 mul-t13 c = search grouping
 
--- src/lib.rt:113:55
 add-t14 : tie.Need-add-t14
 add-t14 c = search grouping
 
--- src/lib.rt:109:1
 returns : tie.Need-returns
 returns c = search grouping
 

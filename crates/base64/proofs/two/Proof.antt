@@ -1,30 +1,23 @@
+-- `base64::two` meets its contract: the laws of `Groups` answer every need. Assumes nothing.
+use Rattle.base64.proofs.Groups.{grouping}
 use Rattle.base64.proofs.two.Statement.{statement}
 use Rattle.base64.proofs.two.Tie as tie
-use Rattle.base64.proofs.two.Reads as reads
-use Rattle.base64.proofs.two.Lts as lts
-use Rattle.base64.proofs.Groups.{grouping}
 
--- src/lib.rt:121:20
 mul-t7 : tie.Need-mul-t7
 mul-t7 c = search grouping
 
--- src/lib.rt:121:20
 add-t9 : tie.Need-add-t9
 add-t9 c = search grouping
 
--- src/lib.rt:121:36
 mul-t11 : tie.Need-mul-t11
 mul-t11 c = search grouping
 
--- src/lib.rt:121:36
 add-t13 : tie.Need-add-t13
 add-t13 c = search grouping
 
--- src/lib.rt:116:1
 returns : tie.Need-returns
 returns c = search grouping
 
--- src/lib.rt:116:1
 returns-2 : tie.Need-returns-2
 returns-2 c = search grouping
 

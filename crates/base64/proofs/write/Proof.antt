@@ -1,12 +1,9 @@
+-- `base64::write` meets its contract: the laws of `Filling` keep the loop's invariant and answer every need. Assumes nothing.
 use Prim.Native.Nat.{_-_}
 use lib.ListN.{length}
-use Rattle.base64.proofs.Filling.{Filled}
+use Rattle.base64.proofs.Filling.{Filled, filling}
 use Rattle.base64.proofs.write.Statement.{statement}
 use Rattle.base64.proofs.write.Tie as tie
-use Rattle.base64.proofs.write.Reads as reads
-use Rattle.base64.proofs.write.Lts as lts
-use Rattle.base64.proofs.next_group.Reads as next-group-reads
-use Rattle.base64.proofs.Filling.{filling}
 
 abbrev Inv-loop : tie.InvT-loop
 Inv-loop table src out₀ o₀ i₀ out o i = Filled src out₀ out i o
@@ -14,111 +11,84 @@ Inv-loop table src out₀ o₀ i₀ out o i = Filled src out₀ out i o
 abbrev μ-loop : tie.MeasureT-loop
 μ-loop table src out₀ o₀ i₀ out o i = length src - i
 
--- src/lib.rt:264:5
 loop-holds : tie.Need-loop-holds Inv-loop μ-loop
 loop-holds c = search filling
 
--- src/lib.rt:265:15
 next-group-requires : tie.Need-next-group-requires Inv-loop μ-loop
 next-group-requires c κs = search filling
 
--- src/lib.rt:266:25
 enum-known-x : tie.Need-enum-known-x Inv-loop μ-loop
 enum-known-x c = search filling
 
--- src/lib.rt:267:17
 slice-write-out : tie.Need-slice-write-out Inv-loop μ-loop
 slice-write-out c = search filling
 
--- src/lib.rt:268:21
 add-out : tie.Need-add-out Inv-loop μ-loop
 add-out c = search filling
 
--- src/lib.rt:268:17
 slice-write-out-2 : tie.Need-slice-write-out-2 Inv-loop μ-loop
 slice-write-out-2 c = search filling
 
--- src/lib.rt:269:21
 add-out-2 : tie.Need-add-out-2 Inv-loop μ-loop
 add-out-2 c = search filling
 
--- src/lib.rt:269:17
 slice-write-out-3 : tie.Need-slice-write-out-3 Inv-loop μ-loop
 slice-write-out-3 c = search filling
 
--- src/lib.rt:270:17
 add-o : tie.Need-add-o Inv-loop μ-loop
 add-o c = search filling
 
--- src/lib.rt:264:5
 loop-less : tie.Need-loop-less Inv-loop μ-loop
 loop-less c = search filling
 
--- src/lib.rt:264:5
 loop-again : tie.Need-loop-again Inv-loop μ-loop
 loop-again c = search filling
 
--- src/lib.rt:273:23
 enum-known-x-2 : tie.Need-enum-known-x-2 Inv-loop μ-loop
 enum-known-x-2 c = search filling
 
--- src/lib.rt:274:17
 slice-write-out-4 : tie.Need-slice-write-out-4 Inv-loop μ-loop
 slice-write-out-4 c = search filling
 
--- src/lib.rt:275:21
 add-out-3 : tie.Need-add-out-3 Inv-loop μ-loop
 add-out-3 c = search filling
 
--- src/lib.rt:275:17
 slice-write-out-5 : tie.Need-slice-write-out-5 Inv-loop μ-loop
 slice-write-out-5 c = search filling
 
--- src/lib.rt:276:17
 same-length : tie.Need-same-length Inv-loop μ-loop
 same-length c = search filling
 
--- src/lib.rt:276:17
 returns : tie.Need-returns Inv-loop μ-loop
 returns c = search filling
 
--- src/lib.rt:278:23
 enum-known-x-3 : tie.Need-enum-known-x-3 Inv-loop μ-loop
 enum-known-x-3 c = search filling
 
--- src/lib.rt:279:17
 slice-write-out-6 : tie.Need-slice-write-out-6 Inv-loop μ-loop
 slice-write-out-6 c = search filling
 
--- src/lib.rt:280:17
 same-length-2 : tie.Need-same-length-2 Inv-loop μ-loop
 same-length-2 c = search filling
 
--- src/lib.rt:280:17
 returns-2 : tie.Need-returns-2 Inv-loop μ-loop
 returns-2 c = search filling
 
--- src/lib.rt:282:26
 enum-told : tie.Need-enum-told Inv-loop μ-loop
 enum-told c = search filling
 
--- src/lib.rt:282:26
 same-length-3 : tie.Need-same-length-3 Inv-loop μ-loop
 same-length-3 c = search filling
 
--- src/lib.rt:282:26
 returns-3 : tie.Need-returns-3 Inv-loop μ-loop
 returns-3 c = search filling
 
--- src/lib.rt:283:29
 enum-told-2 : tie.Need-enum-told-2 Inv-loop μ-loop
 enum-told-2 c = search filling
 
--- src/lib.rt:283:29
 same-length-4 : tie.Need-same-length-4 Inv-loop μ-loop
 same-length-4 c = search filling
 
--- src/lib.rt:283:29
 returns-4 : tie.Need-returns-4 Inv-loop μ-loop
 returns-4 c = search filling
 
