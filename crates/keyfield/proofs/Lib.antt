@@ -4,3 +4,6 @@ pub mod Trimming
 pub mod Cutting
 pub mod Naming
 pub mod Stepping
+pub mod Scanning
+pub mod Keying
+pub mod Reading
