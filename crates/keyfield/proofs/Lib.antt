@@ -7,3 +7,5 @@ pub mod Stepping
 pub mod Scanning
 pub mod Keying
 pub mod Reading
+pub mod Counted
+pub mod Worked

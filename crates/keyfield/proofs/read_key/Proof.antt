@@ -7,7 +7,7 @@ use Rattle.octets.proofs.put.Reads as put-reads
 use native.Mathlib.Omega.{arith}
 use Rattle.keyfield.proofs.Keying.{key-most, keying}
 
--- src/lib.rt:302:32
+-- x
 slice-aggregate-decode : tie.Need-slice-aggregate-decode
 slice-aggregate-decode c = search keying
 
