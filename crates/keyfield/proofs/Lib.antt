@@ -9,3 +9,5 @@ pub mod Keying
 pub mod Reading
 pub mod Counted
 pub mod Worked
+pub mod Fields
+pub mod Told
