@@ -11,3 +11,4 @@ pub mod Counted
 pub mod Worked
 pub mod Fields
 pub mod Told
+pub mod ReadBack
