@@ -3,14 +3,14 @@
 --     cut-holds, cut-without      whether the part holds such an octet
 --     cut-pieces, cut-last        the pieces of the part: one, and those of what is behind it; or one alone
 -- Assumes nothing.
-use Prim.Native.Nat.{ℕ, suc, zero, _+_, _-_, _<_, _≤_}
-use mathlib.Core.Path.{_≡_, refl, sym, ap, _∙_}
-use mathlib.Core.Bool.{Bool, true, false}
+use Prim.Native.Nat.{ℕ, suc, _+_, _-_, _<_, _≤_}
+use mathlib.Core.Path.{_≡_, refl, sym, _∙_}
+use mathlib.Core.Bool.{true, false}
 use mathlib.Core.List.{List, [], _∷_}
 use native.Mathlib.Omega.{arith}
 use borrow.Author.Tests.{lt-ltb, le-ltb}
 use lib.Dec.{eqb}
-use lib.ListN.{length, take, drop}
+use lib.ListN.{length, take}
 use Rattle.address.specs.Pieces.{pieces, before, behind}
 use Rattle.address.proofs.Every.{by-test}
 use Rattle.address.proofs.Pieces.{others, pieces-first, pieces-sides, behind-drop}

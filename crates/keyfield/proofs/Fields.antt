@@ -1,20 +1,20 @@
 -- What a valid field says, as callers ask for it.
 --     said-plain                                the address of what a value says is plain
---     KeyOf, key-parts                          a key is what its text decodes to
+--     KeyOf, key-parts, key-made                a key is what its text decodes to, 1 to 2,048 octets
 --     FieldOf, field-parts                      a field is made of what its value says and of its key
 --     field-canonical, field-plain              its address is canonical, and plain
---     field-least, field-most, field-octets     its key has 1 to 2,048 octets
+--     field-least, field-most, field-octets     its key has 1 to 2,048 octets, which are octets
 -- Assumes nothing.
 use Prim.Native.Nat.{ℕ, _≤_}
 use mathlib.Core.Path.{_≡_, refl, sym, ap, _∙_}
-use mathlib.Core.Bool.{Bool, true, false, cond, _&&_}
+use mathlib.Core.Bool.{Bool, true}
 use mathlib.Core.List.{List, [], _∷_}
 use mathlib.Core.Option.{Option, some, none}
 use native.Mathlib.Omega.{arith}
-use borrow.Author.Tests.{leb-true}
+use borrow.Author.Tests.{leb-true, le-leb}
 use lib.Dec.{leb}
 use lib.ListN.{length}
-use Rattle.octets.specs.Octets.{AllOctets, ascii, sameOctets}
+use Rattle.octets.specs.Octets.{AllOctets}
 use Rattle.base64.specs.Base64.{decode, withoutBlanks}
 use Rattle.base64.proofs.Answered.{decode-octets}
 use Rattle.address.specs.Pieces.{pieces}
@@ -105,6 +105,10 @@ key-parts v k e =
       least = leb-true 1 (length k) (and-left (leb 1 (length k)) (leb (length k) 2048) (l .1));
       most = leb-true (length k) 2048 (and-right (leb 1 (length k)) (leb (length k) 2048) (l .1));
     }
+
+pub key-made : (v k : List ℕ) → KeyOf v k → keyOf v ≡ some k
+unfolding keyOf limited
+key-made v k h = rw (h .decoded, le-leb 1 (length k) (h .least), le-leb (length k) 2048 (h .most))
 
 -- a field is made of what its value says and of its key
 pub record FieldOf (s : List ℕ) (f : Field) : Type 0 where

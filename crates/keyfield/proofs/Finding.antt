@@ -3,14 +3,14 @@
 --     find-begin .. find-end          the loop's steps
 --     find-before, find-behind        what stands before and behind the place
 -- Assumes nothing.
-use Prim.Native.Nat.{ℕ, suc, zero, _+_, _-_, _<_, _≤_}
-use mathlib.Core.Path.{_≡_, refl, sym, ap, _∙_}
-use mathlib.Core.List.{List, [], _∷_, _++_}
+use Prim.Native.Nat.{ℕ, suc, _+_, _-_, _<_, _≤_}
+use mathlib.Core.Path.{_≡_, refl}
+use mathlib.Core.List.{List}
 use native.Mathlib.Omega.{arith}
 use borrow.Author.Needs.{needs}
 use borrow.Author.Tests.{eq-eqb, ne-eqb}
-use lib.ListN.{length, getD, take, drop}
-use Rattle.address.specs.Pieces.{before, behind}
+use lib.ListN.{length, getD}
+use Rattle.address.specs.Pieces.{before}
 use Rattle.keyfield.specs.Answers.{part, Within, FirstAt}
 use Rattle.keyfield.proofs.Parts.{part-none, part-first}
 

@@ -1,21 +1,20 @@
 -- The key that key data stands for, by what decoding into room for 2,048 octets answered.
---     within-limit                       what makes the decoded octets a key
 --     key-empty, key-wrong, key-long     there is none
 --     none-answered, none-left           what is then answered and left
 --     key-short .. key-left              there is one, which has room or has none
 --     key-most, put-there                its octets stand in that room, and fit the memory they are put into
 -- Assumes nothing.
 use Prim.Native.Nat.{ℕ, _+_, _-_, _<_, _≤_}
-use mathlib.Core.Path.{_≡_, refl, sym, ap, _∙_}
+use mathlib.Core.Path.{_≡_, sym, _∙_}
 use mathlib.Core.Bool.{and-false}
-use mathlib.Core.List.{List, [], _∷_, _++_}
-use mathlib.Core.Option.{Option, some, none}
+use mathlib.Core.List.{List}
+use mathlib.Core.Option.{some, none}
 use native.Mathlib.Omega.{arith}
 use native.Mathlib.Nat.{zero-add, sub-zero}
 use borrow.Author.Needs.{needs}
 use borrow.Author.Tests.{le-leb, lt-leb}
 use lib.ListN.{length, take, drop}
-use lib.Seq.{take-at, length-take-le}
+use lib.Seq.{take-at}
 use Rattle.octets.specs.Written.{putAt, onto}
 use Rattle.base64.specs.Base64.{decode, withoutBlanks}
 use Rattle.base64.specs.Answers.{decodedOf, octetsIn, leftIn}
@@ -25,14 +24,11 @@ use Rattle.base64.specs.declared.Decoded.the-variants.{Octets, NotBase64, NoRoo
 use Rattle.keyfield.specs.Field.{limited, keyOf}
 use Rattle.keyfield.specs.Answers.{keyAnswer}
 use Rattle.keyfield.specs.declared.Key.the-variants.{Length, NoKey, Short}
+use Rattle.keyfield.proofs.Fields.{key-made}
 
 -- the octets of a text that stands for some
 abbrev octets : List ℕ → List ℕ
 octets text = octetsIn (decode (withoutBlanks text))
-
-pub within-limit : (o : Option (List ℕ)) (k : List ℕ) → o ≡ some k → 1 ≤ length k → length k ≤ 2048 → limited o ≡ some k
-unfolding limited
-within-limit o k e l m = rw (e, le-leb 1 (length k) l, le-leb (length k) 2048 m)
 
 module _ (text : List ℕ) where
   module _ (e : keyOf text ≡ none) where
@@ -68,8 +64,9 @@ module _ (text : List ℕ) where
 
       module _ (some-octet : n ≡ 0 → ⊥) where
         key-is : keyOf text ≡ some (octets text)
-        unfolding keyOf
-        key-is = within-limit (decode (withoutBlanks text)) (octets text) (answered .0) (omega (arith, answered .1)) (omega (arith, answered .1, answered .2))
+        key-is =
+            key-made text (octets text)
+            (record { decoded = answered .0; least = omega (arith, answered .1); most = omega (arith, answered .1, answered .2) })
 
         module _ (d : List ℕ) where
           module _ (l : length d < n) where

@@ -4,20 +4,19 @@
 --     told-addr .. told-other           a piece whose name is known
 --     value-within-addr ..              where the value stands
 -- Assumes nothing.
-use Prim.Native.Nat.{ℕ, suc, zero, _+_, _-_, _<_, _≤_}
-use mathlib.Core.Path.{_≡_, refl, sym, ap, _∙_}
+use Prim.Native.Nat.{ℕ, _+_, _-_, _<_, _≤_}
+use mathlib.Core.Path.{_≡_, sym, _∙_}
 use mathlib.Core.Bool.{Bool, true, false}
-use mathlib.Core.List.{List, [], _∷_}
+use mathlib.Core.List.{List}
 use native.Mathlib.Omega.{arith}
 use borrow.Author.Needs.{needs}
 use lib.ListN.{length, take, drop}
 use Rattle.octets.specs.Octets.{ascii, sameOctets, startsWith}
-use Rattle.keyfield.specs.Field.{trimmed, nameOf, attribute, attributeOf}
+use Rattle.keyfield.specs.Field.{nameOf, attribute, attributeOf}
 use Rattle.keyfield.specs.Answers.{part, Within, FirstAt, Trimmed, attributeAt, ValueWithin, Tells}
 use Rattle.keyfield.specs.declared.Part.{Part}
 use Rattle.keyfield.specs.declared.Name.{Name}
 use Rattle.keyfield.specs.declared.Name.the-variants.{Addr as NAddr, PreferEncrypt as NPrefer, Keydata as NKeydata, Ignored as NIgnored, Unknown as NUnknown}
-use Rattle.keyfield.specs.declared.Attribute.{Attribute as Told}
 use Rattle.keyfield.specs.declared.Attribute.the-variants.{Addr, PreferEncrypt, Keydata, Ignored, Spoiling}
 use Rattle.keyfield.proofs.Cutting.{cut-before, cut-behind, cut-holds, cut-without}
 

@@ -5,29 +5,28 @@
 --     trimmed-same                     a text without blanks stays what it is when trimmed
 --     key-trimmed                      trimming key data does not change its key
 --     valueOf                          the value that is written for an address, a preference and the text of a key
---     read-back                        it is the field of that address in canonical form, that preference, and the key that the text stands for
+--     read-back, read-back-key         it is the field of that address in canonical form, that preference, and the key that the text stands for
 -- Assumes nothing.
-use Prim.Native.Nat.{ℕ, suc, zero, _+_, _<_, _≤_}
+use Prim.Native.Nat.{ℕ, _+_}
 use mathlib.Core.Path.{_≡_, refl, sym, ap, _∙_}
-use mathlib.Core.Bool.{Bool, true, false, cond, not, _&&_, _||_, false≢true, and-true}
-use mathlib.Core.List.{List, [], _∷_, _++_, append-nil, append-assoc, reverse, reverse-cons, reverse-reverse}
+use mathlib.Core.Bool.{Bool, true, false, cond, not, false≢true}
+use mathlib.Core.List.{List, [], _∷_, _++_, append-nil, reverse, reverse-cons, reverse-reverse}
 use mathlib.Core.Option.{Option, some, none}
 use native.Mathlib.Omega.{arith}
 use borrow.Author.Tests.{lt-ltb, eq-eqb, ne-eqb, not-true}
-use lib.Dec.{eqb, ltb}
+use lib.Dec.{eqb}
 use lib.ListN.{length, length-append}
-use Rattle.octets.specs.Octets.{ascii, octet, sameOctets, startsWith}
+use Rattle.octets.specs.Octets.{ascii, sameOctets}
 use Rattle.tokens.specs.Tokens.{blank, belongs}
-use Rattle.base64.specs.Base64.{decode, withoutBlanks, blank as blankIn}
+use Rattle.base64.specs.Base64.{withoutBlanks, blank as blankIn}
 use Rattle.base64.proofs.Blanks.{without-blank, without-one}
 use Rattle.address.specs.Pieces.{every, pieces, before, behind}
 use Rattle.address.specs.Address.{plain, canonical, addressOctet}
-use Rattle.address.proofs.Every.{by-test, and-left, and-right, every-append, every-weaker}
+use Rattle.address.proofs.Every.{and-left, and-right, every-append, every-weaker}
 use Rattle.address.proofs.Pieces.{others, before-into, behind-into, pieces-into, pieces-whole}
 use Rattle.address.proofs.Sides.{plain-octets, low-apart}
-use Rattle.keyfield.specs.Field.{trimmedFront, trimmedBack, trimmed, nameOf, Attribute, addr, preferEncrypt, keydata, attribute, holds, attributeOf, on, last, withAddress, withPreference, step, Said, mutualBy, saidWith, ifLast, saidFrom, saidOf, keyOf, Field, withKey, fieldBy, fieldOf}
-use Rattle.keyfield.specs.declared.Name.{Name}
-use Rattle.keyfield.specs.declared.Name.the-variants.{Addr, PreferEncrypt, Keydata}
+use Rattle.keyfield.specs.Field.{trimmedFront, trimmedBack, trimmed, nameOf, addr, preferEncrypt, keydata, attribute, holds, attributeOf, on, last, withAddress, withPreference, step, saidWith, ifLast, saidFrom, saidOf, keyOf, withKey, fieldBy, fieldOf}
+use Rattle.keyfield.specs.declared.Name.the-variants.{Keydata}
 use Rattle.keyfield.proofs.Trimming.{front-blank, front-other}
 
 abbrev pub other : ℕ → ℕ → Bool
@@ -213,3 +212,7 @@ module _ (a text : List ℕ) (p : plain a ≡ true) (t : every (other 59) text �
   pub read-back : (m : Bool) → fieldOf (valueOf a m text) ≡ withKey a m (keyOf text)
   unfolding fieldOf fieldBy
   read-back m = rw (written-said m, key-trimmed text)
+
+  pub read-back-key : (m : Bool) (k : List ℕ) → keyOf text ≡ some k → fieldOf (valueOf a m text) ≡ some (record { address = canonical a; isMutual = m; key = k })
+  unfolding withKey
+  read-back-key m k e = read-back m ∙ rw e

@@ -6,7 +6,6 @@ use Prim.Native.Nat.{ℕ, _+_, _-_, _<_, _≤_}
 use mathlib.Core.Path.{_≡_, refl, sym, ap, _∙_}
 use mathlib.Core.Logic.{⊎-elim}
 use mathlib.Core.List.{List, [], _∷_}
-use mathlib.Core.Option.{Option, some, none}
 use native.Mathlib.Omega.{arith}
 use borrow.Author.Needs.{needs}
 use lib.ListN.{length}
@@ -22,7 +21,7 @@ use Rattle.keyfield.specs.declared.Preference.the-variants.{Unstated}
 use Rattle.keyfield.specs.declared.Next.{Next}
 use Rattle.keyfield.specs.declared.Next.the-variants.{On, Last, Spoils}
 use Rattle.keyfield.specs.declared.Scanned.{Scanned}
-use Rattle.keyfield.specs.declared.Scanned.the-variants.{Whole, Broken}
+use Rattle.keyfield.specs.declared.Scanned.the-variants.{Broken}
 use Rattle.keyfield.proofs.Parts.{part-rest}
 use Rattle.keyfield.proofs.Cutting.{cut-pieces, cut-last}
 

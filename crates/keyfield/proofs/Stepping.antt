@@ -3,13 +3,12 @@
 --     preference-mutual .. preference-twice     the preference
 --     step-addr .. step-spoiling                a piece, from what it says
 -- Assumes nothing.
-use Prim.Native.Nat.{ℕ, _-_, _≤_}
-use mathlib.Core.Path.{_≡_, refl, sym, ap, _∙_}
+use Prim.Native.Nat.{ℕ, _-_}
+use mathlib.Core.Path.{_≡_, sym, _∙_}
 use mathlib.Core.Bool.{Bool, true, false}
 use mathlib.Core.List.{List}
-use mathlib.Core.Option.{some, none}
 use borrow.Author.Needs.{needs}
-use lib.ListN.{length, take, drop}
+use lib.ListN.{take, drop}
 use Rattle.octets.specs.Octets.{ascii, sameOctets}
 use Rattle.address.specs.Address.{plain}
 use Rattle.keyfield.specs.Field.{attributeOf, withAddress, withPreference, step, mutualBy}

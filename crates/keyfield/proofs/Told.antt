@@ -7,8 +7,8 @@
 --     kept-valid, kept-spoiled, kept-crowded     what the memory lent for the key then holds
 -- Assumes nothing.
 use Prim.Native.Nat.{ℕ, _<_, _≤_}
-use mathlib.Core.Path.{_≡_, refl, sym, ap, _∙_}
-use mathlib.Core.Bool.{Bool, true, false, cond}
+use mathlib.Core.Path.{_≡_, refl}
+use mathlib.Core.Bool.{Bool}
 use mathlib.Core.List.{List}
 use mathlib.Core.Option.{Option, some, none}
 use native.Mathlib.Omega.{arith}
@@ -20,7 +20,7 @@ use Rattle.base64.specs.Answers.{leftIn}
 use Rattle.address.specs.Address.{canonical}
 use Rattle.address.proofs.Every.{by-test}
 use Rattle.keyfield.specs.Field.{Field, fieldOf}
-use Rattle.keyfield.specs.Answers.{part, PlainAt, Outcome, valid, spoiled, crowded, outcomeOf, shown, AddressWithin, Answered, keyIn}
+use Rattle.keyfield.specs.Answers.{part, PlainAt, valid, spoiled, crowded, outcomeOf, shown, AddressWithin, Answered, keyIn}
 use Rattle.keyfield.specs.declared.Read.{Read}
 use Rattle.keyfield.specs.declared.Read.the-variants.{Valid, Spoiled, NoRoom}
 use Rattle.keyfield.proofs.Fields.{field-most}

@@ -7,14 +7,14 @@
 --     back-begin .. back-end        the steps of a loop that looks for that place
 --     trim-both                     both ends together
 -- Assumes nothing.
-use Prim.Native.Nat.{ℕ, suc, zero, _+_, _-_, _<_, _≤_}
+use Prim.Native.Nat.{ℕ, _+_, _-_, _<_, _≤_}
 use mathlib.Core.Path.{_≡_, refl, sym, ap, _∙_}
 use mathlib.Core.Bool.{Bool, true, false, not}
-use mathlib.Core.List.{List, [], _∷_, _++_, reverse, reverse-append, reverse-reverse}
+use mathlib.Core.List.{List, [], _∷_, _++_, reverse-append, reverse-reverse}
 use native.Mathlib.Omega.{arith}
 use borrow.Author.Needs.{needs}
 use borrow.Author.Tests.{not-true, not-false}
-use lib.ListN.{length, getD, take, drop}
+use lib.ListN.{length, getD}
 use Rattle.tokens.specs.Tokens.{blank}
 use Rattle.keyfield.specs.Field.{trimmedFront, trimmedBack, trimmed}
 use Rattle.keyfield.specs.Answers.{part, Within, TrimmedFrom, TrimmedTo, Trimmed}

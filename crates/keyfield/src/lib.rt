@@ -3,9 +3,8 @@
 ghost use mathlib.Core.Path.{_≡_};
 ghost use lib.ListN.{length};
 ghost use Rattle.base64.specs.Answers.{leftIn};
-ghost use Rattle.keyfield.specs.Field.{nameOf, attributeOf, withAddress, withPreference, step, mutualBy, saidOf, keyOf, fieldOf};
+ghost use Rattle.keyfield.specs.Field.{nameOf, attributeOf, withAddress, withPreference, step, mutualBy, keyOf, fieldOf};
 ghost use Rattle.keyfield.specs.Answers.{part, Within, FirstAt, TrimmedFrom, TrimmedTo, Trimmed, Tells, addressAt, Stands, stated, Steps, wholeOf, Scans, keyAnswer, Answered, keyIn};
-
 use base64::Decoded;
 
 // ".. decoding to 1 to 2,048 octets"

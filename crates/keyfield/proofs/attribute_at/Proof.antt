@@ -1,85 +1,62 @@
+-- `keyfield::attribute_at` meets its contract: the laws of `Naming` answer every need. Assumes nothing.
 use Rattle.keyfield.proofs.attribute_at.Statement.{statement}
 use Rattle.keyfield.proofs.attribute_at.Tie as tie
-use Rattle.keyfield.proofs.attribute_at.Reads as reads
-use Rattle.keyfield.proofs.attribute_at.Lts as lts
-use Rattle.keyfield.proofs.find.Reads as find-reads
-use Rattle.keyfield.proofs.name_of.Reads as name-of-reads
-use Rattle.keyfield.proofs.trim.Reads as trim-reads
 use Rattle.keyfield.proofs.Naming.{telling}
 
--- src/lib.rt:172:9
 find-requires : tie.Need-find-requires
 find-requires c κs = search telling
 
--- src/lib.rt:174:9
 returns : tie.Need-returns
 returns c = search telling
 
--- src/lib.rt:176:9
 trim-requires : tie.Need-trim-requires
 trim-requires c κs = search telling
 
--- src/lib.rt:177:25
 add-trim : tie.Need-add-trim
 add-trim c = search telling
 
--- src/lib.rt:177:9
 trim-requires-2 : tie.Need-trim-requires-2
 trim-requires-2 c κs = search telling
 
--- src/lib.rt:180:19
 sub-name-of : tie.Need-sub-name-of
 sub-name-of c = search telling
 
--- src/lib.rt:180:19
 part-name-of-start : tie.Need-part-name-of-start
 part-name-of-start c = search telling
 
--- src/lib.rt:180:19
 part-name-of-end : tie.Need-part-name-of-end
 part-name-of-end c = search telling
 
--- src/lib.rt:180:11
 name-of-requires : tie.Need-name-of-requires
 name-of-requires c κs = search telling
 
--- src/lib.rt:181:23
 enum-told : tie.Need-enum-told
 enum-told c = search telling
 
--- src/lib.rt:182:32
 enum-told-2 : tie.Need-enum-told-2
 enum-told-2 c = search telling
 
--- src/lib.rt:183:26
 enum-told-3 : tie.Need-enum-told-3
 enum-told-3 c = search telling
 
--- src/lib.rt:184:26
 enum-told-4 : tie.Need-enum-told-4
 enum-told-4 c = search telling
 
--- src/lib.rt:185:26
 enum-told-5 : tie.Need-enum-told-5
 enum-told-5 c = search telling
 
--- src/lib.rt:168:1
 returns-2 : tie.Need-returns-2
 returns-2 c = search telling
 
--- src/lib.rt:168:1
 returns-3 : tie.Need-returns-3
 returns-3 c = search telling
 
--- src/lib.rt:168:1
 returns-4 : tie.Need-returns-4
 returns-4 c = search telling
 
--- src/lib.rt:168:1
 returns-5 : tie.Need-returns-5
 returns-5 c = search telling
 
--- src/lib.rt:168:1
 returns-6 : tie.Need-returns-6
 returns-6 c = search telling
 

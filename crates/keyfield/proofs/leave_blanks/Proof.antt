@@ -1,11 +1,8 @@
+-- `keyfield::leave_blanks` meets its contract: the laws of `Trimming` keep the loop's invariant and answer every need. Assumes nothing.
 use Prim.Native.Nat.{_-_}
-use Rattle.keyfield.proofs.Trimming.{Back}
+use Rattle.keyfield.proofs.Trimming.{Back, trimming-back}
 use Rattle.keyfield.proofs.leave_blanks.Statement.{statement}
 use Rattle.keyfield.proofs.leave_blanks.Tie as tie
-use Rattle.keyfield.proofs.leave_blanks.Reads as reads
-use Rattle.keyfield.proofs.leave_blanks.Lts as lts
-use Rattle.tokens.proofs.is_blank.Reads as is-blank-reads
-use Rattle.keyfield.proofs.Trimming.{trimming-back}
 
 abbrev Inv-loop : tie.InvT-loop
 Inv-loop s from to i₀ i = Back s from to i
@@ -13,39 +10,30 @@ Inv-loop s from to i₀ i = Back s from to i
 abbrev μ-loop : tie.MeasureT-loop
 μ-loop s from to i₀ i = i
 
--- src/lib.rt:128:5
 loop-holds : tie.Need-loop-holds Inv-loop μ-loop
 loop-holds c = search trimming-back
 
--- src/lib.rt:129:32
 sub-is-blank : tie.Need-sub-is-blank Inv-loop μ-loop
 sub-is-blank c = search trimming-back
 
--- src/lib.rt:129:30
 shared-slice-read-is-blank : tie.Need-shared-slice-read-is-blank Inv-loop μ-loop
 shared-slice-read-is-blank c = search trimming-back
 
--- src/lib.rt:129:13
 is-blank-requires : tie.Need-is-blank-requires Inv-loop μ-loop
 is-blank-requires c κs = search trimming-back
 
--- src/lib.rt:130:13
 returns : tie.Need-returns Inv-loop μ-loop
 returns c = search trimming-back
 
--- src/lib.rt:132:9
 sub-i : tie.Need-sub-i Inv-loop μ-loop
 sub-i c = search trimming-back
 
--- src/lib.rt:128:5
 loop-less : tie.Need-loop-less Inv-loop μ-loop
 loop-less c = search trimming-back
 
--- src/lib.rt:128:5
 loop-again : tie.Need-loop-again Inv-loop μ-loop
 loop-again c = search trimming-back
 
--- src/lib.rt:123:1
 returns-2 : tie.Need-returns-2 Inv-loop μ-loop
 returns-2 c = search trimming-back
 

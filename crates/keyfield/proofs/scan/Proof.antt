@@ -1,14 +1,9 @@
+-- `keyfield::scan` meets its contract: the laws of `Scanning` keep the loop's invariant and answer every need. Assumes nothing.
 use Prim.Native.Nat.{_-_}
 use lib.ListN.{length}
-use Rattle.keyfield.proofs.Scanning.{Scanning}
+use Rattle.keyfield.proofs.Scanning.{Scanning, scanning}
 use Rattle.keyfield.proofs.scan.Statement.{statement}
 use Rattle.keyfield.proofs.scan.Tie as tie
-use Rattle.keyfield.proofs.scan.Reads as reads
-use Rattle.keyfield.proofs.scan.Lts as lts
-use Rattle.keyfield.proofs.find.Reads as find-reads
-use Rattle.keyfield.proofs.step_at.Reads as step-at-reads
-use Rattle.keyfield.proofs.whole.Reads as whole-reads
-use Rattle.keyfield.proofs.Scanning.{scanning}
 
 abbrev Inv-loop : tie.InvT-loop
 Inv-loop s at₀ address₀ preference₀ at address preference = Scanning s at address preference
@@ -16,59 +11,45 @@ Inv-loop s at₀ address₀ preference₀ at address preference = Scanning s at 
 abbrev μ-loop : tie.MeasureT-loop
 μ-loop s at₀ address₀ preference₀ at address preference = length s - at
 
--- src/lib.rt:271:5
 loop-holds : tie.Need-loop-holds Inv-loop μ-loop
 loop-holds c = search scanning
 
--- src/lib.rt:272:13
 find-requires : tie.Need-find-requires Inv-loop μ-loop
 find-requires c κs = search scanning
 
--- src/lib.rt:273:15
 step-at-requires : tie.Need-step-at-requires Inv-loop μ-loop
 step-at-requires c κs = search scanning
 
--- src/lib.rt:274:22
 enum-known-seen : tie.Need-enum-known-seen Inv-loop μ-loop
 enum-known-seen c = search scanning
 
--- src/lib.rt:276:21
 returns : tie.Need-returns Inv-loop μ-loop
 returns c = search scanning
 
--- src/lib.rt:280:22
 add-at : tie.Need-add-at Inv-loop μ-loop
 add-at c = search scanning
 
--- src/lib.rt:271:5
 loop-less : tie.Need-loop-less Inv-loop μ-loop
 loop-less c = search scanning
 
--- src/lib.rt:271:5
 loop-again : tie.Need-loop-again Inv-loop μ-loop
 loop-again c = search scanning
 
--- src/lib.rt:282:24
 enum-known-start : tie.Need-enum-known-start Inv-loop μ-loop
 enum-known-start c = search scanning
 
--- src/lib.rt:284:21
 returns-2 : tie.Need-returns-2 Inv-loop μ-loop
 returns-2 c = search scanning
 
--- src/lib.rt:286:17
 whole-requires : tie.Need-whole-requires Inv-loop μ-loop
 whole-requires c κs = search scanning
 
--- src/lib.rt:286:17
 returns-3 : tie.Need-returns-3 Inv-loop μ-loop
 returns-3 c = search scanning
 
--- src/lib.rt:288:29
 enum-told : tie.Need-enum-told Inv-loop μ-loop
 enum-told c = search scanning
 
--- src/lib.rt:288:29
 returns-4 : tie.Need-returns-4 Inv-loop μ-loop
 returns-4 c = search scanning
 

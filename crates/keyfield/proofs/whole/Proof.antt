@@ -1,27 +1,20 @@
+-- `keyfield::whole` meets its contract: the laws of `Stepping` answer every need. Assumes nothing.
 use Rattle.keyfield.proofs.whole.Statement.{statement}
 use Rattle.keyfield.proofs.whole.Tie as tie
-use Rattle.keyfield.proofs.whole.Reads as reads
-use Rattle.keyfield.proofs.whole.Lts as lts
-use Rattle.keyfield.proofs.is_mutual.Reads as is-mutual-reads
 use Rattle.keyfield.proofs.Stepping.{ending}
 
--- src/lib.rt:255:26
 enum-told : tie.Need-enum-told
 enum-told c = search ending
 
--- src/lib.rt:256:19
 enum-known-address : tie.Need-enum-known-address
 enum-known-address c = search ending
 
--- src/lib.rt:259:21
 is-mutual-requires : tie.Need-is-mutual-requires
 is-mutual-requires c κs = search ending
 
--- src/lib.rt:251:1
 returns : tie.Need-returns
 returns c = search ending
 
--- src/lib.rt:251:1
 returns-2 : tie.Need-returns-2
 returns-2 c = search ending
 

@@ -1,43 +1,32 @@
+-- `keyfield::with_address` meets its contract: the laws of `Stepping` answer every need. Assumes nothing.
 use Rattle.keyfield.proofs.with_address.Statement.{statement}
 use Rattle.keyfield.proofs.with_address.Tie as tie
-use Rattle.keyfield.proofs.with_address.Reads as reads
-use Rattle.keyfield.proofs.with_address.Lts as lts
-use Rattle.address.proofs.is_plain.Reads as is-plain-reads
 use Rattle.keyfield.proofs.Stepping.{addressing}
 
--- src/lib.rt:196:34
 enum-told : tie.Need-enum-told
 enum-told c = search addressing
 
--- src/lib.rt:196:34
 sub-is-plain : tie.Need-sub-is-plain
 sub-is-plain c = search addressing
 
--- src/lib.rt:196:34
 part-is-plain-start : tie.Need-part-is-plain-start
 part-is-plain-start c = search addressing
 
--- src/lib.rt:196:34
 part-is-plain-end : tie.Need-part-is-plain-end
 part-is-plain-end c = search addressing
 
--- src/lib.rt:196:16
 is-plain-requires : tie.Need-is-plain-requires
 is-plain-requires c κs = search addressing
 
--- src/lib.rt:202:28
 enum-told-2 : tie.Need-enum-told-2
 enum-told-2 c = search addressing
 
--- src/lib.rt:190:1
 returns : tie.Need-returns
 returns c = search addressing
 
--- src/lib.rt:190:1
 returns-2 : tie.Need-returns-2
 returns-2 c = search addressing
 
--- src/lib.rt:190:1
 returns-3 : tie.Need-returns-3
 returns-3 c = search addressing
 
