@@ -32,6 +32,10 @@ class ListPlaces(ctypes.Structure):
     ]
 
 
+class FieldRead(ctypes.Structure):
+    _fields_ = [(name, ctypes.c_uint64) for name in ("kind", "from_", "to", "key")] + [("mutual", ctypes.c_bool)]
+
+
 class Lent:
     """A buffer that is lent for one call."""
 
@@ -230,3 +234,11 @@ class Probe:
 
     def count_free(self, table: bytes) -> int:
         return self._call("probe_count_free", _size, _read, table, len(table))
+
+    # keyfield
+
+    def read_field(self, value: bytes, key: bytes) -> tuple[int, bytes, bool, int, bytes]:
+        """The kind (0 valid, 1 spoiled, 2 too little room), the address as it stands, mutual, the key's length, the buffer."""
+        lent = Lent(key)
+        r = self._call("probe_read_field", FieldRead, _read + _write, value, len(value), *lent.words())
+        return r.kind, value[r.from_ : r.to], r.mutual, r.key, lent.now()

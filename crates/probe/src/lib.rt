@@ -388,3 +388,45 @@ pub extern "C" fn probe_lowest_free(t: &[u8]) -> Answer {
 pub extern "C" fn probe_count_free(t: &[u8]) -> usize {
     table::count_free(t)
 }
+
+// kind 0: valid; 1: spoiled; 2: too little room for the key
+#[repr(C)]
+pub struct FieldRead {
+    pub kind: u64,
+    pub from: u64,
+    pub to: u64,
+    pub key: u64,
+    pub mutual: bool,
+}
+
+#[no_mangle]
+pub extern "C" fn probe_read_field(value: &[u8], key: &mut [u8]) -> FieldRead {
+    match keyfield::read_field(value, key) {
+        keyfield::Read::Valid {
+            from,
+            to,
+            mutual,
+            key,
+        } => FieldRead {
+            kind: 0,
+            from: from as u64,
+            to: to as u64,
+            key: key as u64,
+            mutual,
+        },
+        keyfield::Read::Spoiled => FieldRead {
+            kind: 1,
+            from: 0,
+            to: 0,
+            key: 0,
+            mutual: false,
+        },
+        keyfield::Read::NoRoom => FieldRead {
+            kind: 2,
+            from: 0,
+            to: 0,
+            key: 0,
+            mutual: false,
+        },
+    }
+}
