@@ -4,3 +4,5 @@ pub mod Heads
 pub mod Sounds
 pub mod Entries
 pub mod Made
+pub mod Goodness
+mod Worked
