@@ -3,19 +3,17 @@
 --     numbers-back, slot-back        from a sound slot to its entry and back
 --     seen-put, direct-put, gossip-put    what the writers leave
 -- Assumes nothing.
-use Prim.Native.Nat.{ℕ, suc, zero, _+_, _-_, _*_, _/_, _%_, _<_, _≤_, min, max}
+use Prim.Native.Nat.{ℕ, _+_, _-_, _*_, _/_, _%_, _<_, _≤_, min}
 use mathlib.Core.Path.{_≡_, refl, sym, ap, _∙_}
 use mathlib.Core.Bool.{Bool, true, false, cond}
-use mathlib.Core.Option.{Option, some, none}
-use mathlib.Core.List.{List, [], _∷_, _++_, append-assoc}
+use mathlib.Core.List.{List, _++_}
 use native.Mathlib.Omega.{arith}
 use borrow.Author.Tests.{eqb-true, eqb-false}
 use borrow.Author.Needs.{needs}
 use mir.Syntax.{w8}
 use mir.Val.{Fits}
-use lib.Dec.{eqb}
-use lib.ListN.{length, getD, take, drop, replicate, length-append, length-take, length-drop, take-append-drop, length-replicate}
-use lib.Seq.{length-take-le, drop-drop, take-all}
+use lib.ListN.{length, getD, take, drop, replicate, length-take, length-drop, take-append-drop}
+use lib.Seq.{length-take-le, take-all}
 use Rattle.octets.specs.Octets.{AllOctets, allZero, sameOctets}
 use Rattle.octets.specs.Numbers.{number, digits}
 use Rattle.octets.specs.Written.{putAt}
@@ -26,8 +24,8 @@ use Rattle.address.specs.Address.{plain, canonical, isCanonical}
 use Rattle.address.proofs.Every.{and-left, by-test}
 use Rattle.address.proofs.Sides.{plain-most}
 use Rattle.slots.specs.declared.Slot.{Slot}
-use Rattle.slots.specs.Slot.{slotLength, addressRoom, keyLimit, mark, part, odd, addressLength, bits, hasLastSeen, hasDirect, hasGossip, isMutual, lastSeen, timestamp, gossipTimestamp, directLength, gossipLength, addressArea, directArea, gossipArea, addressOf, directKeyOf, gossipKeyOf, numbersOf, sound}
-use Rattle.slots.specs.Entry.{Direct, Gossip, Entry, present, orElse, isPresent, noDirect, noGossip, entryOf, numbersFor, bitsOf, opening, times, lengths, head, padded, areas, slotOf, newcomer, seenBy, withDirect, withGossip, numbersSeen, numbersDirect, numbersGossip}
+use Rattle.slots.specs.Slot.{slotLength, addressRoom, keyLimit, part, odd, addressLength, bits, hasLastSeen, hasDirect, hasGossip, isMutual, lastSeen, timestamp, gossipTimestamp, directLength, gossipLength, addressArea, directArea, gossipArea, addressOf, directKeyOf, gossipKeyOf, numbersOf, sound}
+use Rattle.slots.specs.Entry.{Direct, Gossip, Entry, present, orElse, isPresent, noDirect, noGossip, entryOf, numbersFor, bitsOf, opening, times, lengths, head, padded, areas, slotOf, seenBy, withDirect, withGossip, numbersSeen, numbersDirect, numbersGossip}
 use Rattle.slots.proofs.Parts.{follows, put-front, put-over, put-behind}
 use Rattle.slots.proofs.Heads.{length-head, length-padded}
 use Rattle.slots.proofs.Sounds.{Sound, sound-parts}

@@ -3,8 +3,8 @@
 --     good-newcomer    so is that of a canonical address
 --     good-seen-by, good-with-direct, good-with-gossip    and what a writer makes of a good one
 -- Assumes nothing.
-use Prim.Native.Nat.{ℕ, _+_, _<_, _≤_, max}
-use mathlib.Core.Path.{_≡_, refl, sym, ap, _∙_}
+use Prim.Native.Nat.{ℕ, _≤_, max}
+use mathlib.Core.Path.{_≡_, refl}
 use mathlib.Core.Bool.{Bool, true, false}
 use mathlib.Core.Option.{Option, some, none}
 use mathlib.Core.List.{List}
@@ -14,8 +14,8 @@ use lib.ListN.{length, take, drop}
 use Rattle.octets.specs.Octets.{AllOctets}
 use Rattle.octets.proofs.Lists.{take-octets, drop-octets}
 use Rattle.address.specs.Address.{isCanonical}
-use Rattle.slots.specs.Slot.{slotLength, keyLimit, timeLimit, hasLastSeen, hasDirect, hasGossip, isMutual, lastSeen, timestamp, gossipTimestamp, addressLength, addressArea, directLength, gossipLength, directArea, gossipArea, addressOf, directKeyOf, gossipKeyOf, sound}
-use Rattle.slots.specs.Entry.{Direct, Gossip, Entry, present, orElse, isPresent, entryOf, newcomer, seenBy, withDirect, withGossip, GoodKey, GoodDirect, GoodGossip, GoodHalf, Good}
+use Rattle.slots.specs.Slot.{slotLength, timeLimit, hasLastSeen, hasDirect, hasGossip, isMutual, lastSeen, timestamp, gossipTimestamp, addressLength, addressArea, directLength, gossipLength, directArea, gossipArea, addressOf, directKeyOf, gossipKeyOf}
+use Rattle.slots.specs.Entry.{Direct, Gossip, Entry, present, orElse, entryOf, newcomer, seenBy, withDirect, withGossip, GoodKey, GoodDirect, GoodGossip, GoodHalf, Good}
 use Rattle.slots.proofs.Sounds.{Sound}
 use Rattle.slots.proofs.Entries.{direct-long, gossip-long}
 use Rattle.slots.proofs.Made.{good-seen}

@@ -5,18 +5,18 @@
 --     padded-put                       an area written
 --     begun                            an entry begun
 -- Assumes nothing.
-use Prim.Native.Nat.{ℕ, suc, zero, _+_, _-_, _<_, _≤_}
+use Prim.Native.Nat.{ℕ, _+_, _-_, _≤_}
 use mathlib.Core.Path.{_≡_, refl, sym, ap, _∙_}
-use mathlib.Core.List.{List, [], _∷_, _++_, append-assoc}
+use mathlib.Core.List.{List, [], _++_, append-assoc}
 use native.Mathlib.Nat.{add-zero, sub-zero}
 use native.Mathlib.Omega.{arith}
 use borrow.Author.Needs.{needs}
-use lib.ListN.{length, getD, take, drop, replicate, length-append, length-replicate, length-take, length-drop, replicate-append-replicate}
+use lib.ListN.{length, take, drop, replicate, length-append, length-replicate, length-take, length-drop, replicate-append-replicate}
 use Rattle.octets.specs.Numbers.{digits}
 use Rattle.octets.specs.Written.{putAt}
 use Rattle.octets.proofs.Copying.{length-digits}
 use Rattle.slots.specs.declared.Slot.{Slot}
-use Rattle.slots.specs.Slot.{slotLength, mark, addressRoom, keyLimit, emptyNumbers}
+use Rattle.slots.specs.Slot.{slotLength, mark, addressRoom, emptyNumbers}
 use Rattle.slots.specs.Entry.{bitsOf, opening, times, lengths, head, padded, areas, numbersFor, newcomer, slotOf}
 use Rattle.slots.proofs.Parts.{put-first, put-length, put-more, put-three, put-behind, part-back, drop-zeros}
 

@@ -4,24 +4,23 @@
 --     slot-sound       the slot is sound
 --     slot-long        and has 4,392 octets
 -- Assumes nothing.
-use Prim.Native.Nat.{ℕ, suc, zero, _+_, _-_, _*_, _/_, _%_, _<_, _≤_}
-use mathlib.Core.Path.{_≡_, refl, sym, ap, _∙_}
+use Prim.Native.Nat.{ℕ, _+_, _-_, _*_, _/_, _%_, _<_, _≤_}
+use mathlib.Core.Path.{_≡_, refl, ap, _∙_}
 use mathlib.Core.Bool.{Bool, true, false, not, cond, _&&_, _||_, or-true}
 use mathlib.Core.Option.{Option, some, none}
-use mathlib.Core.List.{List, [], _∷_, _++_}
+use mathlib.Core.List.{List, _++_}
 use native.Mathlib.Omega.{arith}
 use borrow.Author.Tests.{eq-eqb, le-leb, lt-ltb}
-use lib.Dec.{eqb, leb, ltb}
-use lib.ListN.{length, getD, take, drop, replicate, length-append}
+use lib.Dec.{eqb, leb}
+use lib.ListN.{length, take, drop, replicate, length-append}
 use lib.Seq.{take-at, drop-at, take-all}
-use Rattle.octets.specs.Octets.{AllOctets, allZero, sameOctets}
+use Rattle.octets.specs.Octets.{allZero}
 use Rattle.octets.specs.Numbers.{number, digits}
 use Rattle.octets.proofs.Comparing.{same-refl}
 use Rattle.octets.proofs.Numerals.{number-digits}
 use Rattle.octets.proofs.Zeros.{zero-replicate}
-use Rattle.address.specs.Address.{isCanonical}
 use Rattle.slots.specs.declared.Slot.{Slot}
-use Rattle.slots.specs.Slot.{slotLength, addressRoom, keyLimit, timeLimit, mark, part, odd, oneTo, addressLength, bits, hasLastSeen, hasDirect, hasGossip, isMutual, lastSeen, timestamp, gossipTimestamp, directLength, gossipLength, addressArea, directArea, gossipArea, addressOf, directKeyOf, gossipKeyOf, numbersOf, marked, canonicalAddress, clear, inRange, lengthsInRange, absentZero, zeroPast, mutualDirect, directSeen, sound}
+use Rattle.slots.specs.Slot.{slotLength, addressRoom, keyLimit, timeLimit, mark, part, odd, oneTo, addressLength, bits, lastSeen, timestamp, directLength, gossipLength, addressArea, directArea, gossipArea, addressOf, directKeyOf, gossipKeyOf, numbersOf, marked, canonicalAddress, clear, inRange, lengthsInRange, absentZero, zeroPast, mutualDirect, directSeen, sound}
 use Rattle.slots.specs.Entry.{Direct, Gossip, Entry, present, orElse, isPresent, noDirect, noGossip, entryOf, numbersFor, bitsOf, opening, times, lengths, head, padded, areas, slotOf, GoodKey, GoodDirect, GoodGossip, GoodHalf, Good}
 use Rattle.slots.proofs.Parts.{drop-past}
 use Rattle.slots.proofs.Heads.{length-head, length-padded}

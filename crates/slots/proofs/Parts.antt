@@ -18,8 +18,8 @@ use mathlib.Core.Logic.{⊎-elim}
 use mathlib.Core.List.{List, [], _∷_, _++_, append-assoc, append-nil}
 use native.Mathlib.Nat.{min-eq-left, min-eq-right, sub-self, zero-add}
 use native.Mathlib.Omega.{arith}
-use lib.ListN.{length, getD, take, drop, replicate, length-append, length-take, length-drop, drop-of-length-le, take-append-drop}
-use lib.Seq.{take-all, take-take, take-add, drop-drop, take-at, drop-at, take-append-le, drop-append-le, take-append-add, drop-append-add, length-take-le, drop-nil, take-nil}
+use lib.ListN.{length, take, drop, replicate, length-append, length-take, length-drop, drop-of-length-le}
+use lib.Seq.{take-all, take-take, take-add, drop-drop, take-at, drop-at, take-append-le, drop-append-le, take-append-add, drop-append-add, length-take-le, take-nil}
 use Rattle.octets.specs.Written.{putAt}
 use Rattle.octets.proofs.Lists.{lt-or-le}
 

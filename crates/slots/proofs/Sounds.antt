@@ -4,22 +4,20 @@
 --     marked-not-free         a slot with a mark is not free
 --     unmarked-not-sound      and one without is not sound
 -- Assumes nothing.
-use Prim.Native.Nat.{ℕ, suc, zero, _+_, _-_, _<_, _≤_, min}
-use mathlib.Core.Path.{_≡_, refl, sym, ap, _∙_}
+use Prim.Native.Nat.{ℕ, _-_, _<_, _≤_}
+use mathlib.Core.Path.{_≡_, refl, sym, _∙_}
 use mathlib.Core.Bool.{Bool, true, false, not, _&&_, _||_, false≢true}
 use mathlib.Core.List.{List, [], _∷_}
 use native.Mathlib.Omega.{arith}
 use borrow.Author.Tests.{ltb-true, leb-true, eqb-true}
 use lib.Dec.{leb, ltb, eqb}
-use lib.ListN.{length, getD, take, drop, replicate, length-take, length-drop}
-use Rattle.octets.specs.Octets.{allZero, sameOctets}
+use lib.ListN.{drop}
+use Rattle.octets.specs.Octets.{allZero}
 use Rattle.octets.proofs.Comparing.{same-true}
-use Rattle.octets.proofs.Zeros.{zero-true}
-use Rattle.address.specs.Address.{plain, canonical, isCanonical}
+use Rattle.address.specs.Address.{canonical, isCanonical}
 use Rattle.address.proofs.Every.{and-left, and-right}
-use Rattle.address.proofs.Sides.{plain-most}
 use Rattle.slots.specs.declared.Slot.{Slot}
-use Rattle.slots.specs.Slot.{slotLength, keyLimit, timeLimit, mark, part, oneTo, addressLength, bits, hasLastSeen, hasDirect, hasGossip, isMutual, lastSeen, timestamp, gossipTimestamp, directLength, gossipLength, addressArea, directArea, gossipArea, addressOf, directKeyOf, gossipKeyOf, numbersOf, free, marked, canonicalAddress, clear, inRange, lengthsInRange, absentZero, zeroPast, mutualDirect, directSeen, sound}
+use Rattle.slots.specs.Slot.{keyLimit, timeLimit, mark, part, oneTo, addressLength, bits, hasLastSeen, hasDirect, hasGossip, isMutual, lastSeen, timestamp, gossipTimestamp, directLength, gossipLength, addressArea, directArea, gossipArea, addressOf, numbersOf, free, marked, canonicalAddress, clear, inRange, lengthsInRange, absentZero, zeroPast, mutualDirect, directSeen, sound}
 
 -- tests joined by "and", "or" and "implies"
 pub all-three : (a b c : Bool) → (a && b && c) ≡ true → (a ≡ true) × (b ≡ true) × (c ≡ true)

@@ -5,11 +5,10 @@
 --     zero-is-time    "Zero is a real time; only the bits mark absence."
 --     mutual-alone, seen-below, seen-missing    what is not sound
 -- Assumes nothing.
-use Prim.Native.Nat.{ℕ}
 use mathlib.Core.Path.{_≡_, refl}
-use mathlib.Core.Bool.{Bool, true, false}
-use mathlib.Core.Option.{Option, some, none}
-use mathlib.Core.List.{List, [], _∷_}
+use mathlib.Core.Bool.{true, false}
+use mathlib.Core.Option.{some, none}
+use mathlib.Core.List.{[], _∷_}
 use Rattle.octets.specs.Octets.{ascii}
 use Rattle.octets.specs.Numbers.{number, digits}
 use Rattle.slots.specs.Slot.{emptyNumbers, mutualDirect, directSeen, addressOf, directKeyOf, gossipKeyOf}
@@ -43,17 +42,17 @@ unfolding entryOf slotOf areas padded head opening times lengths digits bitsOf n
 zero-is-time = refl
 
 mutual-alone : mutualDirect (record {
-      «address_length» = 3;
-      seen = true;
-      direct = false;
-      gossip = true;
-      «mutual» = true;
-      «last_seen» = 5;
-      timestamp = 0;
-      «gossip_timestamp» = 5;
-      «direct_length» = 0;
-      «gossip_length» = 3;
-    })
+  «address_length» = 3;
+  seen = true;
+  direct = false;
+  gossip = true;
+  «mutual» = true;
+  «last_seen» = 5;
+  timestamp = 0;
+  «gossip_timestamp» = 5;
+  «direct_length» = 0;
+  «gossip_length» = 3;
+})
     ≡ false
 mutual-alone = refl
 

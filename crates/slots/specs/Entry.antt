@@ -4,7 +4,7 @@
 --     slotOf                   the slot of an entry
 --     newcomer .. withGossip   the entry of an address that is new, and what a writer changes in an entry
 --     Good                     what the entry of a sound slot satisfies
-use Prim.Native.Nat.{ℕ, _+_, _-_, _*_, _<_, _≤_, max}
+use Prim.Native.Nat.{ℕ, _+_, _-_, _≤_, max}
 use mathlib.Core.Path.{_≡_}
 use mathlib.Core.Bool.{Bool, true, false, cond}
 use mathlib.Core.Option.{Option, some, none}

@@ -11,7 +11,7 @@ use Prim.Native.Nat.{ℕ, _+_, _-_, _/_, _%_}
 use mathlib.Core.Bool.{Bool, false, not, _&&_, _||_}
 use mathlib.Core.List.{List}
 use lib.Dec.{leb, ltb, eqb}
-use lib.ListN.{length, getD, take, drop}
+use lib.ListN.{getD, take, drop}
 use Rattle.octets.specs.Octets.{ascii, sameOctets, allZero}
 use Rattle.octets.specs.Numbers.{number}
 use Rattle.address.specs.Address.{isCanonical}

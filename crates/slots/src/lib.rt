@@ -1,13 +1,13 @@
 // One slot of the table and the entry that it holds: what stands where, whether it is free or sound, and the writers of
 // slots. A slot is lent as a part of 4,392 octets.
-ghost use Prim.Native.Nat.{_+_, _-_, _≤_, min, max};
+ghost use Prim.Native.Nat.{_+_, _≤_, min, max};
 ghost use mathlib.Core.Path.{_≡_};
 ghost use mathlib.Core.Bool.{true, cond};
 ghost use lib.ListN.{length, take, drop};
 ghost use Rattle.octets.specs.Octets.{allZero};
 ghost use Rattle.octets.specs.Written.{putAt};
-ghost use Rattle.slots.specs.Slot.{slotLength, keyLimit, addressRoom, addressArea, directArea, gossipArea, numbersOf, emptyNumbers, free, marked, canonicalAddress, clear, inRange, lengthsInRange, absentZero, zeroPast, mutualDirect, directSeen, sound, addressOf, directKeyOf, gossipKeyOf};
-ghost use Rattle.slots.specs.Entry.{numbersFor, numbersSeen, numbersDirect, numbersGossip, bitsOf, opening, times, lengths, head, padded, entryOf, slotOf, newcomer, seenBy, withDirect, withGossip};
+ghost use Rattle.slots.specs.Slot.{slotLength, keyLimit, addressRoom, numbersOf, emptyNumbers, free, marked, canonicalAddress, clear, inRange, lengthsInRange, absentZero, zeroPast, mutualDirect, directSeen, sound, addressOf, directKeyOf, gossipKeyOf};
+ghost use Rattle.slots.specs.Entry.{numbersSeen, numbersDirect, numbersGossip, bitsOf, opening, times, lengths, head, padded, entryOf, slotOf, newcomer, seenBy, withDirect, withGossip};
 
 // What octets 2 to 39 of a slot say: the lengths, the four bits and the times of its entry.
 pub struct Slot {

@@ -4,19 +4,18 @@
 --     free-at, free-nothing                     the lowest free slot
 -- Assumes nothing.
 use Prim.Native.Nat.{ℕ, suc, zero, _+_, _<_, _≤_}
-use mathlib.Core.Path.{_≡_, refl, sym, ap, _∙_}
+use mathlib.Core.Path.{_≡_, refl, sym, _∙_}
 use mathlib.Core.Logic.{⊎-elim}
-use mathlib.Core.Bool.{Bool, true, false, not, _&&_}
+use mathlib.Core.Bool.{Bool, true, false}
 use mathlib.Core.List.{List}
 use native.Mathlib.Omega.{arith}
 use borrow.Author.Tests.{not-true}
 use Rattle.octets.specs.Octets.{sameOctets}
 use Rattle.octets.proofs.Comparing.{same-true}
 use Rattle.octets.proofs.Lists.{lt-or-le}
-use Rattle.address.proofs.Pieces.{and-left, and-right, by-test}
+use Rattle.address.proofs.Every.{and-left, and-right, by-test}
 use Rattle.slots.specs.Slot.{marked, addressOf}
 use Rattle.table.specs.Table.{slots, slotAt, unused, holds, lowest, found, lowestFree}
-use Rattle.table.specs.declared.Found.{Found}
 use Rattle.table.specs.declared.Found.the-variants.{At, Nothing}
 use Rattle.table.proofs.Scanning.{lowest-here, lowest-later}
 

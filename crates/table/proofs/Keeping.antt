@@ -7,8 +7,8 @@
 --     write-sound             a good entry written where no other slot has its address
 --     write-new, write-own    the two places of that kind: a slot when the address is new, and the address's own
 -- Assumes nothing.
-use Prim.Native.Nat.{ℕ, suc, zero, _+_, _*_, _<_, _≤_}
-use mathlib.Core.Path.{_≡_, refl, sym, ap, _∙_}
+use Prim.Native.Nat.{ℕ, suc, zero, _+_, _<_, _≤_}
+use mathlib.Core.Path.{_≡_, refl, sym, _∙_}
 use mathlib.Core.Logic.{⊎-elim}
 use mathlib.Core.Bool.{Bool, true, false, not, _&&_, _||_, and-false, false≢true}
 use mathlib.Core.List.{List}
@@ -19,19 +19,18 @@ use lib.ListN.{length}
 use Rattle.octets.specs.Octets.{sameOctets}
 use Rattle.octets.proofs.Comparing.{same-true, same-refl}
 use Rattle.octets.proofs.Lists.{lt-or-le}
-use Rattle.address.proofs.Pieces.{and-left, and-right, by-test}
+use Rattle.address.proofs.Every.{by-test}
 use Rattle.slots.specs.Slot.{slotLength, marked, free, sound, addressOf}
 use Rattle.slots.specs.Entry.{Entry, slotOf, Good}
 use Rattle.slots.proofs.Sounds.{marked-not-free, unmarked-not-sound}
 use Rattle.slots.proofs.Made.{slot-long, slot-sound, address-kept}
 use Rattle.table.specs.Table.{slots, slotAt, withSlot, holds, lowest, isAt, inLower, right, whole, judged, checked, found}
-use Rattle.table.specs.declared.Checked.{Checked}
 use Rattle.table.specs.declared.Checked.the-variants.{Sound, Length, Slot}
 use Rattle.table.specs.declared.Found.{Found}
 use Rattle.table.specs.declared.Found.the-variants.{At, Nothing}
 use Rattle.table.proofs.Slots.{length-kept, slots-kept, slot-same, slot-other}
 use Rattle.table.proofs.Judging.{judged-on, judged-here, checked-slots, checked-length}
-use Rattle.table.proofs.Finding.{Lowest, lowest-at, lowest-nothing, lowest-none, found-at, found-nothing, holds-used, holds-address}
+use Rattle.table.proofs.Finding.{lowest-nothing, lowest-none, found-at, found-nothing, holds-used, holds-address}
 
 pub record SoundTable (t : List ℕ) : Type 0 where
   pub whole-slots : whole t ≡ true

@@ -8,24 +8,24 @@
 --     slot-same, slot-other       the slot that was replaced, and any other
 --     reaching, lending           what the code asks that reads one slot, or lends it on
 -- Assumes nothing.
-use Prim.Native.Nat.{ℕ, suc, zero, _+_, _-_, _*_, _/_, _^_, _<_, _≤_}
-use mathlib.Core.Path.{_≡_, refl, sym, ap, _∙_}
-use mathlib.Core.Logic.{_⊎_, inl, inr, ⊎-elim}
+use Prim.Native.Nat.{ℕ, _+_, _-_, _*_, _/_, _^_, _<_, _≤_}
+use mathlib.Core.Path.{_≡_, refl, _∙_}
+use mathlib.Core.Logic.{_⊎_, ⊎-elim}
 use mathlib.Core.Bool.{Bool, true, not, _&&_}
-use mathlib.Core.List.{List, [], _∷_, _++_}
+use mathlib.Core.List.{List, _++_}
 use native.Mathlib.Omega.{arith}
 use borrow.Author.Needs.{needs}
 use mir.Syntax.{w64}
 use mir.Val.{Fits}
 use lib.Dec.{eqb}
-use lib.ListN.{length, getD, take, drop, length-take, length-drop, length-append}
-use lib.Seq.{take-at, drop-at, drop-drop, take-take, take-add, length-take-le, drop-append-add, take-append-le, drop-append-le}
+use lib.ListN.{length, take, drop, length-take, length-drop}
+use lib.Seq.{take-at, drop-at, length-take-le}
 use Rattle.octets.specs.Octets.{AllOctets}
 use Rattle.octets.specs.Written.{putAt}
 use Rattle.octets.proofs.Lists.{take-octets, drop-octets, lt-or-le}
 use Rattle.slots.specs.declared.Slot.{Slot}
 use Rattle.slots.specs.Slot.{slotLength, addressRoom, keyLimit, numbersOf, marked, addressOf, directKeyOf, gossipKeyOf, sound}
-use Rattle.slots.specs.Entry.{Direct, Gossip, entryOf, slotOf, newcomer, seenBy, withDirect, withGossip}
+use Rattle.slots.specs.Entry.{entryOf, slotOf, newcomer, seenBy, withDirect, withGossip}
 use Rattle.slots.proofs.Parts.{part-back, part-before, part-behind, put-length}
 use Rattle.table.specs.Table.{slots, slotAt, withSlot, unused}
 

@@ -7,7 +7,7 @@
 -- Assumes nothing.
 use Prim.Native.Nat.{ℕ}
 use mathlib.Core.Path.{_≡_, refl}
-use mathlib.Core.Bool.{true, false}
+use mathlib.Core.Bool.{true}
 use mathlib.Core.Option.{some, none}
 use mathlib.Core.List.{List, [], _∷_, _++_}
 use lib.ListN.{replicate}
@@ -17,7 +17,7 @@ use Rattle.tokens.specs.Tokens.{belongs}
 use Rattle.address.specs.Pieces.{every, onFirst, pieces, before, behind}
 use Rattle.address.specs.Address.{atom, localPart, labelOctet, freeEnds, label, domain, plain, canonical, isCanonical}
 use Rattle.slots.specs.Slot.{slotLength, addressOf, numbersOf, free, marked, canonicalAddress, clear, zeroPast, sound}
-use Rattle.slots.specs.Entry.{Entry, numbersFor, bitsOf, opening, times, lengths, head, padded, areas, slotOf}
+use Rattle.slots.specs.Entry.{numbersFor, bitsOf, opening, times, lengths, head, padded, areas, slotOf}
 use Rattle.table.specs.Table.{slots, slotAt, unused, holds, lowest, howMany, found, lowestFree, freeCount, inLower, right, whole, judged, checked}
 use Rattle.table.specs.declared.Checked.the-variants.{Sound, Length, Slot}
 use Rattle.table.specs.declared.Found.the-variants.{At, Nothing}

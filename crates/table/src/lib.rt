@@ -7,7 +7,7 @@ ghost use lib.Dec.{eqb};
 ghost use lib.ListN.{length};
 ghost use Rattle.slots.specs.Slot.{slotLength, addressRoom, keyLimit, numbersOf, marked, addressOf, directKeyOf, gossipKeyOf, sound};
 ghost use Rattle.slots.specs.Entry.{entryOf, slotOf, newcomer, seenBy, withDirect, withGossip};
-ghost use Rattle.table.specs.Table.{slots as slotsOf, slotAt, withSlot, unused, holds, lowest, howMany, found, lowestFree, freeCount, right, whole, judged, checked};
+ghost use Rattle.table.specs.Table.{slots as slotsOf, slotAt, withSlot, unused, holds, lowest, found, lowestFree, freeCount, right, whole, checked};
 use slots::Slot;
 
 // Whether a table is one: refusal 1 for its length, 2 with the lowest slot that is neither free nor sound.

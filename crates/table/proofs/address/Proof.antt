@@ -1,6 +1,5 @@
 -- `table::address` meets its contract: the laws of `Slots` answer every need. Assumes nothing.
 use Rattle.table.proofs.Slots.{reaching}
-use borrow.Author.Needs.{needs}
 use Rattle.table.proofs.address.Statement.{statement}
 use Rattle.table.proofs.address.Tie as tie
 

@@ -1,6 +1,5 @@
 -- `table::begin` meets its contract: the laws of `Slots` answer every need. Assumes nothing.
 use Rattle.table.proofs.Slots.{lending}
-use borrow.Author.Needs.{needs}
 use Rattle.table.proofs.begin.Statement.{statement}
 use Rattle.table.proofs.begin.Tie as tie
 

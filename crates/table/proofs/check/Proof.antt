@@ -1,7 +1,6 @@
 -- `table::check` meets its contract: the laws of `Judging` keep the loop's invariant and answer every need. Assumes nothing.
 use Prim.Native.Nat.{_-_}
 use Rattle.table.proofs.Judging.{Judged, judging}
-use borrow.Author.Needs.{needs}
 use Rattle.table.proofs.check.Statement.{statement}
 use Rattle.table.proofs.check.Tie as tie
 

@@ -1,7 +1,6 @@
 -- `table::count_free` meets its contract: the laws of `Scanning` keep the loop's invariant and answer every need. Assumes nothing.
 use Prim.Native.Nat.{_-_}
 use Rattle.table.proofs.Scanning.{Tally, tallying}
-use borrow.Author.Needs.{needs}
 use Rattle.table.proofs.count_free.Statement.{statement}
 use Rattle.table.proofs.count_free.Tie as tie
 

@@ -1,6 +1,5 @@
 -- `table::direct_key` meets its contract: the laws of `Slots` answer every need. Assumes nothing.
 use Rattle.table.proofs.Slots.{reaching}
-use borrow.Author.Needs.{needs}
 use Rattle.table.proofs.direct_key.Statement.{statement}
 use Rattle.table.proofs.direct_key.Tie as tie
 

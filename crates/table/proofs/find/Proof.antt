@@ -1,6 +1,5 @@
 -- `table::find` meets its contract: the laws of `Scanning` answer every need. Assumes nothing.
 use Rattle.table.proofs.Scanning.{finding}
-use borrow.Author.Needs.{needs}
 use Rattle.table.proofs.find.Statement.{statement}
 use Rattle.table.proofs.find.Tie as tie
 

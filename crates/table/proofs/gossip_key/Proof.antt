@@ -1,6 +1,5 @@
 -- `table::gossip_key` meets its contract: the laws of `Slots` answer every need. Assumes nothing.
 use Rattle.table.proofs.Slots.{reaching}
-use borrow.Author.Needs.{needs}
 use Rattle.table.proofs.gossip_key.Statement.{statement}
 use Rattle.table.proofs.gossip_key.Tie as tie
 

@@ -1,6 +1,5 @@
 -- `table::is_right` meets its contract: the laws of `Judging` answer every need. Assumes nothing.
 use Rattle.table.proofs.Judging.{being-right}
-use borrow.Author.Needs.{needs}
 use Rattle.table.proofs.is_right.Statement.{statement}
 use Rattle.table.proofs.is_right.Tie as tie
 

@@ -1,6 +1,5 @@
 -- `table::is_unused` meets its contract: the laws of `Slots` answer every need. Assumes nothing.
 use Rattle.table.proofs.Slots.{reaching}
-use borrow.Author.Needs.{needs}
 use Rattle.table.proofs.is_unused.Statement.{statement}
 use Rattle.table.proofs.is_unused.Tie as tie
 

@@ -1,6 +1,5 @@
 -- `table::is_whole` meets its contract: the laws of `Judging` answer every need. Assumes nothing.
 use Rattle.table.proofs.Judging.{judging}
-use borrow.Author.Needs.{needs}
 use Rattle.table.proofs.is_whole.Statement.{statement}
 use Rattle.table.proofs.is_whole.Tie as tie
 

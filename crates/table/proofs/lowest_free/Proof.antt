@@ -2,7 +2,6 @@
 use Prim.Native.Nat.{_-_}
 use Rattle.table.specs.Table.{unused}
 use Rattle.table.proofs.Scanning.{Scan, finding-free}
-use borrow.Author.Needs.{needs}
 use Rattle.table.proofs.lowest_free.Statement.{statement}
 use Rattle.table.proofs.lowest_free.Tie as tie
 

@@ -1,6 +1,5 @@
 -- `table::numbers` meets its contract: the laws of `Slots` answer every need. Assumes nothing.
 use Rattle.table.proofs.Slots.{reaching}
-use borrow.Author.Needs.{needs}
 use Rattle.table.proofs.numbers.Statement.{statement}
 use Rattle.table.proofs.numbers.Tie as tie
 

@@ -1,6 +1,5 @@
 -- `table::raise_seen` meets its contract: the laws of `Slots` answer every need. Assumes nothing.
 use Rattle.table.proofs.Slots.{lending}
-use borrow.Author.Needs.{needs}
 use Rattle.table.proofs.raise_seen.Statement.{statement}
 use Rattle.table.proofs.raise_seen.Tie as tie
 

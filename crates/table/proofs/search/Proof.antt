@@ -5,7 +5,6 @@ use Rattle.octets.proofs.Comparing.{Same}
 use Rattle.slots.specs.Slot.{addressOf}
 use Rattle.table.specs.Table.{holds}
 use Rattle.table.proofs.Scanning.{Scan, searching}
-use borrow.Author.Needs.{needs}
 use Rattle.table.proofs.search.Statement.{statement}
 use Rattle.table.proofs.search.Tie as tie
 

@@ -1,6 +1,5 @@
 -- `table::set_direct` meets its contract: the laws of `Slots` answer every need. Assumes nothing.
 use Rattle.table.proofs.Slots.{lending}
-use borrow.Author.Needs.{needs}
 use Rattle.table.proofs.set_direct.Statement.{statement}
 use Rattle.table.proofs.set_direct.Tie as tie
 

@@ -1,6 +1,5 @@
 -- `table::set_gossip` meets its contract: the laws of `Slots` answer every need. Assumes nothing.
 use Rattle.table.proofs.Slots.{lending}
-use borrow.Author.Needs.{needs}
 use Rattle.table.proofs.set_gossip.Statement.{statement}
 use Rattle.table.proofs.set_gossip.Tie as tie
 

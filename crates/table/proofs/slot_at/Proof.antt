@@ -1,6 +1,5 @@
 -- `table::slot_at` meets its contract: the laws of `Slots` answer every need. Assumes nothing.
 use Rattle.table.proofs.Slots.{reaching}
-use borrow.Author.Needs.{needs}
 use Rattle.table.proofs.slot_at.Statement.{statement}
 use Rattle.table.proofs.slot_at.Tie as tie
 
