@@ -32,6 +32,10 @@ class ListPlaces(ctypes.Structure):
     ]
 
 
+class FieldRead(ctypes.Structure):
+    _fields_ = [(name, ctypes.c_uint64) for name in ("kind", "from_", "to", "key")] + [("mutual", ctypes.c_bool)]
+
+
 class Lent:
     """A buffer that is lent for one call."""
 
@@ -211,3 +215,30 @@ class Probe:
 
     def holds(self, s: bytes, wanted: bytes) -> bool:
         return self._call("probe_holds", ctypes.c_bool, _read + _read, s, len(s), wanted, len(wanted))
+
+    # table
+
+    def check(self, table: bytes) -> tuple[int, int]:
+        r = self._call("probe_check", Answer, _read, table, len(table))
+        return r.kind, r.value
+
+    def _slot(self, name: str, kinds: list, *words) -> int | None:
+        r = self._call(name, Answer, kinds, *words)
+        return r.value if r.kind == 0 else None
+
+    def find(self, table: bytes, address: bytes) -> int | None:
+        return self._slot("probe_find", _read + _read, table, len(table), address, len(address))
+
+    def lowest_free(self, table: bytes) -> int | None:
+        return self._slot("probe_lowest_free", _read, table, len(table))
+
+    def count_free(self, table: bytes) -> int:
+        return self._call("probe_count_free", _size, _read, table, len(table))
+
+    # keyfield
+
+    def read_field(self, value: bytes, key: bytes) -> tuple[int, bytes, bool, int, bytes]:
+        """The kind (0 valid, 1 spoiled, 2 too little room), the address as it stands, mutual, the key's length, the buffer."""
+        lent = Lent(key)
+        r = self._call("probe_read_field", FieldRead, _read + _write, value, len(value), *lent.words())
+        return r.kind, value[r.from_ : r.to], r.mutual, r.key, lent.now()

@@ -132,6 +132,21 @@ pub fn field_at(block: &[u8], at: usize) -> Step
     }
 }
 
+// A place in a block where a line begins.
+pub struct Cursor {
+    pub at: usize,
+}
+
+impl Cursor {
+    // What stands at the cursor. Behind a field the next line begins, at the field's end.
+    pub fn step(self, block: &[u8]) -> Step
+        ensures { λ r. ⌜ r ≡ stepAt (now (block .entry)) (self .at) ⌝ }
+    {
+        let at = self.at;
+        field_at(block, at)
+    }
+}
+
 // Is the block one of fields alone, up to its end, and no longer than a block may be?
 pub fn readable(block: &[u8]) -> bool
     ensures { λ r. ⌜ r ≡ readableOf (now (block .entry)) ⌝ }
@@ -139,16 +154,16 @@ pub fn readable(block: &[u8]) -> bool
     if LIMIT < block.len() {
         return false;
     }
-    let mut at = 0;
+    let mut here = Cursor { at: 0 };
     loop {
-        match field_at(block, at) {
+        match here.step(block) {
             Step::Over => return true,
             Step::Broken => return false,
             Step::Field {
                 name_end: _,
                 value: _,
                 end,
-            } => at = end,
+            } => here = Cursor { at: end },
         }
     }
 }

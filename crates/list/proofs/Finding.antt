@@ -10,12 +10,12 @@ use Prim.Native.Nat.{ℕ, suc, _+_, _-_, _<_, _≤_}
 use mathlib.Core.Path.{_≡_, refl, sym, ap, _∙_}
 use mathlib.Core.Logic.{⊎-elim}
 use mathlib.Core.Bool.{Bool, true, false, cond}
-use mathlib.Core.List.{List, [], _∷_}
-use mathlib.Core.Option.{some, none}
+use mathlib.Core.List.{List}
+use mathlib.Core.Option.{some}
 use native.Mathlib.Omega.{arith}
 use native.Mathlib.Nat.{sub-zero}
 use borrow.Author.Needs.{needs}
-use lib.ListN.{length, getD, take, drop, length-drop}
+use lib.ListN.{length, getD, take, drop}
 use lib.Seq.{drop-drop}
 use Rattle.octets.proofs.Lists.{lt-or-le, drop-one, drop-done}
 use Rattle.tokens.specs.Tokens.{past, skipped, afterQuote}
@@ -27,9 +27,8 @@ use Rattle.tokens.proofs.Skipping.{skip-to, skip-unreadable}
 use Rattle.tokens.proofs.Quoting.{quoted-to, quoted-unreadable}
 use Rattle.address.specs.Pieces.{run}
 use Rattle.address.specs.Address.{addressOctet, plain}
-use Rattle.address.proofs.Every.{by-test}
 use Rattle.address.proofs.Running.{Ran, ran}
-use Rattle.list.specs.List.{openingOf, holdsAt, Token, address, other, end, unreadable, runToken, quotedToken, tokenAt, firstToken}
+use Rattle.list.specs.List.{openingOf, holdsAt, Token, runToken, quotedToken, tokenAt, firstToken}
 use Rattle.list.specs.Answers.{between, foundIn, Inside}
 use Rattle.list.specs.declared.token.Sort.{Sort}
 use Rattle.list.specs.declared.token.Sort.the-variants.{Word}

@@ -5,12 +5,12 @@
 --     hand-end, hand-unread    the end, and an unreadable list
 -- Assumes nothing.
 use Prim.Native.Nat.{ℕ, _-_, _<_, _≤_}
-use mathlib.Core.Path.{_≡_, refl, sym, ap, _∙_}
+use mathlib.Core.Path.{_≡_}
 use mathlib.Core.Bool.{true}
 use mathlib.Core.List.{List, []}
 use mathlib.Core.Option.{some, none}
 use native.Mathlib.Omega.{arith}
-use lib.ListN.{length, drop}
+use lib.ListN.{length}
 use Rattle.address.specs.Address.{plain}
 use Rattle.list.specs.List.{inFront, addresses}
 use Rattle.list.specs.Answers.{between, beginning, left, Gives, Hands}

@@ -2,14 +2,12 @@
 --     Holding s a found here    whether a occurs comes to what was found, or to what is left from a cursor on
 --     holding-begin .. holding-unread   the loop's steps
 -- Assumes nothing.
-use Prim.Native.Nat.{ℕ, _-_, _<_, _≤_}
+use Prim.Native.Nat.{ℕ, _-_}
 use mathlib.Core.Path.{_≡_, refl, sym, ap, _∙_}
-use mathlib.Core.Bool.{Bool, true, false, _||_, or-assoc, or-false}
-use mathlib.Core.List.{List, [], _∷_}
+use mathlib.Core.Bool.{Bool, false, _||_, or-assoc, or-false}
+use mathlib.Core.List.{List}
 use mathlib.Core.Option.{Option, some, none}
-use native.Mathlib.Omega.{arith}
 use borrow.Author.Needs.{needs}
-use lib.ListN.{length}
 use Rattle.octets.specs.Octets.{sameOctets}
 use Rattle.address.specs.Address.{canonical}
 use Rattle.list.specs.List.{inFront, addresses, among, occurs}

@@ -6,12 +6,12 @@
 use Prim.Native.Nat.{ℕ, _-_, _<_, _≤_}
 use mathlib.Core.Path.{_≡_, refl, sym, ap, _∙_}
 use mathlib.Core.Bool.{Bool, true, false}
-use mathlib.Core.List.{List, [], _∷_}
+use mathlib.Core.List.{List, []}
 use mathlib.Core.Option.{some, none}
 use native.Mathlib.Omega.{arith}
 use borrow.Author.Needs.{needs}
 use lib.ListN.{length, drop}
-use Rattle.list.specs.List.{Token, address, other, end, unreadable, firstToken, afterAddress, after, mayEnd}
+use Rattle.list.specs.List.{address, other, firstToken, afterAddress, after, mayEnd}
 use Rattle.list.specs.Answers.{between, foundIn, Inside, left, Gives, Hands, Goes, Moved}
 use Rattle.list.specs.declared.token.Sort.{Sort}
 use Rattle.list.specs.declared.token.Found.{Found}
@@ -24,7 +24,7 @@ use Rattle.list.specs.declared.Handed.{Handed}
 use Rattle.list.specs.declared.Handed.the-variants.{Address, End, Unreadable}
 use Rattle.list.specs.declared.Move.{Move}
 use Rattle.list.specs.declared.Move.the-variants.{On, Done}
-use Rattle.list.proofs.Listing.{Shorter, shorter, listed-address, listed-address-wrong, listed-other, listed-other-wrong, listed-end, listed-unread}
+use Rattle.list.proofs.Listing.{shorter, listed-address, listed-address-wrong, listed-other, listed-other-wrong, listed-end, listed-unread}
 
 module _ (s : List ℕ) (c : Cursor) (g : Found) (e : foundIn s g ≡ firstToken (drop (c .at) s)) where
   found : (k : Found) → g ≡ k → firstToken (drop (c .at) s) ≡ foundIn s k

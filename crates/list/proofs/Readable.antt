@@ -4,27 +4,27 @@
 --     readable-length          a readable list has no more addresses than octets
 --     counted-some, counted-none      what a count says
 --     only-some                what the one address of a list says
---     hand-drop, hand-last, hand-readable     a loop over the addresses of a readable list, by their places
+--     hand-readable .. hand-rest      a loop over the addresses of a readable list, by their places
 -- Assumes nothing.
 use Prim.Native.Nat.{ℕ, zero, suc, _+_, _-_, _<_, _≤_, zero-le}
 use mathlib.Core.Path.{_≡_, refl, sym, ap, _∙_}
 use mathlib.Core.Logic.{⊎-elim}
-use mathlib.Core.Bool.{Bool, true, false, _&&_, false≢true}
+use mathlib.Core.Bool.{Bool, true, false, false≢true}
 use mathlib.Core.List.{List, [], _∷_}
 use mathlib.Core.Option.{Option, some, none}
 use native.Mathlib.Omega.{arith}
 use native.Mathlib.Numerals.{add-one}
 use borrow.Author.Tests.{ne-eqb}
-use lib.ListN.{length, getD, take, drop, length-drop, drop-of-length-le}
-use lib.Seq.{drop-cons, getD-drop, take-length, drop-length}
+use lib.ListN.{length, getD, drop, length-drop}
+use lib.Seq.{drop-cons, take-length, drop-length}
 use Rattle.octets.proofs.Lists.{lt-or-le}
-use Rattle.tokens.specs.Tokens.{blank, belongs, past, skipped}
+use Rattle.tokens.specs.Tokens.{blank, belongs, past}
 use Rattle.tokens.proofs.Skipping.{stays}
 use Rattle.address.specs.Pieces.{run, every}
 use Rattle.address.specs.Address.{addressOctet, plain}
-use Rattle.address.proofs.Every.{by-test, and-left, and-right}
+use Rattle.address.proofs.Every.{and-left, and-right}
 use Rattle.address.proofs.Sides.{plain-least, plain-octets, plain-at, low-apart}
-use Rattle.list.specs.List.{openingOf, Token, address, end, runToken, tokenAt, firstToken, afterAddress, inFront, listedBy, listed, addresses}
+use Rattle.list.specs.List.{address, runToken, tokenAt, firstToken, afterAddress, inFront, listedBy, listed, addresses}
 use Rattle.list.specs.Answers.{between, left, Hands, countedOf, onlyOf}
 use Rattle.list.specs.declared.grammar.Stage.{Stage}
 use Rattle.list.specs.declared.grammar.Stage.the-variants.{Place, Behind}

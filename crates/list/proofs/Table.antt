@@ -3,9 +3,8 @@
 --     told-any .. told-address     what is known of the place, the token and the group decides
 --     others-wrong      the sorts that a `_` stands for, given by their numbers, are wrong
 -- Assumes nothing.
-use Prim.Native.Nat.{ℕ}
-use mathlib.Core.Path.{_≡_, refl, sym, ap, _∙_}
-use mathlib.Core.Bool.{Bool, true, false, not}
+use mathlib.Core.Path.{_≡_, refl, _∙_}
+use mathlib.Core.Bool.{Bool}
 use mathlib.Core.Logic.{inl, inr}
 use mathlib.Core.List.{List, [], _∷_, map}
 use borrow.Author.Needs.{needs}
@@ -18,7 +17,7 @@ use Rattle.list.specs.declared.token.Sort.the-variants.{Word, Less, Grea
 use Rattle.list.specs.declared.grammar.Stage.{Stage}
 use Rattle.list.specs.declared.grammar.Stage.the-variants.{Place, Opened, Phrase, Angle, Closing, Behind}
 use Rattle.list.specs.declared.grammar.Step.{Step}
-use Rattle.list.specs.declared.grammar.Step.the-variants.{On, Wrong}
+use Rattle.list.specs.declared.grammar.Step.the-variants.{Wrong}
 use Rattle.list.proofs.token.Sort.{the-type as sorts}
 
 abbrev pub row : Stage → Bool → Sort → Step

@@ -1,70 +1,46 @@
 -- What single octets are, and whether a run holds an "@".
 --     in-run                    an octet of a run
 --     opens-run .. opens-nothing    what an octet opens, by the tests in their order
---     run-opens                 what opens a run is an octet of one
 --     Looks s i                 whether s holds an "@" comes to whether it does from i on
 --     looks-begin .. looks-end      the steps of a loop that looks for it
 -- Assumes nothing.
 use Prim.Native.Nat.{ℕ, _+_, _<_, _≤_}
-use mathlib.Core.Path.{_≡_, refl, sym, ap, _∙_}
+use mathlib.Core.Path.{_≡_, refl, sym, _∙_}
 use mathlib.Core.Bool.{Bool, true, false, _||_}
 use mathlib.Core.List.{List}
 use borrow.Author.Needs.{needs}
-use borrow.Author.Tests.{eq-eqb, ne-eqb, eqb-true}
+use borrow.Author.Tests.{eq-eqb, ne-eqb}
 use lib.Dec.{eqb}
 use lib.ListN.{length, getD, drop}
 use Rattle.octets.proofs.Lists.{drop-one, drop-done}
 use Rattle.tokens.specs.Tokens.{belongs}
 use Rattle.tokens.specs.declared.Class.the-variants.{Atom}
 use Rattle.address.specs.Address.{addressOctet}
-use Rattle.address.proofs.Every.{by-test}
-use Rattle.list.specs.List.{openingOf, holdsAt}
-use Rattle.list.specs.declared.token.Sort.the-variants.{Less, Greater, Comma, Colon, Semicolon}
+use Rattle.list.specs.List.{markOf, openingOf, holdsAt}
 use Rattle.list.specs.declared.token.Opening.{Opening}
-use Rattle.list.specs.declared.token.Opening.the-variants.{Run, Quote, Sign, Nothing}
+use Rattle.list.specs.declared.token.Opening.the-variants.{Run, Nothing}
 
 pub in-run : (x : ℕ) (a : Bool) → a ≡ belongs Atom x → ((a || eqb x 46) || eqb x 64) ≡ addressOctet x
 unfolding addressOctet
 in-run x a e = rw e
 
-module _ (x : ℕ) where
-  pub opens-quote : x ≡ 34 → Quote ≡ openingOf x
-  unfolding openingOf addressOctet belongs
-  opens-quote e = rw e
+-- what an octet opens; b is what a call answered of it
+module _ (x : ℕ) (b : Bool) (e : b ≡ addressOctet x) where
+  pub opens-run : b ≡ true → Run ≡ openingOf x
+  unfolding openingOf
+  opens-run p = rw (sym e ∙ p)
 
-  pub opens-comma : x ≡ 44 → Sign Comma ≡ openingOf x
-  unfolding openingOf addressOctet belongs
-  opens-comma e = rw e
+  pub opens-mark : (k : ℕ) (o : Opening) → b ≡ false → x ≡ k → o ≡ markOf k → o ≡ openingOf x
+  unfolding openingOf
+  opens-mark k o p q m = rw (sym e ∙ p, q) m
 
-  pub opens-less : x ≡ 60 → Sign Less ≡ openingOf x
-  unfolding openingOf addressOctet belongs
-  opens-less e = rw e
+  pub opens-nothing :
+      b ≡ false → (x ≡ 34 → ⊥) → (x ≡ 44 → ⊥) → (x ≡ 60 → ⊥) → (x ≡ 62 → ⊥) → (x ≡ 58 → ⊥) → (x ≡ 59 → ⊥) → Nothing ≡ openingOf x
+  unfolding openingOf
+  opens-nothing p q c l g o s =
+      rw (sym e ∙ p, ne-eqb x 34 q, ne-eqb x 44 c, ne-eqb x 60 l, ne-eqb x 62 g, ne-eqb x 58 o, ne-eqb x 59 s)
 
-  pub opens-greater : x ≡ 62 → Sign Greater ≡ openingOf x
-  unfolding openingOf addressOctet belongs
-  opens-greater e = rw e
-
-  pub opens-colon : x ≡ 58 → Sign Colon ≡ openingOf x
-  unfolding openingOf addressOctet belongs
-  opens-colon e = rw e
-
-  pub opens-semicolon : x ≡ 59 → Sign Semicolon ≡ openingOf x
-  unfolding openingOf addressOctet belongs
-  opens-semicolon e = rw e
-
-  module _ (b : Bool) (e : b ≡ addressOctet x) where
-    pub opens-run : b ≡ true → Run ≡ openingOf x
-    unfolding openingOf
-    opens-run p = rw (sym e ∙ p)
-
-    pub opens-nothing :
-        b ≡ false → (x ≡ 34 → ⊥) → (x ≡ 44 → ⊥) → (x ≡ 60 → ⊥) → (x ≡ 62 → ⊥) → (x ≡ 58 → ⊥) → (x ≡ 59 → ⊥) → Nothing ≡ openingOf x
-    unfolding openingOf
-    opens-nothing p q c l g o s =
-        rw (sym e ∙ p, ne-eqb x 34 q, ne-eqb x 44 c, ne-eqb x 60 l, ne-eqb x 62 g, ne-eqb x 58 o, ne-eqb x 59 s)
-
-pub ruleset telling =
-    (in-run, opens-run, opens-quote, opens-comma, opens-less, opens-greater, opens-colon, opens-semicolon, opens-nothing, needs)
+pub ruleset telling = (in-run, opens-run, opens-mark, opens-nothing, needs)
 
 pub record Looks (s : List ℕ) (i : ℕ) : Type 0 where
   pub so-far : holdsAt s ≡ holdsAt (drop i s)

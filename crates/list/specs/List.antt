@@ -23,17 +23,19 @@ use Rattle.list.specs.declared.grammar.Stage.the-variants.{Place, Opened
 use Rattle.list.specs.declared.grammar.Step.{Step}
 use Rattle.list.specs.declared.grammar.Step.the-variants.{On, Wrong}
 
--- What a token is shows in its first octet. A run is made of the octets of atoms, of dots and of "@". An octet that opens nothing, as
--- a control octet, a bracket or a backslash, makes the list unreadable.
-unfoldable pub openingOf : ℕ → Opening
-openingOf x =
-    cond (addressOctet x) Run
-    (cond (eqb x (octet "\"")) Quote
+-- What a token is shows in its first octet. A run is made of the octets of atoms, of dots and of "@"; a sign is a token by itself. An
+-- octet that opens nothing, as a control octet, a bracket or a backslash, makes the list unreadable.
+abbrev pub markOf : ℕ → Opening
+markOf x =
+    cond (eqb x (octet "\"")) Quote
     (cond (eqb x (octet ",")) (Sign Comma)
     (cond (eqb x (octet "<")) (Sign Less)
     (cond (eqb x (octet ">")) (Sign Greater)
     (cond (eqb x (octet ":")) (Sign Colon)
-    (cond (eqb x (octet ";")) (Sign Semicolon) Nothing))))))
+    (cond (eqb x (octet ";")) (Sign Semicolon) Nothing)))))
+
+unfoldable pub openingOf : ℕ → Opening
+openingOf x = cond (addressOctet x) Run (markOf x)
 
 -- is there an "@" in it?
 unfoldable pub holdsAt : List ℕ → Bool

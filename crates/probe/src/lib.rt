@@ -350,3 +350,83 @@ pub extern "C" fn probe_only(s: &[u8]) -> ListPlaces {
 pub extern "C" fn probe_holds(s: &[u8], wanted: &[u8]) -> bool {
     list::holds(s, wanted)
 }
+
+// kind 0: sound; 1: its length is no table's; 2: the slot `value` is neither free nor sound
+#[no_mangle]
+pub extern "C" fn probe_check(t: &[u8]) -> Answer {
+    match table::check(t) {
+        table::Checked::Sound => Answer { kind: 0, value: 0 },
+        table::Checked::Length => Answer { kind: 1, value: 0 },
+        table::Checked::Slot(i) => Answer {
+            kind: 2,
+            value: i as u64,
+        },
+    }
+}
+
+fn slot_found(r: table::Found) -> Answer {
+    match r {
+        table::Found::At(i) => Answer {
+            kind: 0,
+            value: i as u64,
+        },
+        table::Found::Nothing => Answer { kind: 1, value: 0 },
+    }
+}
+
+#[no_mangle]
+pub extern "C" fn probe_find(t: &[u8], address: &[u8]) -> Answer {
+    slot_found(table::find(t, address))
+}
+
+#[no_mangle]
+pub extern "C" fn probe_lowest_free(t: &[u8]) -> Answer {
+    slot_found(table::lowest_free(t))
+}
+
+#[no_mangle]
+pub extern "C" fn probe_count_free(t: &[u8]) -> usize {
+    table::count_free(t)
+}
+
+// kind 0: valid; 1: spoiled; 2: too little room for the key
+#[repr(C)]
+pub struct FieldRead {
+    pub kind: u64,
+    pub from: u64,
+    pub to: u64,
+    pub key: u64,
+    pub mutual: bool,
+}
+
+#[no_mangle]
+pub extern "C" fn probe_read_field(value: &[u8], key: &mut [u8]) -> FieldRead {
+    match keyfield::read_field(value, key) {
+        keyfield::Read::Valid {
+            from,
+            to,
+            mutual,
+            key,
+        } => FieldRead {
+            kind: 0,
+            from: from as u64,
+            to: to as u64,
+            key: key as u64,
+            mutual,
+        },
+        keyfield::Read::Spoiled => FieldRead {
+            kind: 1,
+            from: 0,
+            to: 0,
+            key: 0,
+            mutual: false,
+        },
+        keyfield::Read::NoRoom => FieldRead {
+            kind: 2,
+            from: 0,
+            to: 0,
+            key: 0,
+            mutual: false,
+        },
+    }
+}

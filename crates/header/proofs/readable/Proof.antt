@@ -6,10 +6,10 @@ use Rattle.header.proofs.readable.Statement.{statement}
 use Rattle.header.proofs.readable.Tie as tie
 
 abbrev Inv-loop : tie.InvT-loop
-Inv-loop block at₀ at = Legible block at
+Inv-loop block here₀ here = Legible block (here .at)
 
 abbrev μ-loop : tie.MeasureT-loop
-μ-loop block at₀ at = length block - at
+μ-loop block here₀ here = length block - here .at
 
 returns : tie.Need-returns Inv-loop μ-loop
 returns c = search reading
@@ -17,8 +17,8 @@ returns c = search reading
 loop-holds : tie.Need-loop-holds Inv-loop μ-loop
 loop-holds c = search reading
 
-field-at-requires : tie.Need-field-at-requires Inv-loop μ-loop
-field-at-requires c κs = search reading
+step-requires : tie.Need-step-requires Inv-loop μ-loop
+step-requires c κs = search reading
 
 enum-told : tie.Need-enum-told Inv-loop μ-loop
 enum-told c = search reading
@@ -49,7 +49,7 @@ readable-spec =
     μ-loop
     returns
     loop-holds
-    field-at-requires
+    step-requires
     enum-told
     returns-2
     enum-told-2

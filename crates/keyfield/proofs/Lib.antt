@@ -1,0 +1,14 @@
+pub mod Parts
+pub mod Finding
+pub mod Trimming
+pub mod Cutting
+pub mod Naming
+pub mod Stepping
+pub mod Scanning
+pub mod Keying
+pub mod Reading
+pub mod Counted
+pub mod Worked
+pub mod Fields
+pub mod Told
+pub mod ReadBack

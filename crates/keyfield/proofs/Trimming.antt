@@ -1,0 +1,130 @@
+-- Blanks left out at the ends of a part.
+--     front-blank, front-other      the first octet of a text that is trimmed in front
+--     back-blank, back-other        the last octet of a text that is trimmed behind
+--     Front s from to i             trimmed in front, the part from `from` on is the part from i on
+--     front-begin .. front-end      the steps of a loop that looks for the place
+--     Back s from to i              trimmed behind, the part up to `to` is the part up to i
+--     back-begin .. back-end        the steps of a loop that looks for that place
+--     trim-both                     both ends together
+-- Assumes nothing.
+use Prim.Native.Nat.{ℕ, _+_, _-_, _<_, _≤_}
+use mathlib.Core.Path.{_≡_, refl, sym, ap, _∙_}
+use mathlib.Core.Bool.{Bool, true, false, not}
+use mathlib.Core.List.{List, [], _∷_, _++_, reverse-append, reverse-reverse}
+use native.Mathlib.Omega.{arith}
+use borrow.Author.Needs.{needs}
+use borrow.Author.Tests.{not-true, not-false}
+use lib.ListN.{length, getD}
+use Rattle.tokens.specs.Tokens.{blank}
+use Rattle.keyfield.specs.Field.{trimmedFront, trimmedBack, trimmed}
+use Rattle.keyfield.specs.Answers.{part, Within, TrimmedFrom, TrimmedTo, Trimmed}
+use Rattle.keyfield.proofs.Parts.{part-none, part-first, part-last}
+
+module _ (x : ℕ) (s : List ℕ) where
+  pub front-blank : blank x ≡ true → trimmedFront (x ∷ s) ≡ trimmedFront s
+  unfolding trimmedFront
+  front-blank e = rw (trimmedFront, e)
+
+  pub front-other : blank x ≡ false → trimmedFront (x ∷ s) ≡ x ∷ s
+  unfolding trimmedFront
+  front-other e = rw (trimmedFront, e)
+
+  pub back-blank : blank x ≡ true → trimmedBack (s ++ (x ∷ [])) ≡ trimmedBack s
+  unfolding trimmedBack trimmedFront
+  back-blank e = rw (reverse-append s (x ∷ []), trimmedFront, e)
+
+  pub back-other : blank x ≡ false → trimmedBack (s ++ (x ∷ [])) ≡ s ++ (x ∷ [])
+  unfolding trimmedBack trimmedFront
+  back-other e = rw (reverse-append s (x ∷ []), trimmedFront, e, ← reverse-append s (x ∷ [])) (reverse-reverse (s ++ (x ∷ [])))
+
+pub record Front (s : List ℕ) (from to i : ℕ) : Type 0 where
+  pub low : from ≤ i
+  pub upto : i ≤ to
+  pub inside : to ≤ length s
+  pub so-far : trimmedFront (part s from to) ≡ trimmedFront (part s i to)
+
+module _ (s : List ℕ) (from to : ℕ) where
+  pub front-begin : Within s from to → Front s from to from
+  front-begin h = record { low = omega arith; upto = h .order; inside = h .upto; so-far = refl }
+
+  module _ (i : ℕ) (h : Front s from to i) where
+    pub front-read : i < to → i < length s
+    front-read l = omega arith
+
+    pub front-end : to ≤ i → TrimmedFrom s from to i
+    unfolding trimmedFront
+    front-end l =
+        let e : i ≡ to = omega (arith, h .upto) in
+        let z : part s i to ≡ [] = rw e (part-none s to) in
+        record { is = sym (h .so-far ∙ rw z); low = h .low; high = h .upto }
+
+    module _ (b : Bool) (l : i < to) (e : b ≡ blank (getD s i 0)) where
+      pub front-next : not b ≡ false → Front s from to (i + 1)
+      front-next n =
+          record {
+            low = omega arith;
+            upto = omega arith;
+            inside = h .inside;
+            so-far = h .so-far ∙ rw (part-first s i to l (h .inside)) (front-blank (getD s i 0) (part s (i + 1) to) (sym e ∙ not-false b n));
+          }
+
+      pub front-stop : not b ≡ true → TrimmedFrom s from to i
+      front-stop n =
+          record {
+            is = sym (h .so-far ∙ rw (part-first s i to l (h .inside)) (front-other (getD s i 0) (part s (i + 1) to) (sym e ∙ not-true b n)));
+            low = h .low;
+            high = h .upto;
+          }
+
+pub ruleset trimming-front = (front-begin, front-read, front-next, front-stop, front-end, needs)
+
+pub record Back (s : List ℕ) (from to i : ℕ) : Type 0 where
+  pub low : from ≤ i
+  pub upto : i ≤ to
+  pub inside : to ≤ length s
+  pub so-far : trimmedBack (part s from to) ≡ trimmedBack (part s from i)
+
+module _ (s : List ℕ) (from to : ℕ) where
+  pub back-begin : Within s from to → Back s from to to
+  back-begin h = record { low = h .order; upto = omega arith; inside = h .upto; so-far = refl }
+
+  module _ (i : ℕ) (h : Back s from to i) where
+    pub back-read : from < i → i - 1 < length s
+    back-read l = omega arith
+
+    pub back-end : i ≤ from → TrimmedTo s from to i
+    unfolding trimmedBack trimmedFront
+    back-end l =
+        let e : i ≡ from = omega (arith, h .low) in
+        let z : part s from i ≡ [] = rw e (part-none s from) in
+        record { is = sym (h .so-far ∙ rw z); low = h .low; high = h .upto }
+
+    module _ (b : Bool) (l : from < i) (e : b ≡ blank (getD s (i - 1) 0)) where
+      pub back-next : not b ≡ false → Back s from to (i - 1)
+      back-next n =
+          record {
+            low = omega arith;
+            upto = omega arith;
+            inside = h .inside;
+            so-far =
+                h .so-far
+                ∙ rw (part-last s from i l (omega arith)) (back-blank (getD s (i - 1) 0) (part s from (i - 1)) (sym e ∙ not-false b n));
+          }
+
+      pub back-stop : not b ≡ true → TrimmedTo s from to i
+      back-stop n =
+          record {
+            is = sym (h .so-far ∙ rw (part-last s from i l (omega arith)) (back-other (getD s (i - 1) 0) (part s from (i - 1)) (sym e ∙ not-true b n)));
+            low = h .low;
+            high = h .upto;
+          }
+
+pub ruleset trimming-back = (back-begin, back-read, back-next, back-stop, back-end, needs)
+
+-- both ends together, as `trim` has them
+pub trim-both : (s : List ℕ) (from to start end : ℕ) → TrimmedFrom s from to start → TrimmedTo s start to end → Trimmed s from to (record { from = start; to = end })
+unfolding trimmed
+trim-both s from to start end f b =
+    record { low = f .low; order = b .low; high = b .high; is = b .is ∙ ap trimmedBack (f .is) }
+
+pub ruleset trimming = (trim-both, needs)

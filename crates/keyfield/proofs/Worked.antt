@@ -1,0 +1,83 @@
+-- Worked examples, by computing the definitions: those of paper 01 on fields, and what its readings K1 to K9 name.
+-- Assumes nothing.
+use Prim.Native.Nat.{ℕ}
+use mathlib.Core.Path.{_≡_, refl}
+use mathlib.Core.Bool.{Bool, true, false}
+use mathlib.Core.List.{List, [], _∷_}
+use mathlib.Core.Option.{Option, some, none}
+use Rattle.octets.specs.Octets.{ascii, lower, lowered, sameOctets, startsWith}
+use Rattle.tokens.specs.Tokens.{blank, belongs}
+use Rattle.base64.specs.Base64 as base64
+use Rattle.address.specs.Pieces.{every, onFirst, pieces, before, behind}
+use Rattle.address.specs.Address.{atom, localPart, labelOctet, freeEnds, label, domain, plain, canonical}
+use Rattle.keyfield.specs.Field.{trimmedFront, trimmedBack, trimmed, nameOf, attribute, holds, attributeOf, withAddress, withPreference, step, saidWith, ifLast, saidFrom, saidOf, limited, keyOf, Field, withKey, fieldBy, fieldOf, naming, validFields, onlyOne, counted}
+
+-- the field of a@b.example with the key `foo`, and those of a@b with the key `f`
+abbrev pub foo : Field
+foo = record { address = ascii "a@b.example"; isMutual = false; key = ascii "foo" }
+
+abbrev pub plainF : Field
+plainF = record { address = ascii "a@b"; isMutual = false; key = ascii "f" }
+
+abbrev pub mutualF : Field
+mutualF = record { address = ascii "a@b"; isMutual = true; key = ascii "f" }
+
+-- "`addr=a@b.example; keydata=Zm9v` from A@B.example counts; with `type=1;` before keydata it doesn't; with `_type=1;` it does; with a final `;` it
+-- doesn't." "two valid, even equal, count as none"
+abbrev pub Counts : Option Field → List (List ℕ) → Type 0
+Counts f values = counted values (canonical (ascii "A@B.example")) ≡ f
+
+pub counts : Counts (some foo) (ascii "addr=a@b.example; keydata=Zm9v" ∷ [])
+    × Counts none (ascii "addr=a@b.example; type=1; keydata=Zm9v" ∷ [])
+    × Counts (some foo) (ascii "addr=a@b.example; _type=1; keydata=Zm9v" ∷ [])
+    × Counts none (ascii "addr=a@b.example; keydata=Zm9v;" ∷ [])
+    × Counts none (ascii "addr=a@b.example; keydata=Zm9v" ∷ ascii "addr=a@b.example; keydata=Zm9v" ∷ [])
+    × Counts (some foo) (ascii "addr=c@d; keydata=Zm9v" ∷ ascii "addr=a@b.example; keydata=Zm9v" ∷ ascii "spoiled" ∷ [])
+unfolding counted onlyOne validFields naming fieldOf fieldBy withKey keyOf limited saidOf saidFrom ifLast saidWith step withAddress withPreference attributeOf holds attribute nameOf trimmed trimmedBack trimmedFront blank every onFirst pieces before behind plain localPart atom domain label labelOctet freeEnds belongs canonical lowered lower sameOctets startsWith base64.decode base64.follow base64.before base64.atEnd base64.grouped base64.closed base64.signOf base64.withoutBlanks base64.blank
+counts = (refl, refl, refl, refl, refl, refl)
+
+-- "`Zg==` is `f`; `Zh==` and `Zg` spoil the field."
+pub the-key : (fieldOf (ascii "addr=a@b;keydata=Zg==") ≡ some plainF)
+    × (fieldOf (ascii "addr=a@b;keydata=Zh==") ≡ none)
+    × (fieldOf (ascii "addr=a@b;keydata=Zg") ≡ none)
+unfolding fieldOf fieldBy withKey keyOf limited saidOf saidFrom ifLast saidWith step withAddress withPreference attributeOf holds attribute nameOf trimmed trimmedBack trimmedFront blank every onFirst pieces before behind plain localPart atom domain label labelOctet freeEnds belongs canonical lowered lower sameOctets startsWith base64.decode base64.follow base64.before base64.atEnd base64.grouped base64.closed base64.signOf base64.withoutBlanks base64.blank
+the-key = (refl, refl, refl)
+
+-- K4, K5, K7, K9: preferences, ignored names, blanks, an address with a "="
+valid-ones : (fieldOf (ascii " addr = A@b\t; prefer-encrypt\t= mutual ;keydata= Z g=\t= ") ≡ some mutualF)
+    × (fieldOf (ascii "addr=a@b; prefer-encrypt=Mutual; keydata=Zg==") ≡ some plainF)
+    × (fieldOf (ascii "_=; _=1; addr=a@b; _x=y=z; _=; keydata=Zg==") ≡ some plainF)
+    × (fieldOf (ascii "addr=a=b@c; keydata=Zg==") ≡ some (record { address = ascii "a=b@c"; isMutual = false; key = ascii "f" }))
+unfolding fieldOf fieldBy withKey keyOf limited saidOf saidFrom ifLast saidWith step withAddress withPreference attributeOf holds attribute nameOf trimmed trimmedBack trimmedFront blank every onFirst pieces before behind plain localPart atom domain label labelOctet freeEnds belongs canonical lowered lower sameOctets startsWith base64.decode base64.follow base64.before base64.atEnd base64.grouped base64.closed base64.signOf base64.withoutBlanks base64.blank
+valid-ones = (refl, refl, refl, refl)
+
+-- K1, K2, K3, K4, K5, K8: what spoils a field
+spoiledOnes : List (List ℕ)
+spoiledOnes =
+    ascii ""
+    ∷ ascii "addr=a@b"
+    ∷ ascii "keydata=Zg=="
+    ∷ ascii "addr=a@b (c); keydata=Zg=="
+    ∷ ascii "_x=(;); addr=a@b; keydata=Zg=="
+    ∷ ascii "addr=a@b; keydata=Zg==; _x=1"
+    ∷ ascii "keydata=Zg==; addr=a@b"
+    ∷ ascii "addr=a@b; keydata=Zg==; keydata=Zg=="
+    ∷ ascii "Addr=a@b; keydata=Zg=="
+    ∷ ascii "addr=a@b; KEYDATA=Zg=="
+    ∷ ascii "addr=a@b; key data=Zg=="
+    ∷ ascii "addr=a@b; addr=a@b; keydata=Zg=="
+    ∷ ascii "addr=a@b; prefer-encrypt=mutual; prefer-encrypt=mutual; keydata=Zg=="
+    ∷ ascii "addr=a@b; _x; keydata=Zg=="
+    ∷ ascii "addr=a@b; =1; keydata=Zg=="
+    ∷ ascii "addr=a@b;; keydata=Zg=="
+    ∷ ascii "addr=a; keydata=Zg=="
+    ∷ ascii "addr=a@b; keydata="
+    ∷ []
+
+isSpoiled : Option Field → Bool
+isSpoiled none = true
+isSpoiled (some f) = false
+
+all-spoiled : every (λ s. isSpoiled (fieldOf s)) spoiledOnes ≡ true
+unfolding spoiledOnes isSpoiled fieldOf fieldBy withKey keyOf limited saidOf saidFrom ifLast saidWith step withAddress withPreference attributeOf holds attribute nameOf trimmed trimmedBack trimmedFront blank every onFirst pieces before behind plain localPart atom domain label labelOctet freeEnds belongs canonical lowered lower sameOctets startsWith base64.decode base64.follow base64.before base64.atEnd base64.grouped base64.closed base64.signOf base64.withoutBlanks base64.blank
+all-spoiled = refl
