@@ -54,12 +54,14 @@ class Lent:
 
 
 _size = ctypes.c_size_t
-_read = [ctypes.c_char_p, _size]
-_write = [ctypes.c_void_p, _size]
+_read = READ = [ctypes.c_char_p, _size]
+_write = WRITE = [ctypes.c_void_p, _size]
 
 
-class Probe:
-    def __init__(self, library: Path = LIBRARY):
+class Bound:
+    """A library's functions, called by name."""
+
+    def __init__(self, library: Path):
         self._library = ctypes.CDLL(str(library))
 
     def _call(self, name, result, kinds, *words):
@@ -67,6 +69,11 @@ class Probe:
         function.restype = result
         function.argtypes = kinds
         return function(*words)
+
+
+class Probe(Bound):
+    def __init__(self):
+        super().__init__(LIBRARY)
 
     # octets
 

@@ -17,7 +17,8 @@ use Rattle.octets.proofs.Lists.{lt-or-le}
 use Rattle.address.specs.Address.{oneTo, plain}
 use Rattle.address.proofs.Every.{by-test}
 use Rattle.autocrypt.specs.Refusals.{numberOf}
-use Rattle.autocrypt.specs.Writing.{keyLimit, refusedWriting, writtenOf, leftByWriting, numberIn}
+use Rattle.slots.specs.Slot.{keyLimit}
+use Rattle.autocrypt.specs.Writing.{refusedWriting, writtenOf, leftByWriting, numberIn}
 use Rattle.autocrypt.specs.declared.Refusal.{Refusal}
 use Rattle.autocrypt.specs.declared.Written.the-variants.{Done, Refused}
 use Rattle.autocrypt.proofs.Writing.{not-plain, key-out, too-short, in-order, refused-answer, done-answer, refused-left, done-left}

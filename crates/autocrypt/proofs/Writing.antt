@@ -21,7 +21,8 @@ use Rattle.address.specs.declared.Written.{Written as Fitted}
 use Rattle.address.specs.declared.Written.the-variants.{Length, NoRoom}
 use Rattle.address.proofs.Room.{written-length, written-no-room, onto-fits, onto-none}
 use Rattle.writer.specs.Writing.{written}
-use Rattle.autocrypt.specs.Writing.{autocryptField, gossipField, keyLimit, refusedWriting, writtenBy, leftBy, writtenOf, leftByWriting}
+use Rattle.slots.specs.Slot.{keyLimit}
+use Rattle.autocrypt.specs.Writing.{autocryptField, gossipField, refusedWriting, writtenBy, leftBy, writtenOf, leftByWriting}
 use Rattle.autocrypt.specs.declared.Refusal.{Refusal}
 use Rattle.autocrypt.specs.declared.Refusal.the-variants.{OwnAddress, KeyLength, OutputLength}
 use Rattle.autocrypt.specs.declared.Written.the-variants.{Done, Refused}

@@ -1,6 +1,5 @@
 -- "Writing", of paper 01, with its refusals: what the two writers answer and what they leave in the output.
 --     autocryptField, gossipField    the two fields
---     keyLimit                       how long a key may be
 --     refusedWriting                 the refusal, or none
 --     writtenOf, leftByWriting       the answer, and what the output holds afterwards
 --     numberIn                       the number of an answer
@@ -13,6 +12,7 @@ use lib.ListN.{length}
 use Rattle.octets.specs.Octets.{ascii}
 use Rattle.octets.specs.Written.{onto}
 use Rattle.address.specs.Address.{oneTo, plain}
+use Rattle.slots.specs.Slot.{keyLimit}
 use Rattle.writer.specs.Writing.{written}
 use Rattle.autocrypt.specs.declared.Refusal.{Refusal}
 use Rattle.autocrypt.specs.declared.Refusal.the-variants.{OwnAddress, KeyLength, OutputLength}
@@ -27,10 +27,6 @@ autocryptField address isMutual key = written (ascii "Autocrypt") address isMutu
 -- "Gossip uses its name and never a preference."
 unfoldable pub gossipField : List ℕ → List ℕ → List ℕ
 gossipField address key = written (ascii "Autocrypt-Gossip") address false key
-
--- "1 to 2,048 octets"
-abbrev pub keyLimit : ℕ
-keyLimit = 2048
 
 -- "writing 9, 11, 12", in this order: "own address argument isn't one plain address", "key argument isn't 1 to 2,048 octets", "output
 -- shorter than the field"

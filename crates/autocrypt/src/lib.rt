@@ -6,6 +6,7 @@ ghost use lib.ListN.{length};
 ghost use Rattle.writer.specs.Writing.{written};
 ghost use Rattle.autocrypt.specs.Refusals.{numberOf, indexOf};
 ghost use Rattle.autocrypt.specs.Writing.{autocryptField, gossipField, writtenOf, leftByWriting};
+use slots::Slot;
 
 // Why a call refuses, named for the rows of "Refusal numbers", in their order.
 pub enum Refusal {
@@ -28,9 +29,6 @@ pub enum Written {
     Done(usize),
     Refused(Refusal),
 }
-
-// "1 to 2,048 octets"
-const KEY_LIMIT: usize = 2048;
 
 // The paper's number of a refusal.
 pub fn number(refusal: Refusal) -> u32
@@ -84,7 +82,7 @@ fn write(name: &[u8], address: &[u8], mutual: bool, key: &[u8], out: &mut [u8]) 
     if key.len() == 0 {
         return Written::Refused(Refusal::KeyLength);
     }
-    if KEY_LIMIT < key.len() {
+    if Slot::KEY_LIMIT < key.len() {
         return Written::Refused(Refusal::KeyLength);
     }
     match writer::write_field(name, address, mutual, key, out) {
