@@ -12,6 +12,7 @@ test:
 
 lib:
 	@tools/install
+	@tools/build-lib cabi vienghulac
 	@tools/build-lib probe vienghulac_probe
 
 clean:

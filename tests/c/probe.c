@@ -1,9 +1,5 @@
 /* The static library called from C: a few answers whose values are known from RFC 4648 and the scope paper. */
-#include <stdbool.h>
-#include <stddef.h>
-#include <stdint.h>
-#include <stdio.h>
-#include <string.h>
+#include "expect.h"
 
 typedef struct { uint64_t kind, value; } answer;
 
@@ -13,14 +9,6 @@ answer probe_skip(const uint8_t *s, size_t length, size_t at);
 answer probe_date(const uint8_t *value, size_t length);
 bool probe_is_zero(const uint8_t *s, size_t length);
 bool probe_same_name(const uint8_t *a, size_t m, const uint8_t *b, size_t n);
-
-static int passed, failed;
-
-static void expect(const char *what, bool ok) {
-    if (ok) passed++; else { failed++; printf("not as expected: %s\n", what); }
-}
-
-static const uint8_t *octets(const char *text) { return (const uint8_t *)text; }
 
 static bool decodes(const char *text, const char *to) {
     uint8_t out[16];
@@ -52,6 +40,5 @@ int main(void) {
     zeros[99] = 1;
     expect("no zeros", !probe_is_zero(zeros, 100));
     expect("names", probe_same_name(octets("Autocrypt"), 9, octets("aUTOCRYPT"), 9));
-    printf("%d passed, %d failed\n", passed, failed);
-    return failed != 0;
+    return counted();
 }

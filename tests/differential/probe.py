@@ -17,6 +17,25 @@ class Answer(ctypes.Structure):
     _fields_ = [("kind", ctypes.c_uint64), ("value", ctypes.c_uint64)]
 
 
+class FieldPlaces(ctypes.Structure):
+    _fields_ = [(name, ctypes.c_uint64) for name in ("kind", "name_end", "value", "end")]
+
+
+class ListPlaces(ctypes.Structure):
+    _fields_ = [
+        ("kind", ctypes.c_uint64),
+        ("from_", ctypes.c_uint64),
+        ("to", ctypes.c_uint64),
+        ("at", ctypes.c_size_t),
+        ("stage", ctypes.c_uint64),
+        ("inside", ctypes.c_bool),
+    ]
+
+
+class FieldRead(ctypes.Structure):
+    _fields_ = [(name, ctypes.c_uint64) for name in ("kind", "from_", "to", "key")] + [("mutual", ctypes.c_bool)]
+
+
 class Lent:
     """A buffer that is lent for one call."""
 
@@ -35,12 +54,14 @@ class Lent:
 
 
 _size = ctypes.c_size_t
-_read = [ctypes.c_char_p, _size]
-_write = [ctypes.c_void_p, _size]
+_read = READ = [ctypes.c_char_p, _size]
+_write = WRITE = [ctypes.c_void_p, _size]
 
 
-class Probe:
-    def __init__(self, library: Path = LIBRARY):
+class Bound:
+    """A library's functions, called by name."""
+
+    def __init__(self, library: Path):
         self._library = ctypes.CDLL(str(library))
 
     def _call(self, name, result, kinds, *words):
@@ -48,6 +69,11 @@ class Probe:
         function.restype = result
         function.argtypes = kinds
         return function(*words)
+
+
+class Probe(Bound):
+    def __init__(self):
+        super().__init__(LIBRARY)
 
     # octets
 
@@ -124,3 +150,102 @@ class Probe:
     def effective_date(self, date: int | None, receipt: int) -> int:
         kinds = [ctypes.c_bool, ctypes.c_uint64, ctypes.c_uint64]
         return self._call("probe_effective_date", ctypes.c_uint64, kinds, date is not None, date or 0, receipt)
+
+    # header
+
+    def fields(self, block: bytes) -> list[tuple[bytes, bytes]] | None:
+        """The block's fields with their unfolded values, field by field; None: unreadable. The length limit is `readable`'s."""
+        found, at = [], 0
+        while True:
+            r = self._call("probe_field_at", FieldPlaces, _read + [_size], block, len(block), at)
+            if r.kind != 2:
+                return found if r.kind == 0 else None
+            if not at < r.name_end < r.value <= r.end <= len(block):
+                raise AssertionError(f"places out of order: {at} {r.name_end} {r.value} {r.end}")
+            kind, value = self.unfold(block[r.value : r.end], bytes(r.end - r.value))
+            found.append((block[at : r.name_end], value))
+            at = r.end
+
+    def readable(self, block: bytes) -> bool:
+        return self._call("probe_readable", ctypes.c_bool, _read, block, len(block))
+
+    def unfold(self, raw: bytes, out: bytes) -> tuple[int, bytes]:
+        """The kind, and the octets; the rest of the buffer must be as it was lent."""
+        lent = Lent(out)
+        r = self._call("probe_unfold", Answer, _read + _write, raw, len(raw), *lent.words())
+        after = lent.now()
+        if after[r.value :] != out[r.value :]:
+            raise AssertionError("the buffer past the value changed")
+        return r.kind, after[: r.value]
+
+    def is_report(self, value: bytes) -> bool:
+        return self._call("probe_is_report", ctypes.c_bool, _read, value, len(value))
+
+    # address
+
+    def is_plain(self, s: bytes) -> bool:
+        return self._call("probe_is_plain", ctypes.c_bool, _read, s, len(s))
+
+    def is_canonical(self, s: bytes) -> bool:
+        return self._call("probe_is_canonical", ctypes.c_bool, _read, s, len(s))
+
+    def same_address(self, a: bytes, b: bytes) -> bool:
+        return self._call("probe_same_address", ctypes.c_bool, _read + _read, a, len(a), b, len(b))
+
+    def canonical(self, s: bytes, out: bytes) -> tuple[int, int, bytes]:
+        lent = Lent(out)
+        r = self._call("probe_canonical", Answer, _read + _write, s, len(s), *lent.words())
+        return r.kind, r.value, lent.now()
+
+    # list
+
+    def addresses(self, s: bytes) -> list[bytes] | None:
+        """The list's addresses, handed out one after the other; None: unreadable."""
+        found, at, stage, inside = [], 0, 0, False
+        kinds = _read + [_size, ctypes.c_uint64, ctypes.c_bool]
+        while True:
+            r = self._call("probe_next_address", ListPlaces, kinds, s, len(s), at, stage, inside)
+            if r.kind != 0:
+                return found if r.kind == 2 else None
+            if not at <= r.from_ < r.to <= r.at <= len(s):
+                raise AssertionError(f"places out of order: {at} {r.from_} {r.to} {r.at}")
+            found.append(s[r.from_ : r.to])
+            at, stage, inside = r.at, r.stage, r.inside
+
+    def count(self, s: bytes) -> int | None:
+        r = self._call("probe_count", Answer, _read, s, len(s))
+        return r.value if r.kind == 0 else None
+
+    def only(self, s: bytes) -> bytes | None:
+        r = self._call("probe_only", ListPlaces, _read, s, len(s))
+        return s[r.from_ : r.to] if r.kind == 0 else None
+
+    def holds(self, s: bytes, wanted: bytes) -> bool:
+        return self._call("probe_holds", ctypes.c_bool, _read + _read, s, len(s), wanted, len(wanted))
+
+    # table
+
+    def check(self, table: bytes) -> tuple[int, int]:
+        r = self._call("probe_check", Answer, _read, table, len(table))
+        return r.kind, r.value
+
+    def _slot(self, name: str, kinds: list, *words) -> int | None:
+        r = self._call(name, Answer, kinds, *words)
+        return r.value if r.kind == 0 else None
+
+    def find(self, table: bytes, address: bytes) -> int | None:
+        return self._slot("probe_find", _read + _read, table, len(table), address, len(address))
+
+    def lowest_free(self, table: bytes) -> int | None:
+        return self._slot("probe_lowest_free", _read, table, len(table))
+
+    def count_free(self, table: bytes) -> int:
+        return self._call("probe_count_free", _size, _read, table, len(table))
+
+    # keyfield
+
+    def read_field(self, value: bytes, key: bytes) -> tuple[int, bytes, bool, int, bytes]:
+        """The kind (0 valid, 1 spoiled, 2 too little room), the address as it stands, mutual, the key's length, the buffer."""
+        lent = Lent(key)
+        r = self._call("probe_read_field", FieldRead, _read + _write, value, len(value), *lent.words())
+        return r.kind, value[r.from_ : r.to], r.mutual, r.key, lent.now()

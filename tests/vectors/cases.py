@@ -1,6 +1,6 @@
-"""The stored cases of crate `vectors`: what it is given, and what the independent program says to each.
+"""The stored cases of the programs `vectors` and `listing`: what they are given, and what the independent program says.
 
-    python3 tests/vectors/cases.py     writes crates/vectors/stdin and crates/vectors/stdout
+    python3 tests/vectors/cases.py     writes crates/vectors/{stdin,stdout} and crates/listing/{stdin,stdout}
 """
 import sys
 from pathlib import Path
@@ -8,9 +8,9 @@ from pathlib import Path
 ROOT = Path(__file__).resolve().parents[2]
 sys.path.insert(0, str(ROOT / "tests" / "independent"))
 
-from paper import base64, date, tokens  # noqa: E402
+from paper import base64, date, listing, table, tokens  # noqa: E402
 
-CRATE = ROOT / "crates" / "vectors"
+CRATES = ROOT / "crates"
 
 # RFC 4648, section 10
 PLAIN = [b"", b"f", b"fo", b"foo", b"foob", b"fooba", b"foobar"]
@@ -71,14 +71,27 @@ def cases() -> list[tuple[bytes, bytes]]:
     return [(kind, text) for kind, texts in ((b"b", TEXTS), (b"e", KEYS), (b"k", COMMENTS), (b"q", QUOTED), (b"d", DATES)) for text in texts]
 
 
+# the paper's example, a free slot, an address alone, and both halves at both ends of their limits
+ENTRIES = [
+    table.Entry(b"alice@a.example", 1000, 1000, b"abc", True),
+    None,
+    table.Entry(b"b@c"),
+    table.Entry(b"carol@c.example", table.TIME_LIMIT, 0, bytes(2048), False, table.TIME_LIMIT, b"g" * 2048),
+    table.Entry("dörte@d.example".encode(), None, None, None, False, 0, b"\0"),
+]
+
+
 def files() -> dict[str, bytes]:
-    """What the stored files must hold."""
+    """What the stored files must hold, by their place below crates/."""
+    stored = table.table_of(ENTRIES)
     return {
-        "stdin": b"".join(kind + b" " + text + b"\n" for kind, text in cases()),
-        "stdout": b"".join(answer(kind, text) for kind, text in cases()),
+        "vectors/stdin": b"".join(kind + b" " + text + b"\n" for kind, text in cases()),
+        "vectors/stdout": b"".join(answer(kind, text) for kind, text in cases()),
+        "listing/stdin": stored,
+        "listing/stdout": listing.listing(stored),
     }
 
 
 if __name__ == "__main__":
     for name, content in files().items():
-        (CRATE / name).write_bytes(content)
+        (CRATES / name).write_bytes(content)

@@ -5,18 +5,18 @@
 --     octets-answered, wrong-answered, full-answered    what each answer says of the text
 --     octets-left, wrong-left, full-left, left-length    and of the memory after it
 -- Assumes nothing.
-use Prim.Native.Nat.{ℕ, zero, suc, _+_, _*_, _/_, _%_, _<_, _≤_}
-use mathlib.Core.Path.{_≡_, refl, sym, ap, _∙_}
+use Prim.Native.Nat.{ℕ, zero, suc, _*_, _%_, _<_, _≤_}
+use mathlib.Core.Path.{_≡_, refl}
 use mathlib.Core.Bool.{Bool, true, false, cond}
 use mathlib.Core.List.{List, [], _∷_, _++_}
 use mathlib.Core.Option.{Option, some, none}
 use native.Mathlib.Omega.{arith}
 use borrow.Author.Tests.{leb-true, leb-false, le-leb, lt-leb}
 use lib.Dec.{leb, eqb}
-use lib.ListN.{length, getD, drop, length-append, length-drop}
+use lib.ListN.{length, drop, length-append, length-drop}
 use Rattle.octets.specs.Octets.{AllOctets}
 use Rattle.octets.specs.Written.{onto}
-use Rattle.base64.specs.Base64.{signOf, closed, grouped, groupOf, before, atEnd, follow, decode}
+use Rattle.base64.specs.Base64.{signOf, closed, grouped, groupOf, atEnd, follow, decode}
 use Rattle.base64.specs.Answers.{decodedOf, octetsIn, leftIn}
 use Rattle.base64.specs.Steps.{Low}
 use Rattle.base64.proofs.Alphabet.{by-test, below}

@@ -1,6 +1,7 @@
 -- Blanks, and the text without them from a place on.
 --     is-space, is-tab    the test for a blank
---     without-one, without-blank    one character of the text that stays, and one that goes
+--     either-other, blank-other    two characters, and blanks, that stand for nothing
+--     without-passing, without-other    one character of the text that goes, and one that stays
 --     Skipped s at i      from the place `at` to the place i of s there are only blanks
 --     the ruleset         skipping, for `is_blank` and `next_letter`
 -- Assumes nothing.
@@ -14,7 +15,7 @@ use borrow.Author.Tests.{eqb-true, eq-eqb, ne-eqb, not-true, not-false}
 use lib.Dec.{eqb}
 use lib.ListN.{length, getD, drop}
 use Rattle.octets.proofs.Lists.{drop-one, drop-done}
-use Rattle.base64.specs.Base64.{signOf, blank, withoutBlanks}
+use Rattle.base64.specs.Base64.{signOf, without, blank, withoutBlanks}
 use Rattle.base64.specs.Steps.{NextLetter}
 use Rattle.base64.specs.declared.Sign.the-variants.{Other}
 use Rattle.base64.specs.declared.Letter.the-variants.{End, At}
@@ -27,26 +28,31 @@ pub is-tab : (x : ℕ) → (x ≡ 32 → ⊥) → eqb x 9 ≡ blank x
 unfolding blank
 is-tab x e = rw (ne-eqb x 32 e)
 
--- a blank stands for nothing
+-- two characters that stand for nothing
+pub either-other : (a b : ℕ) → signOf a ≡ Other → signOf b ≡ Other → (x : ℕ) → (eqb x a || eqb x b) ≡ true → signOf x ≡ Other
+either-other a b h k x e = go (eqb x a) refl e
+  where
+    go : (t : Bool) → eqb x a ≡ t → (t || eqb x b) ≡ true → signOf x ≡ Other
+    go true q r = rw (eqb-true x a q) h
+    go false q r = rw (eqb-true x b r) k
+
 pub blank-other : (x : ℕ) → blank x ≡ true → signOf x ≡ Other
 unfolding blank signOf
-blank-other x e = go (eqb x 32) refl e
-  where
-    go : (b : Bool) → eqb x 32 ≡ b → (b || eqb x 9) ≡ true → signOf x ≡ Other
-    go true q t = rw (eqb-true x 32 q)
-    go false q t = rw (eqb-true x 9 t)
+blank-other x e = either-other 32 9 refl refl x e
 
-pub without-blank : (x : ℕ) (s : List ℕ) → blank x ≡ true → withoutBlanks (x ∷ s) ≡ withoutBlanks s
-unfolding withoutBlanks
-without-blank x s e = rw (withoutBlanks, e)
+module _ (test : ℕ → Bool) where
+  pub without-none : without test [] ≡ []
+  unfolding without
+  without-none = refl
 
-pub without-one : (x : ℕ) (s : List ℕ) → blank x ≡ false → withoutBlanks (x ∷ s) ≡ x ∷ withoutBlanks s
-unfolding withoutBlanks
-without-one x s e = rw (withoutBlanks, e)
+  module _ (x : ℕ) (s : List ℕ) where
+    pub without-passing : test x ≡ true → without test (x ∷ s) ≡ without test s
+    unfolding without
+    without-passing e = rw (without, e)
 
-pub without-none : withoutBlanks [] ≡ []
-unfolding withoutBlanks
-without-none = refl
+    pub without-other : test x ≡ false → without test (x ∷ s) ≡ x ∷ without test s
+    unfolding without
+    without-other e = rw (without, e)
 
 pub record Skipped (s : List ℕ) (at i : ℕ) : Type 0 where
   pub same : withoutBlanks (drop at s) ≡ withoutBlanks (drop i s)
@@ -59,16 +65,16 @@ module _ (s : List ℕ) (at i : ℕ) (h : Skipped s at i) where
   module _ (l : i < length s) (b : Bool) (e : b ≡ blank (getD s i 0)) where
     pub skipped-more : b ≡ true → Skipped s at (i + 1)
     skipped-more t = record {
-      same = h .same ∙ rw (drop-one s i l) (without-blank _ _ (sym e ∙ t));
+      same = h .same ∙ rw (drop-one s i l) (without-passing blank _ _ (sym e ∙ t));
       behind = omega (arith, h .behind);
     }
 
     pub stays : b ≡ false → NextLetter s at (At (getD s i 0) (i + 1))
     unfolding NextLetter
-    stays t = (h .same ∙ rw (drop-one s i l) (without-one _ _ (sym e ∙ t)), omega (arith, h .behind), omega arith)
+    stays t = (h .same ∙ rw (drop-one s i l) (without-other blank _ _ (sym e ∙ t)), omega (arith, h .behind), omega arith)
 
   pub at-end : length s ≤ i → NextLetter s at End
   unfolding NextLetter
-  at-end l = h .same ∙ rw (drop-done s i l) without-none
+  at-end l = h .same ∙ rw (drop-done s i l) (without-none blank)
 
 pub ruleset skipping = (is-space, is-tab, skipped-none, skipped-more, stays, at-end, not-true, not-false, needs)

@@ -2,15 +2,14 @@
 --     Filled s d out i o  d is the memory as it came and out as it is now; the octets before the place i of s are in it, o of them
 --     the rulesets        filling for `write`, answering for `decode`
 -- Assumes nothing.
-use Prim.Native.Nat.{ℕ, _+_, _-_, _<_, _≤_}
+use Prim.Native.Nat.{ℕ, _+_, _<_, _≤_}
 use mathlib.Core.Path.{_≡_, refl, sym, ap, _∙_}
 use mathlib.Core.List.{List, [], _∷_, _++_}
 use mathlib.Core.Option.{Option, some, none}
 use native.Mathlib.Omega.{arith}
 use borrow.Author.Needs.{needs}
 use borrow.Author.Tests.{le-leb, lt-leb}
-use lib.ListN.{length, drop, set, length-append, length-set}
-use Rattle.octets.specs.Written.{onto}
+use lib.ListN.{length, drop, set}
 use Rattle.octets.proofs.Writing.{Wrote, begin, kept, put, done}
 use Rattle.base64.proofs.Putting.{put-two, put-three, has-room}
 use Rattle.base64.specs.Base64.{before, decode, withoutBlanks}

@@ -90,4 +90,8 @@ module _ (a b c d : ℕ) (u : Sign) (e : u ≡ signOf a) where
     unfolding grouped
     two-values g q l h = rw (sym e ∙ k, sym f ∙ l) h
 
-pub ruleset grouping = (low-value, three-is, two-is, two-not, one-is, one-not, broken-third, closed-three, closed-two, closed-one, broken-fourth, half-padded, half-broken, pad-first, broken-first, pad-second, broken-second, two-values, needs)
+pub ruleset valuing = (three-is, two-is, two-not, one-is, one-not, needs)
+
+pub ruleset closing = (low-value, broken-third, closed-three, closed-two, closed-one, broken-fourth, half-padded, half-broken, needs)
+
+pub ruleset grouping = (low-value, pad-first, broken-first, pad-second, broken-second, two-values, needs)

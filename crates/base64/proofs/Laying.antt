@@ -1,9 +1,11 @@
 -- Writing a key as lines.
---     four-one .. four-three    the characters that an encoded key goes on with
---     laid-four                 one group of a text, with the line break before it
---     Laid s d out at i o k     d is the memory as it came and out as it is now; the lines of s are in it from the place `at` on, up to the
---                               place o, with the groups before the place i of s, and the last line takes k groups more
---     the rulesets              fouring for `four_of_one` .. `four_at`, breaking for `break_line`, `put_four` and `takes_after`, laying for `write_lines`
+--     four-one .. of-three     `four_of_one` to `four_at`: the characters that an encoded key goes on with (the ruleset fouring)
+--     after-whole .. four-room `takes_after`, `break_line`, `put_four` (breaking)
+--     piece-is .. group-put    `put_group`: a group behind the line break that it may want (placing)
+--     laid-piece               one group of a text is laid out so
+--     Laid s d out at i o k    `lay`: d is the memory as it came and out as it is now, written from the place `at` to the place o with the groups
+--                              before the place i of s, and the line takes k groups more (laying)
+--     begun .. empty-put       `write_lines` (lining)
 -- Assumes nothing.
 use Prim.Native.Nat.{ℕ, zero, suc, _+_, _-_, _*_, _/_, _%_, _<_, _≤_}
 use mathlib.Core.Path.{_≡_, refl, sym, ap, _∙_}
@@ -14,7 +16,7 @@ use lib.ListN.{length, getD, take, drop, set, length-append, length-drop, length
 use lib.Seq.{length-take-le, drop-drop}
 use Rattle.octets.specs.Written.{putAt}
 use Rattle.octets.proofs.Lists.{drop-one, drop-done}
-use Rattle.octets.proofs.Writing.{Wrote, begin-at, kept, counted, put, puts, done-at}
+use Rattle.octets.proofs.Writing.{Wrote, begin-at, kept, counted, puts, done-at}
 use Rattle.base64.specs.Base64.{letter, encode, laid, lines}
 use Rattle.base64.specs.Steps.{characters, lineBreak, piece, after}
 use Rattle.base64.specs.declared.Four.{Four}

@@ -7,13 +7,12 @@ use Prim.Native.Nat.{ℕ, _+_, _-_, _<_, _≤_}
 use mathlib.Core.Path.{_≡_, refl, sym, ap, _∙_}
 use mathlib.Core.Bool.{Bool, true, false}
 use mathlib.Core.List.{List, [], _∷_}
-use mathlib.Core.Option.{Option, some, none}
 use native.Mathlib.Omega.{arith}
 use borrow.Author.Needs.{needs}
 use lib.ListN.{length, getD, drop}
 use Rattle.octets.proofs.Lists.{drop-one}
-use Rattle.base64.proofs.Blanks.{without-one, blank-other}
-use Rattle.base64.specs.Base64.{signOf, closed, grouped, groupOf, before, atEnd, follow, decode, blank, withoutBlanks}
+use Rattle.base64.proofs.Blanks.{without-other, blank-other}
+use Rattle.base64.specs.Base64.{signOf, closed, grouped, groupOf, atEnd, follow, decode, blank, withoutBlanks}
 use Rattle.base64.specs.Steps.{NextLetter, stepOf, NextGroup}
 use Rattle.base64.specs.declared.Sign.{Sign}
 use Rattle.base64.specs.declared.Sign.the-variants.{Value, Pad, Other}
@@ -171,7 +170,7 @@ near-three s at l k g e x y z t =
     let b₃ = no-blank (getD s (at + 2) 0) g x y z t (λ o. e ∙ rw o (broken-at-3 _ _ _)) in
     let b₄ = no-blank (getD s (at + 3) 0) g x y z t (λ o. e ∙ rw o (broken-at-4 _ _ _)) in
     let f = grouped-at s at (at + 4) (getD s at 0) (getD s (at + 1) 0) (getD s (at + 2) 0) (getD s (at + 3) 0)
-    (rw (drop-four s at (omega arith), without-one _ _ b₁, without-one _ _ b₂, without-one _ _ b₃, without-one _ _ b₄))
+    (rw (drop-four s at (omega arith), without-other blank _ _ b₁, without-other blank _ _ b₂, without-other blank _ _ b₃, without-other blank _ _ b₄))
     (omega arith) (omega arith) in
     rw (sym e ∙ t) at f
 

@@ -5,11 +5,11 @@
 --     put-then, put-both         an octet or a list, and then a list behind it
 -- Assumes nothing.
 use Prim.Native.Nat.{ℕ, _+_, _≤_}
-use mathlib.Core.Path.{_≡_, refl, sym}
+use mathlib.Core.Path.{_≡_, sym}
 use mathlib.Core.List.{List, [], _∷_, _++_, append-nil}
 use native.Mathlib.Nat.{add-zero}
 use native.Mathlib.Omega.{arith}
-use lib.ListN.{length, take, drop, set, take-append-drop}
+use lib.ListN.{length, take, set, take-append-drop}
 use Rattle.octets.specs.Written.{putAt}
 use Rattle.octets.proofs.Writing.{Wrote, begin-at, kept, counted, put, puts, done-at}
 

@@ -2,31 +2,30 @@
 --     decode-encode          the text of octets decodes to them
 --     encode-alphabetic      it has letters, digits, "+", "/" and "=" alone, and so
 --     encode-free            none of its characters passes a test that only other characters pass: no blank, CR, LF or ";"
---     without-free           a text without blanks stays what it is when blanks are removed
+--     without-free           a text in which no character passes a test stays what it is without those that do
 --     joined-lines           the lines of a text, unfolded, are the text with a space before each 76 characters
 --     without-spread         which is the text, with blanks removed
---     lines-read-back        the written lines decode to the octets
+--     spread-free            and in which no character passes a test that neither a space nor one of the text's passes
+--     without-encode, joined-encode, spread-encode    the three of them at the text of octets
+--     spread-read-back, lines-read-back    it decodes to the octets, and so do the written lines
 -- Assumes nothing.
 use Prim.Native.Nat.{ℕ, zero, suc, _+_, _*_, _/_, _%_, _<_, _≤_}
-use mathlib.Core.Path.{_≡_, refl, sym, ap, _∙_}
-use mathlib.Core.Bool.{Bool, true, false, _||_}
+use mathlib.Core.Path.{_≡_, refl, ap, _∙_}
+use mathlib.Core.Bool.{Bool, true, false}
 use mathlib.Core.List.{List, [], _∷_}
-use mathlib.Core.Option.{Option, some, none}
+use mathlib.Core.Option.{some}
 use mathlib.Core.Logic.{⊎-elim}
 use native.Mathlib.Omega.{arith}
 use borrow.Author.Tests.{eqb-true, le-ltb, ne-eqb}
 use lib.Dec.{eqb}
-use lib.ListN.{length, getD}
 use Rattle.octets.specs.Octets.{AllOctets}
 use Rattle.octets.proofs.Lists.{lt-or-le}
-use Rattle.base64.specs.Base64.{letter, signOf, closed, grouped, groupOf, before, atEnd, follow, decode, blank, withoutBlanks, encode, laid, lines}
+use Rattle.base64.specs.Base64.{letter, signOf, closed, grouped, groupOf, before, atEnd, follow, decode, without, blank, withoutBlanks, encode, space, laid, lines}
 use Rattle.base64.specs.Joined.{ending, joined, spaced, spread, Free, Alphabetic}
 use Rattle.base64.proofs.Alphabet.{sign-of-letter}
-use Rattle.base64.proofs.Blanks.{blank-other, without-blank, without-one, without-none}
-use Rattle.base64.specs.declared.Sign.{Sign}
-use Rattle.base64.specs.declared.Sign.the-variants.{Value, Pad, Other}
-use Rattle.base64.specs.declared.Group.{Group}
-use Rattle.base64.specs.declared.Group.the-variants.{Three, Two, One, Broken}
+use Rattle.base64.proofs.Blanks.{either-other, blank-other, without-other, without-none}
+use Rattle.base64.specs.declared.Sign.the-variants.{Value, Other}
+use Rattle.base64.specs.declared.Group.the-variants.{Three, Two, One}
 
 -- the characters of three, two and one octets stand for them
 group-three : (a b c : ℕ) → a < 256 → b < 256 → c < 256
@@ -103,54 +102,60 @@ module _ (test : ℕ → Bool) (other : (x : ℕ) → test x ≡ true → signOf
 
 pub ending-other : (x : ℕ) → ending x ≡ true → signOf x ≡ Other
 unfolding ending signOf
-ending-other x e = go (eqb x 13) refl e
-  where
-    go : (b : Bool) → eqb x 13 ≡ b → (b || eqb x 10) ≡ true → signOf x ≡ Other
-    go true q t = rw (eqb-true x 13 q)
-    go false q t = rw (eqb-true x 10 t)
+ending-other x e = either-other 13 10 refl refl x e
 
 -- one character that stands for nothing, as ";"
 pub one-other : (c : ℕ) → signOf c ≡ Other → (x : ℕ) → eqb x c ≡ true → signOf x ≡ Other
 one-other c h x e = rw (eqb-true x c e) h
 
-pub without-free : (t : List ℕ) → Free blank t → withoutBlanks t ≡ t
+pub without-free : (test : ℕ → Bool) (t : List ℕ) → Free test t → without test t ≡ t
 unfolding Free
-without-free [] h = without-none
-without-free (x ∷ t) h = without-one x t (h .0) ∙ ap (λ r. x ∷ r) (without-free t (h .1))
+without-free test [] h = without-none test
+without-free test (x ∷ t) h = without-other test x t (h .0) ∙ ap (λ r. x ∷ r) (without-free test t (h .1))
 
 -- lines, unfolded
-joined-one : (x : ℕ) (s : List ℕ) → ending x ≡ false → joined (x ∷ s) ≡ x ∷ joined s
-unfolding joined
-joined-one x s e = rw (joined, e)
-
 joined-laid : (k : ℕ) (t : List ℕ) → Free ending t → joined (laid k t) ≡ spaced k t
-unfolding Free laid spaced joined ending
+unfolding Free laid spaced without ending
 joined-laid zero [] h = refl
 joined-laid (suc k) [] h = refl
-joined-laid zero (x ∷ t) h = rw (joined-one x (laid 75 t) (h .0), joined-laid 75 t (h .1))
-joined-laid (suc k) (x ∷ t) h = rw (joined-one x (laid k t) (h .0), joined-laid k t (h .1))
+joined-laid zero (x ∷ t) h = rw (without-other ending x (laid 75 t) (h .0), joined-laid 75 t (h .1))
+joined-laid (suc k) (x ∷ t) h = rw (without-other ending x (laid k t) (h .0), joined-laid k t (h .1))
 
 pub joined-lines : (t : List ℕ) → Free ending t → joined (lines t) ≡ spread t
-unfolding Free lines spread joined ending
+unfolding Free lines spread without ending
 joined-lines [] h = refl
-joined-lines (x ∷ t) h = rw (joined-one x (laid 75 t) (h .0), joined-laid 75 t (h .1))
+joined-lines (x ∷ t) h = rw (without-other ending x (laid 75 t) (h .0), joined-laid 75 t (h .1))
 
 without-spaced : (k : ℕ) (t : List ℕ) → Free blank t → withoutBlanks (spaced k t) ≡ t
-unfolding Free spaced withoutBlanks blank
+unfolding Free spaced without blank
 without-spaced zero [] h = refl
 without-spaced (suc k) [] h = refl
-without-spaced zero (x ∷ t) h = rw (without-one x (spaced 75 t) (h .0), without-spaced 75 t (h .1))
-without-spaced (suc k) (x ∷ t) h = rw (without-one x (spaced k t) (h .0), without-spaced k t (h .1))
+without-spaced zero (x ∷ t) h = rw (without-other blank x (spaced 75 t) (h .0), without-spaced 75 t (h .1))
+without-spaced (suc k) (x ∷ t) h = rw (without-other blank x (spaced k t) (h .0), without-spaced k t (h .1))
 
 pub without-spread : (t : List ℕ) → Free blank t → withoutBlanks (spread t) ≡ t
-unfolding Free spread withoutBlanks blank
+unfolding Free spread without blank
 without-spread [] h = refl
-without-spread (x ∷ t) h = rw (without-one x (spaced 75 t) (h .0), without-spaced 75 t (h .1))
+without-spread (x ∷ t) h = rw (without-other blank x (spaced 75 t) (h .0), without-spaced 75 t (h .1))
+
+-- a test that a space does not pass
+module _ (test : ℕ → Bool) (e : test space ≡ false) where
+  spaced-free : (k : ℕ) (t : List ℕ) → Free test t → Free test (spaced k t)
+  unfolding Free spaced
+  spaced-free zero [] h = tt
+  spaced-free (suc k) [] h = tt
+  spaced-free zero (x ∷ t) h = (e, (h .0, spaced-free 75 t (h .1)))
+  spaced-free (suc k) (x ∷ t) h = (h .0, spaced-free k t (h .1))
+
+  pub spread-free : (t : List ℕ) → Free test t → Free test (spread t)
+  unfolding Free spread
+  spread-free [] h = tt
+  spread-free (x ∷ t) h = (e, (h .0, spaced-free 75 t (h .1)))
 
 -- what is written reads back
 module _ (s : List ℕ) where
   pub without-encode : withoutBlanks (encode s) ≡ encode s
-  without-encode = without-free (encode s) (encode-free blank blank-other s)
+  without-encode = without-free blank (encode s) (encode-free blank blank-other s)
 
   pub joined-encode : joined (lines (encode s)) ≡ spread (encode s)
   joined-encode = joined-lines (encode s) (encode-free ending ending-other s)
@@ -158,5 +163,8 @@ module _ (s : List ℕ) where
   pub spread-encode : withoutBlanks (spread (encode s)) ≡ encode s
   spread-encode = without-spread (encode s) (encode-free blank blank-other s)
 
+  pub spread-read-back : AllOctets s → decode (withoutBlanks (spread (encode s))) ≡ some s
+  spread-read-back h = rw spread-encode (decode-encode s h)
+
   pub lines-read-back : AllOctets s → decode (withoutBlanks (joined (lines (encode s)))) ≡ some s
-  lines-read-back h = rw (joined-encode, spread-encode) (decode-encode s h)
+  lines-read-back h = rw joined-encode (spread-read-back h)

@@ -3,10 +3,10 @@
 use Prim.Native.Nat.{ℕ}
 use mathlib.Core.Path.{_≡_, refl}
 use mathlib.Core.List.{List, [], _++_}
-use mathlib.Core.Option.{Option, some, none}
-use lib.ListN.{length, replicate}
+use mathlib.Core.Option.{some, none}
+use lib.ListN.{replicate}
 use Rattle.octets.specs.Octets.{ascii}
-use Rattle.base64.specs.Base64.{letter, signOf, closed, grouped, before, atEnd, follow, decode, blank, withoutBlanks, encode, laid, lines}
+use Rattle.base64.specs.Base64.{letter, signOf, closed, grouped, before, atEnd, follow, decode, without, blank, withoutBlanks, encode, laid, lines}
 
 -- a text and what it stands for, and the octets' own text
 abbrev Vector : List ℕ → List ℕ → Type 0
@@ -35,7 +35,7 @@ only-at-the-end = (refl, refl, refl, refl)
 
 -- K7: "Blanks go out of key data everywhere, also between the two `=`; CR doesn't."
 blanks-go-out : (decode (withoutBlanks (ascii " Z\tg = \t=\t")) ≡ some (ascii "f")) × (decode (withoutBlanks (ascii "Zg=\r=")) ≡ none)
-unfolding letter signOf closed grouped before atEnd follow decode blank withoutBlanks
+unfolding letter signOf closed grouped before atEnd follow decode without blank
 blanks-go-out = (refl, refl)
 
 -- "space `Zm9v` CRLF"

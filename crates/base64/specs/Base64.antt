@@ -90,13 +90,17 @@ decode (a ∷ b ∷ []) = none
 decode (a ∷ b ∷ c ∷ []) = none
 decode (a ∷ b ∷ c ∷ d ∷ rest) = follow (groupOf a b c d) rest (decode rest)
 
+-- a list without what passes a test
+unfoldable pub without : (ℕ → Bool) → List ℕ → List ℕ
+without test [] = []
+without test (x ∷ s) = elim (test x) [ true ↦ without test s | false ↦ x ∷ without test s ]
+
 unfoldable pub blank : ℕ → Bool
 blank x = eqb x (octet " ") || eqb x (octet "\t")
 
 -- "spaces and tabs removed"
-unfoldable pub withoutBlanks : List ℕ → List ℕ
-withoutBlanks [] = []
-withoutBlanks (x ∷ s) = elim (blank x) [ true ↦ withoutBlanks s | false ↦ x ∷ withoutBlanks s ]
+abbrev pub withoutBlanks : List ℕ → List ℕ
+withoutBlanks s = without blank s
 
 -- 24 bits make four letters; 8 or 16 bits at the end are filled up with zero bits, and the group with pads
 unfoldable pub encode : List ℕ → List ℕ

@@ -5,18 +5,17 @@
 --     Alphabetic        a text of letters, digits, "+", "/" and "=" alone
 use Prim.Native.Nat.{ℕ, zero, suc}
 use mathlib.Core.Path.{_≡_}
-use mathlib.Core.Bool.{Bool, true, false, _||_}
+use mathlib.Core.Bool.{Bool, false, _||_}
 use mathlib.Core.List.{List, [], _∷_}
 use lib.Dec.{eqb}
-use Rattle.base64.specs.Base64.{signOf, cr, lf, space}
+use Rattle.base64.specs.Base64.{signOf, without, cr, lf, space}
 use Rattle.base64.specs.declared.Sign.the-variants.{Other}
 
 unfoldable pub ending : ℕ → Bool
 ending x = eqb x cr || eqb x lf
 
-unfoldable pub joined : List ℕ → List ℕ
-joined [] = []
-joined (x ∷ s) = elim (ending x) [ true ↦ joined s | false ↦ x ∷ joined s ]
+abbrev pub joined : List ℕ → List ℕ
+joined s = without ending s
 
 -- the rest of a text, so many characters before its next space
 unfoldable pub spaced : ℕ → List ℕ → List ℕ

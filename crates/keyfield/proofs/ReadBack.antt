@@ -18,8 +18,8 @@ use lib.Dec.{eqb}
 use lib.ListN.{length, length-append}
 use Rattle.octets.specs.Octets.{ascii, sameOctets}
 use Rattle.tokens.specs.Tokens.{blank, belongs}
-use Rattle.base64.specs.Base64.{withoutBlanks, blank as blankIn}
-use Rattle.base64.proofs.Blanks.{without-blank, without-one}
+use Rattle.base64.specs.Base64.{without, withoutBlanks, blank as blankIn}
+use Rattle.base64.proofs.Blanks.{without-passing, without-other}
 use Rattle.address.specs.Pieces.{every, pieces, before, behind}
 use Rattle.address.specs.Address.{plain, canonical, addressOctet}
 use Rattle.address.proofs.Every.{and-left, every-weaker}
@@ -87,27 +87,27 @@ without-front [] = refl
 without-front (x ∷ s) = go (without-front s) (blank x) refl
   where
     go : withoutBlanks (trimmedFront s) ≡ withoutBlanks s → (b : Bool) → blank x ≡ b → withoutBlanks (trimmedFront (x ∷ s)) ≡ withoutBlanks (x ∷ s)
-    go h true e = rw (front-blank x s e, h) (sym (without-blank x s (same-blank x ∙ e)))
+    go h true e = rw (front-blank x s e, h) (sym (without-passing blankIn x s (same-blank x ∙ e)))
     go h false e = rw (front-other x s e)
 
 without-append : (s t : List ℕ) → withoutBlanks (s ++ t) ≡ withoutBlanks s ++ withoutBlanks t
-unfolding withoutBlanks
+unfolding without
 without-append [] t = refl
 without-append (x ∷ s) t = go (without-append s t) (blankIn x) refl
   where
     go : withoutBlanks (s ++ t) ≡ withoutBlanks s ++ withoutBlanks t → (b : Bool) → blankIn x ≡ b
         → withoutBlanks (x ∷ (s ++ t)) ≡ withoutBlanks (x ∷ s) ++ withoutBlanks t
-    go h true e = rw (without-blank x (s ++ t) e, without-blank x s e) h
-    go h false e = rw (without-one x (s ++ t) e, without-one x s e, h)
+    go h true e = rw (without-passing blankIn x (s ++ t) e, without-passing blankIn x s e) h
+    go h false e = rw (without-other blankIn x (s ++ t) e, without-other blankIn x s e, h)
 
 without-reverse : (s : List ℕ) → withoutBlanks (reverse s) ≡ reverse (withoutBlanks s)
-unfolding withoutBlanks
+unfolding without
 without-reverse [] = refl
 without-reverse (x ∷ s) = go (without-reverse s) (blankIn x) refl
   where
     go : withoutBlanks (reverse s) ≡ reverse (withoutBlanks s) → (b : Bool) → blankIn x ≡ b → withoutBlanks (reverse (x ∷ s)) ≡ reverse (withoutBlanks (x ∷ s))
-    go h true e = rw (reverse-cons x s, without-append (reverse s) (x ∷ []), without-blank x [] e, without-blank x s e, h) (append-nil (reverse (withoutBlanks s)))
-    go h false e = rw (reverse-cons x s, without-append (reverse s) (x ∷ []), without-one x [] e, without-one x s e, h) (sym (reverse-cons x (withoutBlanks s)))
+    go h true e = rw (reverse-cons x s, without-append (reverse s) (x ∷ []), without-passing blankIn x [] e, without-passing blankIn x s e, h) (append-nil (reverse (withoutBlanks s)))
+    go h false e = rw (reverse-cons x s, without-append (reverse s) (x ∷ []), without-other blankIn x [] e, without-other blankIn x s e, h) (sym (reverse-cons x (withoutBlanks s)))
 
 without-trimmed : (s : List ℕ) → withoutBlanks (trimmed s) ≡ withoutBlanks s
 unfolding trimmed trimmedBack

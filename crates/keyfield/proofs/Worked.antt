@@ -79,7 +79,7 @@ isSpoiled none = true
 isSpoiled (some f) = false
 
 worked : WhatCounts × KeyData × GoodOnes × (every (λ s. isSpoiled (fieldOf s)) spoiledOnes ≡ true)
-unfolding spoiledOnes isSpoiled counted onlyOne validFields naming fieldOf fieldBy withKey keyOf limited saidOf saidFrom ifLast saidWith step withAddress withPreference attributeOf holds attribute nameOf trimmed trimmedBack trimmedFront blank every onFirst pieces before behind plain localPart atom domain label labelOctet freeEnds belongs canonical lowered lower sameOctets startsWith base64.decode base64.follow base64.before base64.atEnd base64.grouped base64.closed base64.signOf base64.withoutBlanks base64.blank
+unfolding spoiledOnes isSpoiled counted onlyOne validFields naming fieldOf fieldBy withKey keyOf limited saidOf saidFrom ifLast saidWith step withAddress withPreference attributeOf holds attribute nameOf trimmed trimmedBack trimmedFront blank every onFirst pieces before behind plain localPart atom domain label labelOctet freeEnds belongs canonical lowered lower sameOctets startsWith base64.decode base64.follow base64.before base64.atEnd base64.grouped base64.closed base64.signOf base64.without base64.blank
 worked = ((refl, refl, refl, refl, refl, refl), (refl, refl, refl), (refl, refl, refl, refl), refl)
 
 pub counts : WhatCounts

@@ -85,6 +85,36 @@ pub extern "C" fn probe_put_number(out: &mut [u8], at: usize, width: usize, n: u
     true
 }
 
+// kind 0: the octets decoded; 1: no Base64; 2: too little room
+#[no_mangle]
+pub extern "C" fn probe_decode(text: &[u8], out: &mut [u8]) -> Answer {
+    match base64::decode(text, out) {
+        base64::Decoded::Octets(n) => Answer {
+            kind: 0,
+            value: n as u64,
+        },
+        base64::Decoded::NotBase64 => Answer { kind: 1, value: 0 },
+        base64::Decoded::NoRoom => Answer { kind: 2, value: 0 },
+    }
+}
+
+// kind 0: the place behind the lines; 2: too little room
+#[no_mangle]
+pub extern "C" fn probe_lines(key: &[u8], out: &mut [u8], at: usize) -> Answer {
+    let n = base64::lines_length(key);
+    if out.len() < n {
+        return Answer { kind: 2, value: 0 };
+    }
+    if out.len() - n < at {
+        return Answer { kind: 2, value: 0 };
+    }
+    let end = base64::write_lines(key, out, at);
+    Answer {
+        kind: 0,
+        value: end as u64,
+    }
+}
+
 fn place(r: tokens::Reached) -> Answer {
     match r {
         tokens::Reached::To(n) => Answer {
@@ -113,5 +143,290 @@ pub extern "C" fn probe_run_end(s: &[u8], at: usize, class: u8) -> usize {
         0 => tokens::run_end(s, at, tokens::Class::Digit),
         1 => tokens::run_end(s, at, tokens::Class::Letter),
         _ => tokens::run_end(s, at, tokens::Class::Atom),
+    }
+}
+
+// kind 0: seconds since 1970; 1: unavailable
+#[no_mangle]
+pub extern "C" fn probe_date(value: &[u8]) -> Answer {
+    match date::date(value) {
+        date::Dated::Available(n) => Answer { kind: 0, value: n },
+        date::Dated::Unavailable => Answer { kind: 1, value: 0 },
+    }
+}
+
+#[no_mangle]
+pub extern "C" fn probe_effective_date(available: bool, seconds: u64, receipt: u64) -> u64 {
+    if available {
+        date::effective_date(date::Dated::Available(seconds), receipt)
+    } else {
+        date::effective_date(date::Dated::Unavailable, receipt)
+    }
+}
+
+#[repr(C)]
+pub struct FieldPlaces {
+    pub kind: u64,
+    pub name_end: u64,
+    pub value: u64,
+    pub end: u64,
+}
+
+// kind 0: the block is over; 1: it is unreadable; 2: a field
+#[no_mangle]
+pub extern "C" fn probe_field_at(block: &[u8], at: usize) -> FieldPlaces {
+    match header::field_at(block, at) {
+        header::Step::Over => FieldPlaces {
+            kind: 0,
+            name_end: 0,
+            value: 0,
+            end: 0,
+        },
+        header::Step::Broken => FieldPlaces {
+            kind: 1,
+            name_end: 0,
+            value: 0,
+            end: 0,
+        },
+        header::Step::Field {
+            name_end,
+            value,
+            end,
+        } => FieldPlaces {
+            kind: 2,
+            name_end: name_end as u64,
+            value: value as u64,
+            end: end as u64,
+        },
+    }
+}
+
+#[no_mangle]
+pub extern "C" fn probe_readable(block: &[u8]) -> bool {
+    header::readable(block)
+}
+
+// kind 0: so many octets; 2: too little room
+#[no_mangle]
+pub extern "C" fn probe_unfold(raw: &[u8], out: &mut [u8]) -> Answer {
+    if out.len() < raw.len() {
+        return Answer { kind: 2, value: 0 };
+    }
+    let n = header::unfold(raw, out);
+    Answer {
+        kind: 0,
+        value: n as u64,
+    }
+}
+
+#[no_mangle]
+pub extern "C" fn probe_is_report(value: &[u8]) -> bool {
+    header::is_report(value)
+}
+
+#[no_mangle]
+pub extern "C" fn probe_is_plain(s: &[u8]) -> bool {
+    address::is_plain(s)
+}
+
+#[no_mangle]
+pub extern "C" fn probe_is_canonical(s: &[u8]) -> bool {
+    address::is_canonical(s)
+}
+
+#[no_mangle]
+pub extern "C" fn probe_same_address(a: &[u8], b: &[u8]) -> bool {
+    address::same_address(a, b)
+}
+
+// kind 0: so many octets; 2: too little room
+#[no_mangle]
+pub extern "C" fn probe_canonical(s: &[u8], out: &mut [u8]) -> Answer {
+    match address::canonical(s, out) {
+        address::Written::Length(n) => Answer {
+            kind: 0,
+            value: n as u64,
+        },
+        address::Written::NoRoom => Answer { kind: 2, value: 0 },
+    }
+}
+
+// A cursor in a list and what was handed out before it. kind 0: an address; 1: the list is unreadable; 2: its end
+#[repr(C)]
+pub struct ListPlaces {
+    pub kind: u64,
+    pub from: u64,
+    pub to: u64,
+    pub at: usize,
+    pub stage: u64,
+    pub inside: bool,
+}
+
+fn stage_of(n: u64) -> list::grammar::Stage {
+    match n {
+        0 => list::grammar::Stage::Place,
+        1 => list::grammar::Stage::Opened,
+        2 => list::grammar::Stage::Phrase,
+        3 => list::grammar::Stage::Angle,
+        4 => list::grammar::Stage::Closing,
+        _ => list::grammar::Stage::Behind,
+    }
+}
+
+fn stage_number(stage: list::grammar::Stage) -> u64 {
+    match stage {
+        list::grammar::Stage::Place => 0,
+        list::grammar::Stage::Opened => 1,
+        list::grammar::Stage::Phrase => 2,
+        list::grammar::Stage::Angle => 3,
+        list::grammar::Stage::Closing => 4,
+        list::grammar::Stage::Behind => 5,
+    }
+}
+
+fn handed_none(kind: u64) -> ListPlaces {
+    ListPlaces {
+        kind,
+        from: 0,
+        to: 0,
+        at: 0,
+        stage: 0,
+        inside: false,
+    }
+}
+
+#[no_mangle]
+pub extern "C" fn probe_next_address(s: &[u8], at: usize, stage: u64, inside: bool) -> ListPlaces {
+    let cursor = list::Cursor {
+        at,
+        stage: stage_of(stage),
+        inside,
+    };
+    match list::next_address(s, cursor) {
+        list::Handed::Address { from, to, next } => {
+            let stage = next.stage;
+            ListPlaces {
+                kind: 0,
+                from: from as u64,
+                to: to as u64,
+                at: next.at,
+                stage: stage_number(stage),
+                inside: next.inside,
+            }
+        }
+        list::Handed::Unreadable => handed_none(1),
+        list::Handed::End => handed_none(2),
+    }
+}
+
+// kind 0: so many addresses; 1: unreadable
+#[no_mangle]
+pub extern "C" fn probe_count(s: &[u8]) -> Answer {
+    match list::count(s) {
+        list::Counted::Count(n) => Answer {
+            kind: 0,
+            value: n as u64,
+        },
+        list::Counted::Unreadable => Answer { kind: 1, value: 0 },
+    }
+}
+
+#[no_mangle]
+pub extern "C" fn probe_only(s: &[u8]) -> ListPlaces {
+    match list::only_address(s) {
+        list::Only::One { from, to } => ListPlaces {
+            kind: 0,
+            from: from as u64,
+            to: to as u64,
+            at: 0,
+            stage: 0,
+            inside: false,
+        },
+        list::Only::Other => handed_none(1),
+    }
+}
+
+#[no_mangle]
+pub extern "C" fn probe_holds(s: &[u8], wanted: &[u8]) -> bool {
+    list::holds(s, wanted)
+}
+
+// kind 0: sound; 1: its length is no table's; 2: the slot `value` is neither free nor sound
+#[no_mangle]
+pub extern "C" fn probe_check(t: &[u8]) -> Answer {
+    match table::check(t) {
+        table::Checked::Sound => Answer { kind: 0, value: 0 },
+        table::Checked::Length => Answer { kind: 1, value: 0 },
+        table::Checked::Slot(i) => Answer {
+            kind: 2,
+            value: i as u64,
+        },
+    }
+}
+
+fn slot_found(r: table::Found) -> Answer {
+    match r {
+        table::Found::At(i) => Answer {
+            kind: 0,
+            value: i as u64,
+        },
+        table::Found::Nothing => Answer { kind: 1, value: 0 },
+    }
+}
+
+#[no_mangle]
+pub extern "C" fn probe_find(t: &[u8], address: &[u8]) -> Answer {
+    slot_found(table::find(t, address))
+}
+
+#[no_mangle]
+pub extern "C" fn probe_lowest_free(t: &[u8]) -> Answer {
+    slot_found(table::lowest_free(t))
+}
+
+#[no_mangle]
+pub extern "C" fn probe_count_free(t: &[u8]) -> usize {
+    table::count_free(t)
+}
+
+// kind 0: valid; 1: spoiled; 2: too little room for the key
+#[repr(C)]
+pub struct FieldRead {
+    pub kind: u64,
+    pub from: u64,
+    pub to: u64,
+    pub key: u64,
+    pub mutual: bool,
+}
+
+#[no_mangle]
+pub extern "C" fn probe_read_field(value: &[u8], key: &mut [u8]) -> FieldRead {
+    match keyfield::read_field(value, key) {
+        keyfield::Read::Valid {
+            from,
+            to,
+            mutual,
+            key,
+        } => FieldRead {
+            kind: 0,
+            from: from as u64,
+            to: to as u64,
+            key: key as u64,
+            mutual,
+        },
+        keyfield::Read::Spoiled => FieldRead {
+            kind: 1,
+            from: 0,
+            to: 0,
+            key: 0,
+            mutual: false,
+        },
+        keyfield::Read::NoRoom => FieldRead {
+            kind: 2,
+            from: 0,
+            to: 0,
+            key: 0,
+            mutual: false,
+        },
     }
 }

@@ -1,0 +1,63 @@
+-- "Writing", of paper 01, with its refusals: what the two writers answer and what they leave in the output.
+--     autocryptField, gossipField    the two fields
+--     refusedWriting                 the refusal, or none
+--     writtenOf, leftByWriting       the answer, and what the output holds afterwards
+--     numberIn                       the number of an answer
+use Prim.Native.Nat.{ℕ}
+use mathlib.Core.Bool.{Bool, true, false}
+use mathlib.Core.List.{List}
+use mathlib.Core.Option.{Option, some, none}
+use lib.Dec.{leb}
+use lib.ListN.{length}
+use Rattle.octets.specs.Octets.{ascii}
+use Rattle.octets.specs.Written.{onto}
+use Rattle.address.specs.Address.{oneTo, plain}
+use Rattle.slots.specs.Slot.{keyLimit}
+use Rattle.writer.specs.Writing.{written}
+use Rattle.autocrypt.specs.declared.Refusal.{Refusal}
+use Rattle.autocrypt.specs.declared.Refusal.the-variants.{OwnAddress, KeyLength, OutputLength}
+use Rattle.autocrypt.specs.Refusals.{numberOf}
+use Rattle.autocrypt.specs.declared.Written.{Written}
+use Rattle.autocrypt.specs.declared.Written.the-variants.{Done, Refused}
+
+-- "`Autocrypt: ..` is the whole field for that address, mutual, key"
+unfoldable pub autocryptField : List ℕ → Bool → List ℕ → List ℕ
+autocryptField address isMutual key = written (ascii "Autocrypt") address isMutual key
+
+-- "Gossip uses its name and never a preference."
+unfoldable pub gossipField : List ℕ → List ℕ → List ℕ
+gossipField address key = written (ascii "Autocrypt-Gossip") address false key
+
+-- "writing 9, 11, 12", in this order: "own address argument isn't one plain address", "key argument isn't 1 to 2,048 octets", "output
+-- shorter than the field"
+unfoldable pub refusedWriting : List ℕ → List ℕ → List ℕ → ℕ → Option Refusal
+refusedWriting address key field room =
+    elim (plain address) [
+      | false ↦ some OwnAddress
+      | true ↦ elim (oneTo keyLimit (length key)) [
+        | false ↦ some KeyLength
+        | true ↦ elim (leb (length field) room) [ false ↦ some OutputLength | true ↦ none ]
+      ]
+    ]
+
+-- "Success answers 0, writing also the length of the field, which opens the output. A refusal .. writes nothing. A written field leaves
+-- the output past its end unchanged."
+unfoldable pub writtenBy : Option Refusal → List ℕ → Written
+writtenBy (some r) field = Refused r
+writtenBy none field = Done (length field)
+
+unfoldable pub leftBy : Option Refusal → List ℕ → List ℕ → List ℕ
+leftBy (some r) field out = out
+leftBy none field out = onto field out
+
+-- what a call answers that is to write a field for an address and a key into so much room, and what it leaves in the output
+unfoldable pub writtenOf : List ℕ → List ℕ → List ℕ → ℕ → Written
+writtenOf address key field room = writtenBy (refusedWriting address key field room) field
+
+unfoldable pub leftByWriting : List ℕ → List ℕ → List ℕ → List ℕ → List ℕ
+leftByWriting address key field out = leftBy (refusedWriting address key field (length out)) field out
+
+-- the number of an answer
+abbrev pub numberIn : Written → ℕ
+numberIn (Done n) = 0
+numberIn (Refused r) = numberOf r

@@ -1,0 +1,108 @@
+// The library as its callers see it. Everything is done in memory that the caller lends; no call keeps
+// anything, and none requires anything of its arguments. What each answers is said by specs/.
+ghost use Prim.Native.Nat.{_≤_};
+ghost use mathlib.Core.Path.{_≡_};
+ghost use lib.ListN.{length};
+ghost use Rattle.writer.specs.Writing.{written};
+ghost use Rattle.autocrypt.specs.Refusals.{numberOf, indexOf};
+ghost use Rattle.autocrypt.specs.Writing.{autocryptField, gossipField, writtenOf, leftByWriting};
+use slots::Slot;
+
+// Why a call refuses, named for the rows of "Refusal numbers", in their order.
+pub enum Refusal {
+    TableLength,
+    BrokenSlot(u32),
+    ReceiptTime,
+    OuterBlock,
+    Sender,
+    Report,
+    PayloadBlock,
+    NoFreeSlot,
+    OwnAddress,
+    Recipients,
+    KeyLength,
+    OutputLength,
+}
+
+// The length of the field that opens the output now; or nothing was written.
+pub enum Written {
+    Done(usize),
+    Refused(Refusal),
+}
+
+// The paper's number of a refusal.
+pub fn number(refusal: Refusal) -> u32
+    ensures { λ r. ⌜ r ≡ numberOf refusal ⌝ }
+{
+    match refusal {
+        Refusal::TableLength => 1,
+        Refusal::BrokenSlot(_) => 2,
+        Refusal::ReceiptTime => 3,
+        Refusal::OuterBlock => 4,
+        Refusal::Sender => 5,
+        Refusal::Report => 6,
+        Refusal::PayloadBlock => 7,
+        Refusal::NoFreeSlot => 8,
+        Refusal::OwnAddress => 9,
+        Refusal::Recipients => 10,
+        Refusal::KeyLength => 11,
+        Refusal::OutputLength => 12,
+    }
+}
+
+// The index that a refusal carries: that of the lowest broken slot, and 0 with all others.
+pub fn index(refusal: Refusal) -> u32
+    ensures { λ r. ⌜ r ≡ indexOf refusal ⌝ }
+{
+    match refusal {
+        Refusal::TableLength => 0,
+        Refusal::BrokenSlot(i) => i,
+        Refusal::ReceiptTime => 0,
+        Refusal::OuterBlock => 0,
+        Refusal::Sender => 0,
+        Refusal::Report => 0,
+        Refusal::PayloadBlock => 0,
+        Refusal::NoFreeSlot => 0,
+        Refusal::OwnAddress => 0,
+        Refusal::Recipients => 0,
+        Refusal::KeyLength => 0,
+        Refusal::OutputLength => 0,
+    }
+}
+
+// Both writers: they differ in the field's name and in who may state a preference.
+fn write(name: &[u8], address: &[u8], mutual: bool, key: &[u8], out: &mut [u8]) -> Written
+    requires { ⌜ length (now name) ≤ 256 ⌝ }
+    ensures { λ r. ⌜ r ≡ writtenOf (now (address .entry)) (now (key .entry)) (written (now (name .entry)) (now (address .entry)) «mutual» (now (key .entry))) (length (now (out .entry))) ⌝ }
+    ensures { λ _. ⌜ now (out .exit) ≡ leftByWriting (now (address .entry)) (now (key .entry)) (written (now (name .entry)) (now (address .entry)) «mutual» (now (key .entry))) (now (out .entry)) ⌝ }
+{
+    if !address::is_plain(address) {
+        return Written::Refused(Refusal::OwnAddress);
+    }
+    if key.len() == 0 {
+        return Written::Refused(Refusal::KeyLength);
+    }
+    if Slot::KEY_LIMIT < key.len() {
+        return Written::Refused(Refusal::KeyLength);
+    }
+    match writer::write_field(name, address, mutual, key, out) {
+        address::Written::Length(n) => Written::Done(n),
+        address::Written::NoRoom => Written::Refused(Refusal::OutputLength),
+    }
+}
+
+// Writes an Autocrypt field to the front of `out`.
+pub fn write_autocrypt(address: &[u8], key: &[u8], mutual: bool, out: &mut [u8]) -> Written
+    ensures { λ r. ⌜ r ≡ writtenOf (now (address .entry)) (now (key .entry)) (autocryptField (now (address .entry)) «mutual» (now (key .entry))) (length (now (out .entry))) ⌝ }
+    ensures { λ _. ⌜ now (out .exit) ≡ leftByWriting (now (address .entry)) (now (key .entry)) (autocryptField (now (address .entry)) «mutual» (now (key .entry))) (now (out .entry)) ⌝ }
+{
+    write(b"Autocrypt", address, mutual, key, out)
+}
+
+// Writes an Autocrypt-Gossip field to the front of `out`.
+pub fn write_gossip(address: &[u8], key: &[u8], out: &mut [u8]) -> Written
+    ensures { λ r. ⌜ r ≡ writtenOf (now (address .entry)) (now (key .entry)) (gossipField (now (address .entry)) (now (key .entry))) (length (now (out .entry))) ⌝ }
+    ensures { λ _. ⌜ now (out .exit) ≡ leftByWriting (now (address .entry)) (now (key .entry)) (gossipField (now (address .entry)) (now (key .entry))) (now (out .entry)) ⌝ }
+{
+    write(b"Autocrypt-Gossip", address, false, key, out)
+}

@@ -1,0 +1,10 @@
+-- Answers in numbers, as C has them.
+--     inNumbers    "Success answers 0, writing also the length of the field .. A refusal carries its number": it has no length, 0 stands for that
+use Rattle.autocrypt.specs.Refusals.{numberOf}
+use Rattle.autocrypt.specs.declared.Written.{Written as Answer}
+use Rattle.autocrypt.specs.declared.Written.the-variants.{Done, Refused}
+use Rattle.cabi.specs.declared.Written.{Written}
+
+unfoldable pub inNumbers : Answer → Written
+inNumbers (Done n) = record { number = 0; length = n }
+inNumbers (Refused r) = record { number = numberOf r; length = 0 }

@@ -1,0 +1,49 @@
+// The C interface, as include/vienghulac.h declares it: each export hands its arguments to the function of
+// the library that bears its name and puts the answer into numbers.
+ghost use mathlib.Core.Path.{_≡_};
+ghost use lib.ListN.{length};
+ghost use Rattle.autocrypt.specs.Writing.{autocryptField, gossipField, writtenOf, leftByWriting};
+ghost use Rattle.cabi.specs.Numbers.{inNumbers};
+
+// vienghulac_written
+#[repr(C)]
+pub struct Written {
+    pub number: u64,
+    pub length: u64,
+}
+
+fn in_numbers(answer: autocrypt::Written) -> Written
+    ensures { λ r. ⌜ r ≡ inNumbers answer ⌝ }
+{
+    match answer {
+        autocrypt::Written::Done(n) => Written {
+            number: 0,
+            length: n as u64,
+        },
+        autocrypt::Written::Refused(r) => Written {
+            number: autocrypt::number(r) as u64,
+            length: 0,
+        },
+    }
+}
+
+#[no_mangle]
+pub extern "C" fn vienghulac_write_autocrypt(
+    address: &[u8],
+    key: &[u8],
+    mutual: bool,
+    out: &mut [u8],
+) -> Written
+    ensures { λ r. ⌜ r ≡ inNumbers (writtenOf (now (address .entry)) (now (key .entry)) (autocryptField (now (address .entry)) «mutual» (now (key .entry))) (length (now (out .entry)))) ⌝ }
+    ensures { λ _. ⌜ now (out .exit) ≡ leftByWriting (now (address .entry)) (now (key .entry)) (autocryptField (now (address .entry)) «mutual» (now (key .entry))) (now (out .entry)) ⌝ }
+{
+    in_numbers(autocrypt::write_autocrypt(address, key, mutual, out))
+}
+
+#[no_mangle]
+pub extern "C" fn vienghulac_write_gossip(address: &[u8], key: &[u8], out: &mut [u8]) -> Written
+    ensures { λ r. ⌜ r ≡ inNumbers (writtenOf (now (address .entry)) (now (key .entry)) (gossipField (now (address .entry)) (now (key .entry))) (length (now (out .entry)))) ⌝ }
+    ensures { λ _. ⌜ now (out .exit) ≡ leftByWriting (now (address .entry)) (now (key .entry)) (gossipField (now (address .entry)) (now (key .entry))) (now (out .entry)) ⌝ }
+{
+    in_numbers(autocrypt::write_gossip(address, key, out))
+}

@@ -1,0 +1,11 @@
+pub mod Counting
+pub mod Opened
+pub mod Digits
+pub mod Naming
+pub mod Meant
+pub mod Finding
+pub mod Reading
+pub mod Ranges
+pub mod Parts
+pub mod Effective
+pub mod Worked

@@ -1,0 +1,267 @@
+-- How large a number is, by the place of a date where it stands, so that no sum wraps.
+--     only-if-.., bind-some         where a definition has an answer, its tests hold and its parts have answers
+--     two-most .. west-some         what a token means, by the place
+--     range-..                      what a reader answers, by the place
+-- Assumes nothing.
+use Prim.Native.Nat.{ℕ, _+_, _-_, _*_, _/_, _%_, _^_, _≤_, _<_}
+use mathlib.Core.Path.{_≡_, refl}
+use mathlib.Core.Bool.{Bool, true, false, _&&_}
+use mathlib.Core.List.{List}
+use mathlib.Core.Option.{Option, some, none, bind, Option·none-ne-some}
+use native.Mathlib.Omega.{arith}
+use mir.Val.{Fits}
+use mir.Syntax.{w64}
+use borrow.Author.Tests.{leb-true, eqb-true, eq-eqb}
+use lib.Dec.{leb, eqb}
+use lib.ListN.{length, drop}
+use Rattle.date.specs.Calendar.{monthLength, dayCount}
+use Rattle.date.specs.Date.{
+  onlyIf,
+  numberOf,
+  monthNames,
+  zoneNames,
+  zoneHours,
+  placeIn,
+  monthOf,
+  yearBy,
+  yearOf,
+  twoDigits,
+  offsetBy,
+  offsetOf,
+  hoursWest,
+  westBy,
+  opensWith,
+  meant,
+  Token,
+  token,
+  end,
+  unreadable,
+  firstToken,
+  Read,
+  got,
+  missing,
+  readOf,
+  andThen,
+  next,
+  optional,
+  existing,
+  calendarDay,
+  timeOfDay,
+  localTime,
+}
+use Rattle.date.specs.Answers.{readIn}
+use Rattle.date.specs.declared.token.Opening.{Opening}
+use Rattle.date.specs.declared.token.Opening.the-variants.{Number, Word, Plus, Minus, Mark}
+use Rattle.date.specs.declared.meaning.Place.{Place}
+use Rattle.date.specs.declared.meaning.Place.the-variants.{Day, Month, Year, UpTo, Colon, West}
+use Rattle.date.specs.declared.Part.{Part}
+use Rattle.date.specs.declared.Part.the-variants.{Got}
+use Rattle.date.proofs.Counting.{at-most, monthLength-small, day-bound}
+use Rattle.date.proofs.Digits.{only-if-true, only-if-some, both-right, number-below, number-small}
+use Rattle.date.proofs.Naming.{place-below}
+use Rattle.date.proofs.Reading.{read-got}
+
+-- where a number of a number is there, so is the first
+bind-some :
+    (o : Option ℕ) (f : ℕ → Option ℕ) (n : ℕ) (P : Type 0) → bind o f ≡ some n → ((m : ℕ) → o ≡ some m → f m ≡ some n → P) → P
+unfolding bind
+bind-some none f n P e h = absurd (Option·none-ne-some n e)
+bind-some (some m) f n P e h = h m refl e
+
+two-most : (most : ℕ) (t : List ℕ) (n : ℕ) → twoDigits most t ≡ some n → n ≤ most
+unfolding twoDigits
+two-most most t n e =
+    bind-some (numberOf t) (λ m. onlyIf (leb m most) (some m)) n (n ≤ most) (only-if-some (eqb (length t) 2) _ n e)
+    (λ m p q.
+    let w : m ≡ n = cc (only-if-some (leb m most) (some m) n q) in
+    omega (arith, leb-true m most (only-if-true (leb m most) (some m) n q)))
+
+month-some : (t : List ℕ) (n : ℕ) → monthOf t ≡ some n → (1 ≤ n) × (n ≤ 12)
+unfolding monthOf
+month-some t n e =
+    bind-some (placeIn t monthNames) (λ k. some (k + 1)) n ((1 ≤ n) × (n ≤ 12)) e
+    (λ k p q. let w : k + 1 ≡ n = cc in omega (arith, place-below t monthNames 0 k p))
+
+year-by : (width m n : ℕ) → m < 10 ^ width → m ≤ 9999 → yearBy width m ≡ some n → (1900 ≤ n) × (n ≤ 9999)
+unfolding yearBy
+year-by width m n h l e = two (eqb width 2) refl
+  where
+    new : (b : Bool) → leb m 49 ≡ b → width ≡ 2 → (1900 ≤ n) × (n ≤ 9999)
+    new true p w = let q : m + 2000 ≡ n = cc (rw (yearBy, eq-eqb width 2 w, p) at e) in omega (arith, leb-true m 49 p)
+    new false p w =
+        let q : m + 1900 ≡ n = cc (rw (yearBy, eq-eqb width 2 w, p) at e) in
+        let k : m < 10 ^ 2 = rw w at h in
+        omega arith
+
+    three : (b : Bool) → eqb width 3 ≡ b → eqb width 2 ≡ false → (1900 ≤ n) × (n ≤ 9999)
+    three true p w =
+        let q : m + 1900 ≡ n = cc (rw (yearBy, w, p) at e) in
+        let k : m < 10 ^ 3 = rw (eqb-true width 3 p) at h in
+        omega arith
+    three false p w =
+        let o : onlyIf (eqb width 4 && leb 1900 m) (some m) ≡ some n = rw (yearBy, w, p) at e in
+        let q : m ≡ n = cc (only-if-some (eqb width 4 && leb 1900 m) (some m) n o) in
+        omega (arith, leb-true 1900 m (both-right (eqb width 4) (leb 1900 m) (only-if-true _ (some m) n o)))
+
+    two : (b : Bool) → eqb width 2 ≡ b → (1900 ≤ n) × (n ≤ 9999)
+    two true p = new (leb m 49) refl (eqb-true width 2 p)
+    two false p = three (eqb width 3) refl p
+
+year-some : (t : List ℕ) (n : ℕ) → yearOf t ≡ some n → (1900 ≤ n) × (n ≤ 9999)
+unfolding yearOf
+year-some t n e =
+    bind-some (numberOf t) (λ m. yearBy (length t) m) n ((1900 ≤ n) × (n ≤ 9999)) e
+    (λ m p q. year-by (length t) m n (number-below t m p) (number-small t m p) q)
+
+-- no zone is 100 hours away
+offset-some : (t : List ℕ) (n : ℕ) → offsetOf t ≡ some n → n ≤ 360_000
+unfolding offsetOf offsetBy
+offset-some t n e =
+    bind-some (numberOf t) (λ m. offsetBy m) n (n ≤ 360_000) (only-if-some (eqb (length t) 4) _ n e)
+    (λ m p q.
+    let w : 3600 * (m / 100) + 60 * (m % 100) ≡ n = cc (only-if-some (leb (m % 100) 59) _ n q) in
+    omega (arith, number-small t m p, leb-true (m % 100) 59 (only-if-true (leb (m % 100) 59) _ n q)))
+
+hours-most : (t : List ℕ) → hoursWest t ≤ 8
+unfolding hoursWest
+hours-most t = go (placeIn t zoneNames) refl
+  where
+    go : (o : Option ℕ) → placeIn t zoneNames ≡ o → hoursWest t ≤ 8
+    go none p = rw (hoursWest, p) (omega arith)
+    go (some k) p = rw (hoursWest, p) (at-most 8 zoneHours (omega arith) k)
+
+west-some : (k : Opening) (t : List ℕ) (n : ℕ) → westBy k t ≡ some n → n ≤ 360_000
+unfolding westBy
+west-some Number t n e = absurd (Option·none-ne-some n e)
+west-some Word t n e = let q : 3600 * hoursWest t ≡ n = cc in omega (arith, hours-most t)
+west-some Plus t n e = absurd (Option·none-ne-some n e)
+west-some Minus t n e = offset-some (drop 1 t) n e
+west-some Mark t n e = absurd (Option·none-ne-some n e)
+
+not-missing : (n : ℕ) (v : List ℕ) → missing ≡ got n v → ⊥
+not-missing n v e = let z : _≡_ {A = ℕ} 0 1 = cc in omega arith
+
+read-some : (o : Option ℕ) (rest v : List ℕ) (n : ℕ) → readOf o rest ≡ got n v → o ≡ some n
+unfolding readOf
+read-some none rest v n e = cc
+read-some (some m) rest v n e = cc
+
+-- what the token at a place means
+next-some :
+    (what : Place) (u v : List ℕ) (n : ℕ) (P : Type 0) → next what u ≡ got n v → ((t : List ℕ) → meant what t ≡ some n → P) → P
+unfolding next readOf
+next-some what u v n P e h = go (firstToken u) refl
+  where
+    go : (w : Token) → firstToken u ≡ w → P
+    go (token t rest) p = h t (read-some (meant what t) rest v n (rw (next, p) at e))
+    go end p = absurd (not-missing n v (rw (next, p) at e))
+    go unreadable p = absurd (not-missing n v (rw (next, p) at e))
+
+optional-most : (opening : Place) (most : ℕ) (u v : List ℕ) (n : ℕ) → optional opening (UpTo most) u ≡ got n v → n ≤ most
+unfolding optional meant
+optional-most opening most u v n e = go (next opening u) refl
+  where
+    go : (w : Read) → next opening u ≡ w → n ≤ most
+    go (got m rest) p = next-some (UpTo most) rest v n (n ≤ most) (rw (optional, p) at e) (λ t q. two-most most t n q)
+    go missing p = let q : 0 ≡ n = cc (rw (optional, p) at e) in omega arith
+
+-- where one part after the other is there, so is the first
+then-some :
+    (u : Read) (f : ℕ → List ℕ → Read) (v : List ℕ) (n : ℕ) (P : Type 0) → andThen u f ≡ got n v
+    → ((m : ℕ) (rest : List ℕ) → u ≡ got m rest → f m rest ≡ got n v → P) → P
+unfolding andThen
+then-some (got m rest) f v n P e h = h m rest refl e
+then-some missing f v n P e h = absurd (not-missing n v e)
+
+module _ (u v : List ℕ) (n : ℕ) where
+  upto-most : (most : ℕ) → next (UpTo most) u ≡ got n v → n ≤ most
+  unfolding meant
+  upto-most most e = next-some (UpTo most) u v n (n ≤ most) e (λ t p. two-most most t n p)
+
+  month-in : next Month u ≡ got n v → (1 ≤ n) × (n ≤ 12)
+  unfolding meant
+  month-in e = next-some Month u v n ((1 ≤ n) × (n ≤ 12)) e (λ t p. month-some t n p)
+
+  year-in : next Year u ≡ got n v → (1900 ≤ n) × (n ≤ 9999)
+  unfolding meant
+  year-in e = next-some Year u v n ((1900 ≤ n) × (n ≤ 9999)) e (λ t p. year-some t n p)
+
+  west-in : next West u ≡ got n v → n ≤ 360_000
+  unfolding meant
+  west-in e = next-some West u v n (n ≤ 360_000) e (λ t p. west-some (opensWith t) t n p)
+
+exists-in : (year month day n : ℕ) → year ≤ 9999 → month ≤ 12 → existing year month day ≡ some n → n ≤ 3_000_000
+unfolding existing
+exists-in year month day n hy hm e =
+    let p : dayCount year month day ≡ n = cc (only-if-some (leb 1 day && leb day (monthLength year month)) _ n e) in
+    let q : day ≤ monthLength year month =
+    leb-true day (monthLength year month) (both-right (leb 1 day) _ (only-if-true (leb 1 day && leb day (monthLength year month)) _ n e)) in
+    rw (← p) (day-bound year month day hy hm (omega (arith, monthLength-small year month)))
+
+module _ (u v : List ℕ) (n : ℕ) where
+  days-in : calendarDay u ≡ got n v → n ≤ 3_000_000
+  unfolding calendarDay
+  days-in e =
+      then-some (next Day u) _ v n (n ≤ 3_000_000) e
+      (λ day a pd ed. then-some (next Month a) _ v n (n ≤ 3_000_000) ed
+      (λ month b pm em. then-some (next Year b) _ v n (n ≤ 3_000_000) em
+      (λ year c py ey.
+      exists-in year month day n (year-in b c year py .1) (month-in a b month pm .1) (read-some (existing year month day) c v n ey))))
+
+  time-in : timeOfDay u ≡ got n v → n ≤ 86_400
+  unfolding timeOfDay
+  time-in e =
+      then-some (next (UpTo 23) u) _ v n (n ≤ 86_400) e
+      (λ hours a ph eh. then-some (next Colon a) _ v n (n ≤ 86_400) eh
+      (λ _ b pc ec. then-some (next (UpTo 59) b) _ v n (n ≤ 86_400) ec
+      (λ minutes c pm em. then-some (optional Colon (UpTo 60) c) _ v n (n ≤ 86_400) em
+      (λ seconds d ps es.
+      let q : 3600 * hours + 60 * minutes + seconds ≡ n = cc in
+      omega (arith, upto-most u a hours 23 ph, upto-most b c minutes 59 pm, optional-most Colon 60 c d seconds ps)))))
+
+module _ (u v : List ℕ) (n : ℕ) where
+  local-in : localTime u ≡ got n v → n ≤ 300_000_000_000
+  unfolding localTime
+  local-in e =
+      then-some (calendarDay u) _ v n (n ≤ 300_000_000_000) e
+      (λ days a pd ed. then-some (timeOfDay a) _ v n (n ≤ 300_000_000_000) ed
+      (λ seconds b ps es.
+      let q : 86400 * days + seconds ≡ n = cc in
+      omega (arith, days-in u a days pd, time-in a b seconds ps)))
+
+-- what a reader's answer g is, at most
+module _ (s u : List ℕ) (g : Part) (n to : ℕ) (q : g ≡ Got n to) where
+  pub range-upto : (most : ℕ) → readIn s g ≡ next (UpTo most) u → n ≤ most
+  range-upto most e = upto-most u (drop to s) n most (read-got s g _ e n to q)
+
+  pub range-optional : (opening : Place) (most : ℕ) → readIn s g ≡ optional opening (UpTo most) u → n ≤ most
+  range-optional opening most e = optional-most opening most u (drop to s) n (read-got s g _ e n to q)
+
+  module _ (e : readIn s g ≡ next Month u) where
+    pub range-first-month : 1 ≤ n
+    range-first-month = month-in u (drop to s) n (read-got s g _ e n to q) .0
+
+    pub range-last-month : n ≤ 12
+    range-last-month = month-in u (drop to s) n (read-got s g _ e n to q) .1
+
+  module _ (e : readIn s g ≡ next Year u) where
+    pub range-first-year : 1900 ≤ n
+    range-first-year = year-in u (drop to s) n (read-got s g _ e n to q) .0
+
+    pub range-last-year : n ≤ 9999
+    range-last-year = year-in u (drop to s) n (read-got s g _ e n to q) .1
+
+  pub range-days : readIn s g ≡ calendarDay u → n ≤ 3_000_000
+  range-days e = days-in u (drop to s) n (read-got s g _ e n to q)
+
+  pub range-time : readIn s g ≡ timeOfDay u → n ≤ 86_400
+  range-time e = time-in u (drop to s) n (read-got s g _ e n to q)
+
+  pub range-local : readIn s g ≡ localTime u → n ≤ 300_000_000_000
+  range-local e = local-in u (drop to s) n (read-got s g _ e n to q)
+
+  pub range-west : (local : ℕ) → local ≤ 300_000_000_000 → readIn s g ≡ next West u → Fits w64 (local + n)
+  range-west local h e = record { fits = omega (arith, west-in u (drop to s) n (read-got s g _ e n to q)) }
+
+pub ruleset ranges =
+    (range-upto, range-optional, range-first-month, range-last-month, range-first-year, range-last-year, range-days, range-time, range-local, range-west)

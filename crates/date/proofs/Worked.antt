@@ -1,0 +1,96 @@
+-- Dates worked out, in one table: the paper's examples, and points where readings of it could differ. Each is computed from the definition.
+-- Assumes nothing.
+use Prim.Native.Nat.{ℕ}
+use Prim.Native.String.{String}
+use mathlib.Core.Path.{_≡_, refl}
+use mathlib.Core.List.{List, [], _∷_, map}
+use mathlib.Core.Option.{Option, some, none, bind}
+use Rattle.octets.specs.Octets.{ascii, lower, lowered, sameName, sameOctets}
+use Rattle.tokens.specs.Tokens.{blank, past, kindOf, control, belongs, runLength}
+use Rattle.date.specs.Calendar.{leap, leapDay, monthLength, yearDays, monthDays, dayCount}
+use Rattle.date.specs.Date.{
+  openingOf,
+  further,
+  tokenAt,
+  firstToken,
+  onlyIf,
+  digitOf,
+  valueFrom,
+  numberOf,
+  hereOr,
+  placeFrom,
+  markOf,
+  dayOf,
+  monthOf,
+  yearBy,
+  yearOf,
+  twoDigits,
+  offsetBy,
+  offsetOf,
+  hoursWest,
+  eastBy,
+  westBy,
+  meant,
+  readOf,
+  andThen,
+  next,
+  optional,
+  existing,
+  calendarDay,
+  timeOfDay,
+  localTime,
+  zoned,
+  ended,
+  dateOf,
+}
+
+-- a text, and the Date that it stands for
+data Example : Type 0 where
+  _is_ : String → Option ℕ → Example
+
+infix 20 _is_
+read : Example → Option ℕ
+read (text is date) = dateOf (ascii text)
+
+expected : Example → Option ℕ
+expected (text is date) = date
+
+examples : List Example
+examples =
+    -- paper 01, "Checked examples"
+    ("1 Jan 1970 00:00:00 +0000" is some 0)
+    ∷ ("1 Jan 1970 00:30 +0100" is some 0)
+    ∷ ("1 Mar 2000 00:00:00 -0100" is some 951872400)
+    ∷ ("29 Feb 1900 00:00 GMT" is none)
+    -- whole runs make the tokens, and no blank is needed
+    ∷ ("mon,1jan70 00:00:03z" is some 3)
+    ∷ ("1 Jan 2000 00:00+0100" is some 946681200)
+    ∷ ("1 Jan 20()00 00:00 GMT" is none)
+    ∷ ("(a (b)) 1 Jan 1970 00:00 (c) GMT (d)" is some 0)
+    ∷ ("1 Jan 1970 00:00 GMT (" is none)
+    -- a sign belongs to its digits, hours of a zone go to 99, minutes to 59
+    ∷ ("1 Jan 2000 00:00 + 0100" is none)
+    ∷ ("5 Jan 1970 04:00 +9959" is some 60)
+    ∷ ("5 Jan 1970 04:00 +0060" is none)
+    -- zones of letters, one run of any length
+    ∷ ("1 Jan 1970 00:00 pst" is some 28800)
+    ∷ ("1 Jan 1970 00:00 Zulu" is some 0)
+    ∷ ("1 Jan 1970 00:00 GMT+0100" is none)
+    -- second 60 counts 60 seconds after second 0, in any minute
+    ∷ ("1 Jan 1970 00:00:60 +0000" is some 60)
+    ∷ ("1 Jan 1970 00:00:61 +0000" is none)
+    ∷ ("1 Jan 1970 00:60 +0000" is none)
+    -- a day name has three letters and needs its comma
+    ∷ ("Sun, 1 Jan 1970 00:00 GMT" is some 0)
+    ∷ ("Sunday, 1 Jan 1970 00:00 GMT" is none)
+    ∷ ("Sun 1 Jan 1970 00:00 GMT" is none)
+    -- years of two, three and four digits
+    ∷ ("1 Jan 49 00:00 GMT" is some 2493072000)
+    ∷ ("31 Dec 50 00:00 GMT" is some 0)
+    ∷ ("1 Jan 100 00:00 GMT" is some 946684800)
+    ∷ ("1 Jan 0099 00:00 GMT" is none)
+    ∷ []
+
+worked : map read examples ≡ map expected examples
+unfolding examples read expected lower lowered sameName sameOctets blank past kindOf control belongs runLength bind leap leapDay monthLength yearDays monthDays dayCount openingOf further tokenAt firstToken onlyIf digitOf valueFrom numberOf hereOr placeFrom markOf dayOf monthOf yearBy yearOf twoDigits offsetBy offsetOf hoursWest eastBy westBy meant readOf andThen next optional existing calendarDay timeOfDay localTime zoned ended dateOf
+worked = refl

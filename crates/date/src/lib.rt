@@ -1,0 +1,210 @@
+// The Date of a message: a field's value that reads as `[day-name,] day month year hh:mm[:ss] zone`, in seconds since
+// 1970; and the effective date.
+pub mod calendar; // leap years, months and the count of days
+pub mod meaning; // what a token means at each place of a date
+pub mod token; // the tokens of a date
+
+use meaning::Meaning;
+use meaning::Place;
+use token::Found;
+ghost use Prim.Native.Nat.{_+_, _-_, _*_, _≤_};
+ghost use mathlib.Core.Path.{_≡_};
+ghost use lib.ListN.{drop};
+ghost use Rattle.date.specs.Date.{next as nextOf, optional as optionalOf, existing as existingOf, calendarDay, timeOfDay, localTime, zoned as zonedOf, ended as endedOf, dateOf, effectiveDate, got};
+ghost use Rattle.date.specs.Answers.{datedOf, optionOf, meaning as meaningOf, readIn};
+
+// The seconds from 1900 to 1970.
+const EPOCH: u64 = 2_208_988_800;
+
+// A number, and the place behind what was read; or what was looked for is missing.
+pub enum Part {
+    Got { value: u64, to: usize },
+    Missing,
+}
+
+// The Date, in seconds since 1970.
+pub enum Dated {
+    Available(u64),
+    Unavailable,
+}
+
+// The token that is to stand at a place of a date, from the place `at` of the text on.
+fn next(s: &[u8], at: usize, what: Place) -> Part
+    ensures { λ r. ⌜ readIn (now (s .entry)) r ≡ nextOf what (drop at (now (s .entry))) ⌝ }
+{
+    match token::token(s, at) {
+        Found::Between { from, to } => match meaning::meant(what, &s[from..to]) {
+            Meaning::Value(value) => Part::Got { value, to },
+            Meaning::Nothing => Part::Missing,
+        },
+        Found::End => Part::Missing,
+        Found::Unreadable => Part::Missing,
+    }
+}
+
+// A part of two tokens that may be missing, and counts as 0 then.
+fn optional(s: &[u8], at: usize, opening: Place, closing: Place) -> Part
+    ensures { λ r. ⌜ readIn (now (s .entry)) r ≡ optionalOf opening closing (drop at (now (s .entry))) ⌝ }
+{
+    match next(s, at, opening) {
+        Part::Got { value: _, to } => next(s, to, closing),
+        Part::Missing => Part::Got { value: 0, to: at },
+    }
+}
+
+// The days from 1900 to the day, which must exist in its month.
+fn existing(year: u64, month: u64, day: u64) -> Meaning
+    requires { ⌜ (1900 ≤ year) × (year ≤ 9999) ⌝ }
+    requires { ⌜ (1 ≤ month) × (month ≤ 12) ⌝ }
+    ensures { λ r. ⌜ r ≡ meaningOf (existingOf year month day) ⌝ }
+{
+    if day < 1 {
+        return Meaning::Nothing;
+    }
+    if calendar::month_length(year, month) < day {
+        return Meaning::Nothing;
+    }
+    Meaning::Value(calendar::day_count(year, month, day))
+}
+
+// `day month year`: the days since 1900.
+fn calendar_day(s: &[u8], at: usize) -> Part
+    ensures { λ r. ⌜ readIn (now (s .entry)) r ≡ calendarDay (drop at (now (s .entry))) ⌝ }
+{
+    let Part::Got { value: day, to } = next(s, at, Place::Day) else {
+        return Part::Missing;
+    };
+    let Part::Got { value: month, to } = next(s, to, Place::Month) else {
+        return Part::Missing;
+    };
+    let Part::Got { value: year, to } = next(s, to, Place::Year) else {
+        return Part::Missing;
+    };
+    match existing(year, month, day) {
+        Meaning::Value(value) => Part::Got { value, to },
+        Meaning::Nothing => Part::Missing,
+    }
+}
+
+// The seconds since midnight; 86,400 of them where the second is 60.
+fn clock(hours: u64, minutes: u64, seconds: u64) -> u64
+    requires { ⌜ (hours ≤ 23) × (minutes ≤ 59) × (seconds ≤ 60) ⌝ }
+    ensures { λ r. ⌜ r ≡ 3600 * hours + 60 * minutes + seconds ⌝ }
+{
+    3600 * hours + 60 * minutes + seconds
+}
+
+// `hh:mm[:ss]`: the seconds since midnight.
+fn time_of_day(s: &[u8], at: usize) -> Part
+    ensures { λ r. ⌜ readIn (now (s .entry)) r ≡ timeOfDay (drop at (now (s .entry))) ⌝ }
+{
+    let Part::Got { value: hours, to } = next(s, at, Place::UpTo(23)) else {
+        return Part::Missing;
+    };
+    let Part::Got { value: _, to } = next(s, to, Place::Colon) else {
+        return Part::Missing;
+    };
+    let Part::Got { value: minutes, to } = next(s, to, Place::UpTo(59)) else {
+        return Part::Missing;
+    };
+    let Part::Got { value: seconds, to } = optional(s, to, Place::Colon, Place::UpTo(60)) else {
+        return Part::Missing;
+    };
+    Part::Got {
+        value: clock(hours, minutes, seconds),
+        to,
+    }
+}
+
+// The seconds since 1900. No day that can be written lies 3,000,000 days after 1900.
+fn seconds_of(days: u64, seconds: u64) -> u64
+    requires { ⌜ (days ≤ 3_000_000) × (seconds ≤ 86_400) ⌝ }
+    ensures { λ r. ⌜ r ≡ 86400 * days + seconds ⌝ }
+{
+    86400 * days + seconds
+}
+
+// `day month year hh:mm[:ss]`: the seconds since 1900, as the zone's own clock has them.
+fn local_time(s: &[u8], at: usize) -> Part
+    ensures { λ r. ⌜ readIn (now (s .entry)) r ≡ localTime (drop at (now (s .entry))) ⌝ }
+{
+    let Part::Got { value: days, to } = calendar_day(s, at) else {
+        return Part::Missing;
+    };
+    let Part::Got { value: seconds, to } = time_of_day(s, to) else {
+        return Part::Missing;
+    };
+    Part::Got {
+        value: seconds_of(days, seconds),
+        to,
+    }
+}
+
+// How much a is above b, 0 where it isn't.
+fn above(a: u64, b: u64) -> u64
+    ensures { λ r. ⌜ r ≡ a - b ⌝ }
+{
+    if a < b { 0 } else { a - b }
+}
+
+// The zone: the seconds since 1900 at Greenwich. "An east offset is subtracted, a west one added."
+fn zoned(s: &[u8], at: usize, local: u64) -> Part
+    requires { ⌜ local ≤ 300_000_000_000 ⌝ }
+    ensures { λ r. ⌜ readIn (now (s .entry)) r ≡ zonedOf local (drop at (now (s .entry))) ⌝ }
+{
+    match next(s, at, Place::East) {
+        Part::Got { value, to } => Part::Got {
+            value: above(local, value),
+            to,
+        },
+        Part::Missing => match next(s, at, Place::West) {
+            Part::Got { value, to } => Part::Got {
+                value: local + value,
+                to,
+            },
+            Part::Missing => Part::Missing,
+        },
+    }
+}
+
+// Nothing may stand behind the zone.
+fn ended(s: &[u8], at: usize, value: u64) -> Dated
+    ensures { λ r. ⌜ r ≡ datedOf (endedOf (got value (drop at (now (s .entry))))) ⌝ }
+{
+    match token::token(s, at) {
+        Found::End => Dated::Available(above(value, EPOCH)),
+        Found::Between { from: _, to: _ } => Dated::Unavailable,
+        Found::Unreadable => Dated::Unavailable,
+    }
+}
+
+// The Date that the value of a Date field stands for.
+pub fn date(value: &[u8]) -> Dated
+    ensures { λ r. ⌜ r ≡ datedOf (dateOf (now (value .entry))) ⌝ }
+{
+    let Part::Got { value: _, to } = optional(value, 0, Place::DayName, Place::Comma) else {
+        return Dated::Unavailable;
+    };
+    let Part::Got { value: local, to } = local_time(value, to) else {
+        return Dated::Unavailable;
+    };
+    let Part::Got { value: instant, to } = zoned(value, to, local) else {
+        return Dated::Unavailable;
+    };
+    ended(value, to, instant)
+}
+
+// The smaller of Date and receipt time, or the receipt time when the Date is unavailable.
+pub fn effective_date(date: Dated, receipt: u64) -> u64
+    ensures { λ r. ⌜ r ≡ effectiveDate (optionOf date) receipt ⌝ }
+{
+    match date {
+        Dated::Available(n) => {
+            if n < receipt {
+                return n;
+            }
+            receipt
+        }
+        Dated::Unavailable => receipt,
+    }
+}

@@ -1,0 +1,88 @@
+-- Blocks and values that are worked out.
+--     blocks     the fields of readable blocks
+--     broken     blocks that are unreadable
+--     reports    values that are multipart/report
+--     others     values that are not
+-- Assumes nothing.
+use Prim.Native.Nat.{ℕ}
+use mathlib.Core.Path.{_≡_, refl}
+use mathlib.Core.Bool.{true, false}
+use mathlib.Core.List.{List, [], _∷_, map}
+use mathlib.Core.Option.{some, none}
+use lib.ListN.{replicate}
+use Rattle.octets.specs.Octets.{ascii, octet, sameName, sameOctets, lowered, lower}
+use Rattle.header.specs.Header.{
+  FieldText,
+  fields,
+  fieldsOf,
+  fieldsWithin,
+  inFront,
+  unfolded,
+  over,
+  ofEnding,
+  opensField,
+  runLength,
+  rawLength,
+  belongs,
+  closes,
+  isReport,
+  opensReport,
+  mayFollow,
+}
+
+field : List ℕ → List ℕ → FieldText
+field n v = record { name = n; value = v }
+
+-- A folded field and one without a value, CRLF and LF mixed; what follows the empty line isn't examined. A line of blanks only is a
+-- continuation. Only the CR directly before an LF is of a line ending, also at the end. Names may hold each end of 33 to 126. The last line may
+-- lack its ending; length 0 is readable; a first line that is empty gives no fields.
+blocks :
+    map fieldsOf
+    (ascii "To: a@b,\r\n\tc@d\nX:\n\r\nnot a field"
+    ∷ ascii "A:b\n \nC:d"
+    ∷ ascii "A:b\r\r\n"
+    ∷ ascii "A:b\r"
+    ∷ ascii "!~:b:c"
+    ∷ []
+    ∷ ascii "\n b"
+    ∷ [])
+    ≡ some (field (ascii "To") (ascii " a@b,\tc@d") ∷ field (ascii "X") [] ∷ [])
+    ∷ some (field (ascii "A") (ascii "b ") ∷ field (ascii "C") (ascii "d") ∷ [])
+    ∷ some (field (ascii "A") (ascii "b\r") ∷ [])
+    ∷ some (field (ascii "A") (ascii "b\r") ∷ [])
+    ∷ some (field (ascii "!~") (ascii "b:c") ∷ [])
+    ∷ some []
+    ∷ some []
+    ∷ []
+unfolding field fieldsOf fields fieldsWithin inFront unfolded over ofEnding opensField runLength rawLength belongs closes
+blocks = refl
+
+-- A continuation with no field above; a lone CR at the end, which is a line and no field; a blank between name and colon; no name; no colon; an
+-- octet above 126 in a name; a line from an mbox.
+broken :
+    map fieldsOf
+    (ascii " A:b"
+    ∷ ascii "A:b\r\n\r"
+    ∷ ascii "A :b"
+    ∷ ascii ":b"
+    ∷ ascii "A:b\nC"
+    ∷ (octet "A" ∷ 127 ∷ ascii ":b")
+    ∷ ascii "From a@b Mon Jan 1"
+    ∷ [])
+    ≡ replicate 7 none
+unfolding fieldsOf fields fieldsWithin inFront unfolded over ofEnding opensField runLength rawLength belongs closes
+broken = refl
+
+reports :
+    map isReport (ascii "multipart/report" ∷ ascii " \t Multipart/REPORT; report-type=x" ∷ ascii "multipart/report(c)" ∷ ascii "multipart/report\t" ∷ [])
+    ≡ replicate 4 true
+unfolding isReport opensReport mayFollow runLength belongs sameName sameOctets lowered lower
+reports = refl
+
+-- a comment before the type, a blank in it, another type, a bare CR behind it, half of it
+others :
+    map isReport
+    (ascii "(c) multipart/report" ∷ ascii "multipart /report" ∷ ascii "multipart/reports" ∷ ascii "multipart/report\r" ∷ ascii "multipart" ∷ [])
+    ≡ replicate 5 false
+unfolding isReport opensReport mayFollow runLength belongs sameName sameOctets lowered lower
+others = refl

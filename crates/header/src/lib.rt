@@ -1,0 +1,216 @@
+// Header blocks: the field that begins at a place, whether a whole block is readable, a value unfolded, and
+// multipart/report told. What is right is said by specs/Header.antt; specs/Answers.antt leads from there to places.
+ghost use Prim.Native.Nat.{_+_, _≤_, _<_};
+ghost use mathlib.Core.Path.{_≡_};
+ghost use lib.ListN.{length, getD, drop};
+ghost use Rattle.octets.specs.Written.{onto};
+ghost use Rattle.header.specs.Header.{ofEnding, over, belongs, runLength, closes, rawLength, unfolded, readable as readableOf, mayFollow, isReport};
+ghost use Rattle.header.specs.Answers.{stepAt};
+
+// How long a block may be.
+const LIMIT: usize = 65536;
+
+// What stands at a place where a line begins: the block is over; the block is unreadable; or a field, whose name
+// lies from there to name_end and its value, not unfolded yet, from value to end, where the next line begins.
+pub enum Step {
+    Over,
+    Broken,
+    Field {
+        name_end: usize,
+        value: usize,
+        end: usize,
+    },
+}
+
+// The classes of octets that make runs.
+pub enum Class {
+    Name,
+    Blank,
+}
+
+// The octet at the place `at`, and 0 past the end.
+fn peek(s: &[u8], at: usize) -> u8
+    ensures { λ r. ⌜ r ≡ getD (now (s .entry)) at 0 ⌝ }
+{
+    if at < s.len() { s[at] } else { 0 }
+}
+
+fn within(x: u8, class: Class) -> bool
+    ensures { λ r. ⌜ r ≡ belongs class x ⌝ }
+{
+    match class {
+        Class::Name => (33 <= x) & (x <= 126) & (x != b':'),
+        Class::Blank => (x == b' ') | (x == b'\t'),
+    }
+}
+
+// The end of the run of octets of the class that begins at the place `at`.
+fn run_end(s: &[u8], at: usize, class: Class) -> usize
+    ensures { λ r. ⌜ r ≡ at + runLength class (drop at (now (s .entry))) ⌝ }
+{
+    let mut i = at;
+    while i < s.len() {
+        if within(s[i], class) {
+            i += 1;
+        } else {
+            return i;
+        }
+    }
+    i
+}
+
+// Is the octet at the place `at` one of a line ending: an LF, or a CR directly before one?
+fn ends_at(s: &[u8], at: usize) -> bool
+    requires { ⌜ at < length (now s) ⌝ }
+    ensures { λ r. ⌜ r ≡ ofEnding (getD (now (s .entry)) at 0) (getD (now (s .entry)) (at + 1) 0) ⌝ }
+{
+    if s[at] == b'\n' {
+        return true;
+    }
+    if s[at] != b'\r' {
+        return false;
+    }
+    peek(s, at + 1) == b'\n'
+}
+
+// Is the octet at the place `at` the last of a field: an LF that neither space nor tab follows?
+fn closes_at(s: &[u8], at: usize) -> bool
+    requires { ⌜ at < length (now s) ⌝ }
+    ensures { λ r. ⌜ r ≡ closes (getD (now (s .entry)) at 0) (getD (now (s .entry)) (at + 1) 0) ⌝ }
+{
+    if s[at] != b'\n' {
+        return false;
+    }
+    !within(peek(s, at + 1), Class::Blank)
+}
+
+// The end of the field whose value begins at the place `at`.
+fn raw_end(s: &[u8], at: usize) -> usize
+    ensures { λ r. ⌜ r ≡ at + rawLength (drop at (now (s .entry))) ⌝ }
+{
+    let mut i = at;
+    while i < s.len() {
+        if closes_at(s, i) {
+            return i + 1;
+        }
+        i += 1;
+    }
+    i
+}
+
+// Is the block over at the place `at`, where a line begins?
+fn over_at(block: &[u8], at: usize) -> bool
+    ensures { λ r. ⌜ r ≡ over (drop at (now (block .entry))) ⌝ }
+{
+    if block.len() <= at {
+        return true;
+    }
+    ends_at(block, at)
+}
+
+// What stands at the place `at`, where a line begins. A continuation with no field above has no name: neither space
+// nor tab is of one.
+pub fn field_at(block: &[u8], at: usize) -> Step
+    ensures { λ r. ⌜ r ≡ stepAt (now (block .entry)) at ⌝ }
+{
+    if over_at(block, at) {
+        return Step::Over;
+    }
+    let name_end = run_end(block, at, Class::Name);
+    if name_end == at {
+        return Step::Broken;
+    }
+    if peek(block, name_end) != b':' {
+        return Step::Broken;
+    }
+    let value = name_end + 1;
+    let end = raw_end(block, value);
+    Step::Field {
+        name_end,
+        value,
+        end,
+    }
+}
+
+// A place in a block where a line begins.
+pub struct Cursor {
+    pub at: usize,
+}
+
+impl Cursor {
+    // What stands at the cursor. Behind a field the next line begins, at the field's end.
+    pub fn step(self, block: &[u8]) -> Step
+        ensures { λ r. ⌜ r ≡ stepAt (now (block .entry)) (self .at) ⌝ }
+    {
+        let at = self.at;
+        field_at(block, at)
+    }
+}
+
+// Is the block one of fields alone, up to its end, and no longer than a block may be?
+pub fn readable(block: &[u8]) -> bool
+    ensures { λ r. ⌜ r ≡ readableOf (now (block .entry)) ⌝ }
+{
+    if LIMIT < block.len() {
+        return false;
+    }
+    let mut here = Cursor { at: 0 };
+    loop {
+        match here.step(block) {
+            Step::Over => return true,
+            Step::Broken => return false,
+            Step::Field {
+                name_end: _,
+                value: _,
+                end,
+            } => here = Cursor { at: end },
+        }
+    }
+}
+
+// Writes the value `raw` without its line endings over the beginning of `out`, and answers how many octets that are.
+pub fn unfold(raw: &[u8], out: &mut [u8]) -> usize
+    requires { ⌜ length (now raw) ≤ length (now out) ⌝ }
+    ensures { λ r. ⌜ r ≡ length (unfolded (now (raw .entry))) ⌝ }
+    ensures { λ _. ⌜ now (out .exit) ≡ onto (unfolded (now (raw .entry))) (now (out .entry)) ⌝ }
+{
+    let mut n = 0;
+    let mut i = 0;
+    while i < raw.len() {
+        if ends_at(raw, i) {
+            i += 1;
+            continue;
+        }
+        out[n] = raw[i];
+        n += 1;
+        i += 1;
+    }
+    n
+}
+
+// May what stands at the place `at` follow the name of a type?
+fn may_follow(s: &[u8], at: usize) -> bool
+    ensures { λ r. ⌜ r ≡ mayFollow (drop at (now (s .entry))) ⌝ }
+{
+    if s.len() <= at {
+        return true;
+    }
+    let x = s[at];
+    within(x, Class::Blank) | (x == b';') | (x == b'(')
+}
+
+// Is the value of a Content-Type multipart/report, which has 16 octets?
+pub fn is_report(value: &[u8]) -> bool
+    ensures { λ r. ⌜ r ≡ isReport (now (value .entry)) ⌝ }
+{
+    let at = run_end(value, 0, Class::Blank);
+    if value.len() - at < 16 {
+        return false;
+    }
+    let end = at + 16;
+    if octets::same_name(&value[at..end], b"multipart/report") {
+        may_follow(value, end)
+    } else {
+        false
+    }
+}

@@ -1,0 +1,11 @@
+pub mod Table
+pub mod Telling
+pub mod Finding
+pub mod Listing
+pub mod Moving
+pub mod Handing
+pub mod Counting
+pub mod Holding
+pub mod Lone
+pub mod Readable
+pub mod Worked

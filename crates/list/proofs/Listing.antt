@@ -1,0 +1,191 @@
+-- What a list gives from a place of the grammar on, token by token, with no count of tokens.
+--     Shorter, shorter              what is left behind a token is shorter, and an address is plain
+--     enough                        how many tokens are counted does not matter, if they are enough
+--     listed-address .. listed-unread   what the first token makes of it
+-- Assumes nothing.
+use Prim.Native.Nat.{ℕ, zero, suc, _-_, _<_, _≤_}
+use mathlib.Core.Path.{_≡_, refl, sym, ap, _∙_}
+use mathlib.Core.Bool.{Bool, true, false}
+use mathlib.Core.List.{List, [], _∷_}
+use mathlib.Core.Option.{Option, some, none}
+use native.Mathlib.Omega.{arith}
+use lib.ListN.{length, take, drop, length-drop}
+use Rattle.tokens.specs.Tokens.{skipped, afterQuote}
+use Rattle.tokens.proofs.Places.{suffix-length}
+use Rattle.tokens.proofs.Skipping.{skipped-suffix}
+use Rattle.tokens.proofs.Quoting.{quote-suffix}
+use Rattle.address.specs.Pieces.{run}
+use Rattle.address.specs.Address.{addressOctet, plain}
+use Rattle.address.proofs.Every.{by-test}
+use Rattle.list.specs.List.{openingOf, holdsAt, Token, address, other, end, unreadable, runToken, quotedToken, tokenAt, firstToken, afterAddress, after, mayEnd, inFront, listedBy, listed}
+use Rattle.list.specs.declared.token.Sort.{Sort}
+use Rattle.list.specs.declared.token.Opening.{Opening}
+use Rattle.list.specs.declared.token.Opening.the-variants.{Run, Quote, Sign, Nothing}
+use Rattle.list.specs.declared.grammar.Stage.{Stage}
+use Rattle.list.specs.declared.grammar.Step.{Step}
+use Rattle.list.specs.declared.grammar.Step.the-variants.{On, Wrong}
+use Rattle.list.proofs.Finding.{opens-run-octet}
+
+abbrev pub Shorter : List ℕ → Token → Type 0
+Shorter s (address a rest) = (length rest < length s) × (plain a ≡ true)
+Shorter s (other sort rest) = length rest < length s
+Shorter s end = Unit
+Shorter s unreadable = Unit
+
+run-shorter : (x : ℕ) (s : List ℕ) → addressOctet x ≡ true → Shorter (x ∷ s) (runToken (x ∷ s))
+unfolding runToken run
+run-shorter x s o =
+    let n : run addressOctet (x ∷ s) ≡ suc (run addressOctet s) = rw (run, o) in
+    let k : length (drop (run addressOctet (x ∷ s)) (x ∷ s)) < length (x ∷ s) = rw n (omega (arith, length-drop (run addressOctet s) s)) in
+    by-test (plain (take (run addressOctet (x ∷ s)) (x ∷ s)))
+    (λ p. rw (runToken, p) (k, p))
+    (λ p.
+    by-test (holdsAt (take (run addressOctet (x ∷ s)) (x ∷ s)))
+    (λ h. rw (runToken, p, h) tt)
+    (λ h. rw (runToken, p, h) k))
+
+quoted-shorter : (x : ℕ) (s : List ℕ) → Shorter (x ∷ s) (quotedToken (x ∷ s))
+unfolding quotedToken
+quoted-shorter x s = go (afterQuote false s) refl
+  where
+    go : (o : Option (List ℕ)) → afterQuote false s ≡ o → Shorter (x ∷ s) (quotedToken (x ∷ s))
+    go none e = rw (quotedToken, e) tt
+    go (some rest) e = rw (quotedToken, e) (omega (arith, suffix-length (quote-suffix false s rest e), length-drop 1 s))
+
+at-shorter : (s : List ℕ) → Shorter s (tokenAt s)
+unfolding tokenAt
+at-shorter [] = tt
+at-shorter (x ∷ s) = go (openingOf x) refl
+  where
+    go : (o : Opening) → openingOf x ≡ o → Shorter (x ∷ s) (tokenAt (x ∷ s))
+    go Run e = rw (tokenAt, e) (run-shorter x s (opens-run-octet x e))
+    go Quote e = rw (tokenAt, e) (quoted-shorter x s)
+    go (Sign sort) e = rw (tokenAt, e) (omega arith)
+    go Nothing e = rw (tokenAt, e) tt
+
+from-longer : (s rest : List ℕ) (t : Token) → length rest ≤ length s → Shorter rest t → Shorter s t
+from-longer s rest (address a r) l h = (omega arith, h .1)
+from-longer s rest (other sort r) l h = omega arith
+from-longer s rest end l h = h
+from-longer s rest unreadable l h = h
+
+pub shorter : (s : List ℕ) (t : Token) → firstToken s ≡ t → Shorter s t
+unfolding firstToken
+shorter s t p = rw p at (go (skipped s) refl)
+  where
+    go : (o : Option (List ℕ)) → skipped s ≡ o → Shorter s (firstToken s)
+    go none e = rw (firstToken, e) tt
+    go (some rest) e = rw (firstToken, e) (from-longer s rest (tokenAt rest) (suffix-length (skipped-suffix s rest e)) (at-shorter rest))
+
+-- one token of a list, the others being counted by n
+module _ (n : ℕ) (stage : Stage) (inside : Bool) (s : List ℕ) where
+  module _ (a rest : List ℕ) (e : firstToken s ≡ address a rest) where
+    by-address : (next : Stage) (inner : Bool) → afterAddress stage inside ≡ On next inner
+        → listedBy (suc n) stage inside s ≡ inFront a (listedBy n next inner rest)
+    unfolding listedBy
+    by-address next inner p = rw (listedBy, e, p)
+
+    by-address-wrong : afterAddress stage inside ≡ Wrong → listedBy (suc n) stage inside s ≡ none
+    unfolding listedBy
+    by-address-wrong p = rw (listedBy, e, p)
+
+  module _ (sort : Sort) (rest : List ℕ) (e : firstToken s ≡ other sort rest) where
+    by-other : (next : Stage) (inner : Bool) → after stage inside sort ≡ On next inner
+        → listedBy (suc n) stage inside s ≡ listedBy n next inner rest
+    unfolding listedBy
+    by-other next inner p = rw (listedBy, e, p)
+
+    by-other-wrong : after stage inside sort ≡ Wrong → listedBy (suc n) stage inside s ≡ none
+    unfolding listedBy
+    by-other-wrong p = rw (listedBy, e, p)
+
+  by-end : (b : Bool) → firstToken s ≡ end → mayEnd stage inside ≡ b → listedBy (suc n) stage inside s ≡ elim b [ true ↦ some [] | false ↦ none ]
+  unfolding listedBy
+  by-end b e p = rw (listedBy, e, p)
+
+  by-unread : firstToken s ≡ unreadable → listedBy (suc n) stage inside s ≡ none
+  unfolding listedBy
+  by-unread e = rw (listedBy, e)
+
+-- what the first token makes of a list, however many others are counted
+pub data Turn (stage : Stage) (inside : Bool) (s : List ℕ) : Type 0 where
+  over : ((n : ℕ) → listedBy (suc n) stage inside s ≡ some []) → Turn stage inside s
+  unread : ((n : ℕ) → listedBy (suc n) stage inside s ≡ none) → Turn stage inside s
+  hands :
+      (a rest : List ℕ) (next : Stage) (inner : Bool) → length rest < length s → plain a ≡ true
+      → ((n : ℕ) → listedBy (suc n) stage inside s ≡ inFront a (listedBy n next inner rest)) → Turn stage inside s
+  goes :
+      (rest : List ℕ) (next : Stage) (inner : Bool) → length rest < length s
+      → ((n : ℕ) → listedBy (suc n) stage inside s ≡ listedBy n next inner rest) → Turn stage inside s
+
+module _ (stage : Stage) (inside : Bool) (s : List ℕ) where
+  pub turn : Turn stage inside s
+  turn = go (firstToken s) refl
+    where
+      addressed : (a rest : List ℕ) → firstToken s ≡ address a rest → (r : Step) → afterAddress stage inside ≡ r → Turn stage inside s
+      addressed a rest e (On next inner) p =
+          hands a rest next inner (shorter s (address a rest) e .0) (shorter s (address a rest) e .1)
+          (λ n. by-address n stage inside s a rest e next inner p)
+      addressed a rest e Wrong p = unread (λ n. by-address-wrong n stage inside s a rest e p)
+
+      others : (sort : Sort) (rest : List ℕ) → firstToken s ≡ other sort rest → (r : Step) → after stage inside sort ≡ r → Turn stage inside s
+      others sort rest e (On next inner) p =
+          goes rest next inner (shorter s (other sort rest) e) (λ n. by-other n stage inside s sort rest e next inner p)
+      others sort rest e Wrong p = unread (λ n. by-other-wrong n stage inside s sort rest e p)
+
+      go : (t : Token) → firstToken s ≡ t → Turn stage inside s
+      go (address a rest) e = addressed a rest e (afterAddress stage inside) refl
+      go (other sort rest) e = others sort rest e (after stage inside sort) refl
+      go end e = by-test (mayEnd stage inside) (λ p. over (λ n. by-end n stage inside s true e p)) (λ p. unread (λ n. by-end n stage inside s false e p))
+      go unreadable e = unread (λ n. by-unread n stage inside s e)
+
+enough :
+    (n m : ℕ) (stage : Stage) (inside : Bool) (s : List ℕ) → length s < n → length s < m
+    → listedBy n stage inside s ≡ listedBy m stage inside s
+enough zero m stage inside s h k = absurd (omega arith)
+enough (suc n) zero stage inside s h k = absurd (omega arith)
+enough (suc n) (suc m) stage inside s h k = go (λ next inner rest. enough n m next inner rest) (turn stage inside s)
+  where
+    go :
+        ((next : Stage) (inner : Bool) (rest : List ℕ) → length rest < n → length rest < m → listedBy n next inner rest ≡ listedBy m next inner rest)
+        → Turn stage inside s → listedBy (suc n) stage inside s ≡ listedBy (suc m) stage inside s
+    go more (over e) = e n ∙ sym (e m)
+    go more (unread e) = e n ∙ sym (e m)
+    go more (hands a rest next inner l p e) = e n ∙ ap (inFront a) (more next inner rest (omega arith) (omega arith)) ∙ sym (e m)
+    go more (goes rest next inner l e) = e n ∙ more next inner rest (omega arith) (omega arith) ∙ sym (e m)
+
+-- what is left behind a token, counted anew
+anew : (s rest : List ℕ) (next : Stage) (inner : Bool) → length rest < length s → listedBy (length s) next inner rest ≡ listed next inner rest
+unfolding listed
+anew s rest next inner l = enough (length s) (suc (length rest)) next inner rest l (omega arith)
+
+module _ (stage : Stage) (inside : Bool) (s : List ℕ) where
+  module _ (a rest : List ℕ) (e : firstToken s ≡ address a rest) where
+    pub listed-address :
+        (next : Stage) (inner : Bool) → afterAddress stage inside ≡ On next inner → listed stage inside s ≡ inFront a (listed next inner rest)
+    unfolding listed
+    listed-address next inner p =
+        by-address (length s) stage inside s a rest e next inner p
+        ∙ ap (inFront a) (anew s rest next inner (shorter s (address a rest) e .0))
+
+    pub listed-address-wrong : afterAddress stage inside ≡ Wrong → listed stage inside s ≡ none
+    unfolding listed
+    listed-address-wrong p = by-address-wrong (length s) stage inside s a rest e p
+
+  module _ (sort : Sort) (rest : List ℕ) (e : firstToken s ≡ other sort rest) where
+    pub listed-other : (next : Stage) (inner : Bool) → after stage inside sort ≡ On next inner → listed stage inside s ≡ listed next inner rest
+    unfolding listed
+    listed-other next inner p =
+        by-other (length s) stage inside s sort rest e next inner p ∙ anew s rest next inner (shorter s (other sort rest) e)
+
+    pub listed-other-wrong : after stage inside sort ≡ Wrong → listed stage inside s ≡ none
+    unfolding listed
+    listed-other-wrong p = by-other-wrong (length s) stage inside s sort rest e p
+
+  pub listed-end : (b : Bool) → firstToken s ≡ end → mayEnd stage inside ≡ b → listed stage inside s ≡ elim b [ true ↦ some [] | false ↦ none ]
+  unfolding listed
+  listed-end b e p = by-end (length s) stage inside s b e p
+
+  pub listed-unread : firstToken s ≡ unreadable → listed stage inside s ≡ none
+  unfolding listed
+  listed-unread e = by-unread (length s) stage inside s e

@@ -1,0 +1,154 @@
+// The tokens of a list: the signs `,` `<` `>` `:` `;`, words and addresses, with spaces, tabs and comments between them.
+// A long run costs its length.
+use tokens::Class;
+use tokens::Reached;
+ghost use Prim.Native.Nat.{_+_, _<_};
+ghost use mathlib.Core.Path.{_≡_};
+ghost use mathlib.Core.Bool.{true};
+ghost use lib.ListN.{length, getD, drop};
+ghost use Rattle.address.specs.Address.{addressOctet};
+ghost use Rattle.address.specs.Pieces.{run as runOf};
+ghost use Rattle.list.specs.List.{holdsAt, openingOf, runToken, quotedToken, tokenAt, firstToken};
+ghost use Rattle.list.specs.Answers.{foundIn, Inside};
+
+// The sorts of tokens besides addresses.
+pub enum Sort {
+    Word,
+    Less,
+    Greater,
+    Comma,
+    Colon,
+    Semicolon,
+}
+
+// What an octet opens.
+pub enum Opening {
+    Run,
+    Quote,
+    Sign(Sort),
+    Nothing,
+}
+
+// The token at a place; or the end; or what cannot be read.
+pub enum Found {
+    Address { from: usize, to: usize },
+    Other { sort: Sort, to: usize },
+    End,
+    Unreadable,
+}
+
+// Does the octet belong to a run: of atoms, dots and `@`?
+fn in_run(x: u8) -> bool
+    ensures { λ r. ⌜ r ≡ addressOctet x ⌝ }
+{
+    tokens::within(Class::Atom, x) | (x == b'.') | (x == b'@')
+}
+
+// The end of the run that begins at the place `at`.
+fn run_end(list: &[u8], at: usize) -> usize
+    ensures { λ r. ⌜ r ≡ at + runOf addressOctet (drop at (now (list .entry))) ⌝ }
+{
+    let mut i = at;
+    while i < list.len() {
+        if !in_run(list[i]) {
+            return i;
+        }
+        i += 1;
+    }
+    i
+}
+
+fn holds_at(text: &[u8]) -> bool
+    ensures { λ r. ⌜ r ≡ holdsAt (now (text .entry)) ⌝ }
+{
+    let mut i = 0;
+    while i < text.len() {
+        if text[i] == b'@' {
+            return true;
+        }
+        i += 1;
+    }
+    false
+}
+
+pub fn opened_by(x: u8) -> Opening
+    ensures { λ r. ⌜ r ≡ openingOf x ⌝ }
+{
+    if in_run(x) {
+        return Opening::Run;
+    }
+    match x {
+        b'"' => Opening::Quote,
+        b',' => Opening::Sign(Sort::Comma),
+        b'<' => Opening::Sign(Sort::Less),
+        b'>' => Opening::Sign(Sort::Greater),
+        b':' => Opening::Sign(Sort::Colon),
+        b';' => Opening::Sign(Sort::Semicolon),
+        _ => Opening::Nothing,
+    }
+}
+
+// The run that begins at the place `from`: an address as a whole, or words; with an `@` in it and no address it is unreadable.
+fn run(list: &[u8], from: usize) -> Found
+    requires { ⌜ (from < length (now list)) × (addressOctet (getD (now list) from 0) ≡ true) ⌝ }
+    ensures { λ r. ⌜ foundIn (now (list .entry)) r ≡ runToken (drop from (now (list .entry))) ⌝ }
+    ensures { λ r. ⌜ Inside (now (list .entry)) from r ⌝ }
+{
+    let to = run_end(list, from);
+    let text = &list[from..to];
+    if address::is_plain(text) {
+        return Found::Address { from, to };
+    }
+    if holds_at(text) {
+        return Found::Unreadable;
+    }
+    Found::Other {
+        sort: Sort::Word,
+        to,
+    }
+}
+
+// The quoted string whose opening quote stands at the place `from`: a word.
+fn quoted(list: &[u8], from: usize) -> Found
+    requires { ⌜ from < length (now list) ⌝ }
+    ensures { λ r. ⌜ foundIn (now (list .entry)) r ≡ quotedToken (drop from (now (list .entry))) ⌝ }
+    ensures { λ r. ⌜ Inside (now (list .entry)) from r ⌝ }
+{
+    match tokens::quoted(list, from + 1) {
+        Reached::To(to) => Found::Other {
+            sort: Sort::Word,
+            to,
+        },
+        Reached::Unreadable => Found::Unreadable,
+    }
+}
+
+// The token whose first octet stands at the place `from`.
+fn token_at(list: &[u8], from: usize) -> Found
+    requires { ⌜ from < length (now list) ⌝ }
+    ensures { λ r. ⌜ foundIn (now (list .entry)) r ≡ tokenAt (drop from (now (list .entry))) ⌝ }
+    ensures { λ r. ⌜ Inside (now (list .entry)) from r ⌝ }
+{
+    match opened_by(list[from]) {
+        Opening::Run => run(list, from),
+        Opening::Quote => quoted(list, from),
+        Opening::Sign(sort) => Found::Other { sort, to: from + 1 },
+        Opening::Nothing => Found::Unreadable,
+    }
+}
+
+// The first token from the place `at` on.
+pub fn token(list: &[u8], at: usize) -> Found
+    ensures { λ r. ⌜ foundIn (now (list .entry)) r ≡ firstToken (drop at (now (list .entry))) ⌝ }
+    ensures { λ r. ⌜ Inside (now (list .entry)) at r ⌝ }
+{
+    match tokens::skip(list, at) {
+        Reached::To(from) => {
+            if list.len() <= from {
+                return Found::End;
+            }
+            token_at(list, from)
+        }
+        Reached::Unreadable => Found::Unreadable,
+    }
+}

@@ -1,0 +1,34 @@
+-- `slots::set_gossip` meets its contract: the laws of `Entries` answer every need. Assumes nothing.
+use Rattle.slots.proofs.Entries.{changing}
+use borrow.Author.Needs.{needs}
+use Rattle.slots.proofs.set_gossip.Statement.{statement}
+use Rattle.slots.proofs.set_gossip.Tie as tie
+
+read-requires : tie.Need-read-requires
+read-requires c κs = search needs
+
+with-gossip-requires : tie.Need-with-gossip-requires
+with-gossip-requires c κs = search needs
+
+put-requires : tie.Need-put-requires
+put-requires c κs = search needs
+
+put-padded-requires : tie.Need-put-padded-requires
+put-padded-requires c κs = search needs
+
+same-length : tie.Need-same-length
+same-length c = search needs
+
+returns : tie.Need-returns
+returns c = search changing
+
+pub set-gossip-spec : {M : Type 1} → statement M
+set-gossip-spec =
+    tie.close
+    (tie.spec
+    read-requires
+    with-gossip-requires
+    put-requires
+    put-padded-requires
+    same-length
+    returns)

@@ -1,0 +1,114 @@
+-- Refusals 1 and 2: whether a slot is right, and the scan for the lowest that is not.
+--     right-free .. right-whole       the answers on one slot
+--     whole-is                        the answer on the length
+--     judged-on .. checked-length     one slot, and the whole
+--     Judged t n i                    the answer on n slots is that on those from i on
+--     judge-begin .. judge-end        the loop's steps
+-- Assumes nothing.
+use Prim.Native.Nat.{ℕ, suc, _+_, _-_, _%_, _<_, _≤_}
+use mathlib.Core.Path.{_≡_, sym, ap, _∙_}
+use mathlib.Core.Bool.{Bool, true, false, not, _&&_, or-false}
+use mathlib.Core.List.{List}
+use native.Mathlib.Nat.{sub-zero}
+use native.Mathlib.Omega.{arith}
+use borrow.Author.Tests.{not-true, not-false}
+use borrow.Author.Needs.{needs}
+use lib.Dec.{leb, eqb}
+use lib.ListN.{length}
+use Rattle.octets.proofs.Lists.{left-one}
+use Rattle.slots.specs.Slot.{slotLength, marked, free, sound, addressOf}
+use Rattle.slots.proofs.Sounds.{marked-not-free, unmarked-not-sound}
+use Rattle.table.specs.Table.{slots, slotAt, holds, lowest, isAt, inLower, right, whole, judged, checked}
+use Rattle.table.specs.declared.Checked.the-variants.{Sound, Length, Slot}
+use Rattle.table.specs.declared.Found.{Found}
+use Rattle.table.specs.declared.Found.the-variants.{At, Nothing}
+
+module _ (t s : List ℕ) (i : ℕ) (m : Bool) (e : (s ≡ slotAt t i) × (length s ≡ slotLength)) (p : m ≡ marked s) where
+  pub right-free : (b : Bool) → not m ≡ true → b ≡ free s → b ≡ right t i
+  unfolding right
+  right-free b q f =
+      let z : sound (slotAt t i) ≡ false = unmarked-not-sound (slotAt t i) (ap marked (sym (e .0)) ∙ sym p ∙ not-true m q) in
+      f ∙ rw (e .0, z) (sym (or-false (free (slotAt t i))))
+
+  module _ (q : not m ≡ false) where
+    taken : free (slotAt t i) ≡ false
+    taken = marked-not-free (slotAt t i) (ap marked (sym (e .0)) ∙ sym p ∙ not-false m q)
+
+    pub right-not : (b : Bool) → b ≡ sound s → not b ≡ true → false ≡ right t i
+    unfolding right
+    right-not b f n =
+        let z : sound (slotAt t i) ≡ false = ap sound (sym (e .0)) ∙ sym f ∙ not-true b n in
+        rw (taken, z)
+
+    module _ (b : Bool) (f : b ≡ sound s) (n : not b ≡ false) (a : List ℕ) (r : Found) (ea : a ≡ addressOf s) (er : r ≡ lowest (holds a) t 0 i) where
+      lower-is : inLower t i ≡ isAt r
+      unfolding inLower
+      lower-is = sym (rw (er, ea, e .0))
+
+      good : sound (slotAt t i) ≡ true
+      good = ap sound (sym (e .0)) ∙ sym f ∙ not-false b n
+
+      pub right-twice : (j : ℕ) → r ≡ At j → false ≡ right t i
+      unfolding right
+      right-twice j w = rw (taken, good, lower-is, w)
+
+      pub right-whole : r ≡ Nothing → true ≡ right t i
+      unfolding right
+      right-whole w = rw (taken, good, lower-is, w)
+
+pub ruleset being-right = (right-free, right-not, right-twice, right-whole, needs)
+
+pub whole-is : (t : List ℕ) (n : ℕ) → n ≡ slots t → (eqb (length t % 4392) 0 && leb 1 n && leb n 256) ≡ whole t
+unfolding whole
+whole-is t n e = rw e
+
+pub record Judged (t : List ℕ) (n i : ℕ) : Type 0 where
+  pub upto : i ≤ n
+  pub so-far : judged t 0 n ≡ judged t i (n - i)
+
+-- one slot
+module _ (t : List ℕ) (i k : ℕ) where
+  pub judged-on : right t i ≡ true → judged t i (suc k) ≡ judged t (i + 1) k
+  unfolding judged
+  judged-on e = rw (judged, e)
+
+  pub judged-here : right t i ≡ false → judged t i (suc k) ≡ Slot i
+  unfolding judged
+  judged-here e = rw (judged, e)
+
+pub checked-slots : (t : List ℕ) → whole t ≡ true → checked t ≡ judged t 0 (slots t)
+unfolding checked
+checked-slots t e = rw (checked, e)
+
+pub checked-length : (t : List ℕ) → whole t ≡ false → checked t ≡ Length
+unfolding checked
+checked-length t e = rw (checked, e)
+
+pub judge-length : (t : List ℕ) (b : Bool) → b ≡ whole t → not b ≡ true → Length ≡ checked t
+judge-length t b e n = sym (checked-length t (sym e ∙ not-true b n))
+
+pub judge-begin : (t : List ℕ) (n : ℕ) → Judged t n 0
+judge-begin t n = record { upto = omega arith; so-far = rw (sub-zero n) }
+
+module _ (t : List ℕ) (n i : ℕ) (h : Judged t n i) where
+  pub judge-next : (b : Bool) → i < n → b ≡ right t i → not b ≡ false → Judged t n (i + 1)
+  judge-next b l e q =
+      record { upto = omega arith; so-far = h .so-far ∙ rw (left-one n i l) (judged-on t i (n - (i + 1)) (sym e ∙ not-false b q)) }
+
+  module _ (w : Bool) (ew : w ≡ whole t) (nw : not w ≡ false) (en : n ≡ slots t) where
+    all : checked t ≡ judged t i (n - i)
+    all = checked-slots t (sym ew ∙ not-false w nw) ∙ rw (← en) (h .so-far)
+
+    pub judge-stop : (b : Bool) → i < n → b ≡ right t i → not b ≡ true → Slot i ≡ checked t
+    judge-stop b l e q = sym (all ∙ rw (left-one n i l) (judged-here t i (n - (i + 1)) (sym e ∙ not-true b q)))
+
+    pub judge-end : n ≤ i → Sound ≡ checked t
+    unfolding judged
+    judge-end l =
+        let z : n - i ≡ 0 = omega arith in
+        sym (all ∙ rw z)
+
+pub judge-within : (t : List ℕ) (n i : ℕ) → n ≡ slots t → i < n → i < slots t
+judge-within t n i e l = omega arith
+
+pub ruleset judging = (whole-is, judge-length, judge-begin, judge-within, judge-next, judge-stop, judge-end, needs)

@@ -1,0 +1,6 @@
+pub mod Slots
+pub mod Scanning
+pub mod Judging
+pub mod Finding
+pub mod Keeping
+mod Worked

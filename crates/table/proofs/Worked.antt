@@ -1,0 +1,76 @@
+-- Tables worked out, by computing them.
+--     no-slots, part-slot         "table length isn't 1 to 256 whole slots"
+--     one-free, one-used          sound tables
+--     stray-octet                 a slot that is neither free nor sound
+--     twice                       an address that stands in a lower slot
+--     second-found .. one-left    where an address stands, and the free slots
+-- Assumes nothing.
+use Prim.Native.Nat.{ℕ}
+use mathlib.Core.Path.{_≡_, refl}
+use mathlib.Core.Bool.{true}
+use mathlib.Core.Option.{some, none}
+use mathlib.Core.List.{List, [], _∷_, _++_}
+use lib.ListN.{replicate}
+use Rattle.octets.specs.Octets.{ascii, allZero, sameOctets, lowered, lower}
+use Rattle.octets.specs.Numbers.{number, digits}
+use Rattle.tokens.specs.Tokens.{belongs}
+use Rattle.address.specs.Pieces.{every, onFirst, pieces, before, behind}
+use Rattle.address.specs.Address.{atom, localPart, labelOctet, freeEnds, label, domain, plain, canonical, isCanonical}
+use Rattle.slots.specs.Slot.{slotLength, addressOf, numbersOf, free, marked, canonicalAddress, clear, zeroPast, sound}
+use Rattle.slots.specs.Entry.{numbersFor, bitsOf, opening, times, lengths, head, padded, areas, slotOf}
+use Rattle.table.specs.Table.{slots, slotAt, unused, holds, lowest, howMany, found, lowestFree, freeCount, inLower, right, whole, judged, checked}
+use Rattle.table.specs.declared.Checked.the-variants.{Sound, Length, Slot}
+use Rattle.table.specs.declared.Found.the-variants.{At, Nothing}
+
+no-slots : checked [] ≡ Length
+unfolding checked whole slots
+no-slots = refl
+
+part-slot : checked (replicate 4393 0) ≡ Length
+unfolding checked whole slots
+part-slot = refl
+
+empty : List ℕ
+empty = replicate slotLength 0
+
+one-free : checked empty ≡ Sound
+unfolding empty checked whole slots judged right free allZero slotAt
+one-free = refl
+
+alice : List ℕ
+alice =
+    slotOf
+    (record {
+      address = ascii "alice@a.example";
+      lastSeen = some 1000;
+      direct = some (record { timestamp = 1000; key = 1 ∷ 2 ∷ 3 ∷ []; «mutual» = true });
+      gossip = none;
+    })
+
+second-found : found (empty ++ alice) (ascii "alice@a.example") ≡ At 1
+unfolding empty alice slotOf areas padded head opening times lengths digits bitsOf numbersFor found slots lowest holds marked sameOctets addressOf number slotAt
+second-found = refl
+
+not-found : found (empty ++ alice) (ascii "bob@a.example") ≡ Nothing
+unfolding empty alice slotOf areas padded head opening times lengths digits bitsOf numbersFor found slots lowest holds marked sameOctets addressOf number slotAt
+not-found = refl
+
+second-free : lowestFree (alice ++ empty) ≡ At 1
+unfolding empty alice slotOf areas padded head opening times lengths digits bitsOf numbersFor lowestFree unused slots lowest marked sameOctets slotAt
+second-free = refl
+
+one-left : freeCount (alice ++ empty) ≡ 1
+unfolding empty alice slotOf areas padded head opening times lengths digits bitsOf numbersFor freeCount howMany unused slots marked sameOctets slotAt
+one-left = refl
+
+one-used : checked alice ≡ Sound
+unfolding alice slotOf areas padded head opening times lengths digits bitsOf numbersFor checked whole slots judged right free allZero slotAt sound marked sameOctets canonicalAddress addressOf number numbersOf clear zeroPast inLower lowest isCanonical plain localPart domain label atom labelOctet freeEnds every pieces onFirst before behind belongs canonical lowered lower
+one-used = refl
+
+twice : checked (alice ++ alice) ≡ Slot 1
+unfolding alice slotOf areas padded head opening times lengths digits bitsOf numbersFor checked whole slots judged right free allZero slotAt sound marked sameOctets canonicalAddress addressOf number numbersOf clear zeroPast inLower lowest holds isCanonical plain localPart domain label atom labelOctet freeEnds every pieces onFirst before behind belongs canonical lowered lower
+twice = refl
+
+stray-octet : checked (replicate 4391 0 ++ (1 ∷ [])) ≡ Slot 0
+unfolding checked whole slots judged right free allZero slotAt sound marked sameOctets
+stray-octet = refl

@@ -1,0 +1,107 @@
+// Reads cases from standard input and prints what the crates answer, a case a line: a letter, a blank, and the text.
+//     b TEXT   Base64 to octets, printed in hexadecimal; or spoiled
+//     e TEXT   the octets of the text, written as Base64 lines
+//     k TEXT   the place behind the spaces, tabs and comments that open the text; or unreadable
+//     q TEXT   the place behind the quoted string whose opening quote opens the text; or unreadable
+//     d TEXT   a Date value, in seconds since 1970; or unavailable
+// What it must print stands in `stdout`, as the independent program printed it.
+ghost use Prim.Native.Nat.{_≤_};
+ghost use lib.ListN.{length};
+use libc::STDOUT_FILENO;
+
+fn print(text: &[u8]) {
+    io::write_all(STDOUT_FILENO, text);
+}
+
+// The place of the line's end that follows the place `at`, or the end of the text.
+fn line_end(s: &[u8], at: usize) -> usize
+    requires { ⌜ at ≤ length (now s) ⌝ }
+    ensures { λ r. ⌜ (at ≤ r) × (r ≤ length (now (s .entry))) ⌝ }
+{
+    let mut i = at;
+    while i < s.len() {
+        if s[i] == b'\n' {
+            return i;
+        }
+        i += 1;
+    }
+    i
+}
+
+fn wide(x: u8) -> u64 {
+    x as u64
+}
+
+fn print_octets(s: &[u8]) {
+    let mut i = 0;
+    while i < s.len() {
+        io::print_hex(STDOUT_FILENO, wide(s[i]), 2);
+        i += 1;
+    }
+    print(b"\n");
+}
+
+fn run_decode(text: &[u8]) {
+    let mut out = io::buffer();
+    match base64::decode(text, &mut out) {
+        base64::Decoded::Octets(n) => print_octets(&out[0..n]),
+        base64::Decoded::NotBase64 => print(b"spoiled\n"),
+        base64::Decoded::NoRoom => print(b"no room\n"),
+    }
+}
+
+fn run_lines(text: &[u8]) {
+    let mut out = io::buffer();
+    if 4096 < base64::lines_length(text) {
+        return print(b"no room\n");
+    }
+    let n = base64::write_lines(text, &mut out, 0);
+    print(&out[0..n]);
+}
+
+fn print_number(n: u64) {
+    io::print_decimal(STDOUT_FILENO, n);
+    print(b"\n");
+}
+
+fn print_place(r: tokens::Reached) {
+    match r {
+        tokens::Reached::To(n) => print_number(n as u64),
+        tokens::Reached::Unreadable => print(b"unreadable\n"),
+    }
+}
+
+fn run_date(text: &[u8]) {
+    match date::date(text) {
+        date::Dated::Available(n) => print_number(n),
+        date::Dated::Unavailable => print(b"unavailable\n"),
+    }
+}
+
+fn run(line: &[u8]) {
+    if line.len() < 2 {
+        return;
+    }
+    let kind = line[0];
+    let text = &line[2..];
+    match kind {
+        b'b' => run_decode(text),
+        b'e' => run_lines(text),
+        b'k' => print_place(tokens::skip(text, 0)),
+        b'q' => print_place(tokens::quoted(text, 1)),
+        b'd' => run_date(text),
+        _ => print(b"?\n"),
+    }
+}
+
+fn main() {
+    let mut space = io::large_buffer();
+    let n = io::read_full(libc::STDIN_FILENO, &mut space);
+    let cases: &[u8] = &space[..n];
+    let mut at = 0;
+    while at < cases.len() {
+        let end = line_end(cases, at);
+        run(&cases[at..end]);
+        at = end + 1;
+    }
+}

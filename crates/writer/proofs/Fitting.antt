@@ -1,0 +1,90 @@
+-- A field measured, then written where it fits; and its address in canonical form.
+--     fit-none .. fit-kept       what is answered and left, by the field's length
+--     form-end .. form-left      the canonical form stands in the buffer that was lent for it
+--     never-answered, never-left     for which it is never too long
+--     the rulesets               fitting, for `fit_field`; forming, for `write_field`
+-- Assumes nothing.
+use Prim.Native.Nat.{ℕ, _+_, _-_, _<_, _≤_}
+use mathlib.Core.Path.{_≡_, refl, sym, _∙_}
+use mathlib.Core.Bool.{Bool, true}
+use mathlib.Core.List.{List}
+use native.Mathlib.Omega.{arith}
+use native.Mathlib.Nat.{sub-zero}
+use borrow.Author.Needs.{needs}
+use lib.ListN.{length, take, drop, length-append}
+use lib.Seq.{take-append-seam}
+use Rattle.octets.specs.Written.{onto}
+use Rattle.address.specs.Address.{plain, canonical}
+use Rattle.address.specs.Answers.{writtenOf, ontoIfFits}
+use Rattle.address.specs.declared.Written.{Written}
+use Rattle.address.specs.declared.Written.the-variants.{Length, NoRoom}
+use Rattle.address.proofs.Room.{written-fits, written-none, written-length, written-no-room, onto-fits, onto-none}
+use Rattle.address.proofs.Spelling.{canonical-most}
+use Rattle.writer.specs.Writing.{fieldText, written}
+
+-- `fit_field`
+module _ (w d : List ℕ) (n : ℕ) (e : n ≡ length w) where
+  module _ (l : length d < n) where
+    pub fit-none : NoRoom ≡ writtenOf w (length d)
+    fit-none = sym (written-none w (length d) (omega arith))
+
+    pub none-kept : d ≡ ontoIfFits w d
+    none-kept = sym (onto-none w d (omega arith))
+
+  module _ (l : n ≤ length d) where
+    pub fit-room : length w ≤ length d
+    fit-room = omega arith
+
+    pub fit-written : Length n ≡ writtenOf w (length d)
+    fit-written = rw e (sym (written-fits w (length d) fit-room))
+
+    pub fit-kept : (out : List ℕ) → out ≡ onto w d → out ≡ ontoIfFits w d
+    fit-kept out q = q ∙ sym (onto-fits w d fit-room)
+
+pub ruleset fitting = (fit-none, none-kept, fit-room, fit-written, fit-kept, needs)
+
+-- `write_field`: the canonical form of an address s fits the buffer of 256 octets that is lent for it
+module _ (s : List ℕ) (plainly : plain s ≡ true) (g : Written) (e : g ≡ writtenOf (canonical s) 256) where
+  form-fits : length (canonical s) ≤ 256
+  form-fits = omega (arith, canonical-most s plainly)
+
+  module _ (r : g ≡ NoRoom) where
+    fits-always : ⊥
+    fits-always = omega (arith, written-no-room (canonical s) 256 (sym r ∙ e), form-fits)
+
+    pub never-answered : (w : List ℕ) (room : ℕ) → NoRoom ≡ writtenOf w room
+    never-answered w room = absurd fits-always
+
+    pub never-left : (w d : List ℕ) → d ≡ ontoIfFits w d
+    never-left w d = absurd fits-always
+
+  module _ (n : ℕ) (q : g ≡ Length n) (b out : List ℕ) (o : out ≡ ontoIfFits (canonical s) b) (l : length b ≡ 256) where
+    form-long : n ≡ length (canonical s)
+    form-long = written-length (canonical s) 256 n (sym q ∙ e) .0
+
+    form-onto : out ≡ onto (canonical s) b
+    form-onto = o ∙ onto-fits (canonical s) b (omega (arith, form-fits))
+
+    form-there : take (n - 0) out ≡ canonical s
+    unfolding onto
+    form-there = rw (sub-zero, form-onto, form-long) (take-append-seam (canonical s) (drop (length (canonical s)) b))
+
+    pub form-end : n ≤ length out
+    unfolding onto
+    form-end = rw (form-onto, form-long, length-append) (omega arith)
+
+    pub form-most : length (take (n - 0) out) ≤ 256
+    form-most = rw form-there form-fits
+
+    module _ (name key : List ℕ) (m : Bool) where
+      same-field : fieldText name (take (n - 0) out) m key ≡ written name s m key
+      unfolding written
+      same-field = rw form-there
+
+      pub form-written : (r : Written) (room : ℕ) → r ≡ writtenOf (fieldText name (take (n - 0) out) m key) room → r ≡ writtenOf (written name s m key) room
+      form-written r room p = rw same-field at p
+
+      pub form-left : (last d : List ℕ) → last ≡ ontoIfFits (fieldText name (take (n - 0) out) m key) d → last ≡ ontoIfFits (written name s m key) d
+      form-left last d p = rw same-field at p
+
+pub ruleset forming = (never-answered, never-left, form-end, form-most, form-written, form-left, needs)

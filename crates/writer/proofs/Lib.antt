@@ -1,0 +1,4 @@
+pub mod Parts
+pub mod Placing
+pub mod Fitting
+pub mod Worked

@@ -1,0 +1,30 @@
+-- The paper's example and some beside it, by computing the definitions. Assumes nothing.
+use Prim.Native.Nat.{_+_}
+use mathlib.Core.Path.{_≡_, refl}
+use mathlib.Core.Bool.{true, false}
+use lib.ListN.{length, replicate}
+use Rattle.octets.specs.Octets.{ascii, octet, lower, lowered}
+use Rattle.base64.specs.Base64.{letter, encode, laid, lines}
+use Rattle.address.specs.Address.{canonical}
+use Rattle.writer.specs.Writing.{preference, fieldText, written}
+
+-- "`Autocrypt: addr=a@b.example; prefer-encrypt=mutual; keydata=` CRLF, space `Zm9v` CRLF"
+whole : written (ascii "Autocrypt") (ascii "a@b.example") true (ascii "foo")
+    ≡ ascii "Autocrypt: addr=a@b.example; prefer-encrypt=mutual; keydata=\r\n Zm9v\r\n"
+unfolding written fieldText preference canonical lowered lower encode letter lines laid
+whole = refl
+
+-- the address in capitals, and no preference
+without : written (ascii "Autocrypt-Gossip") (ascii "A@B.Example") false (ascii "foob")
+    ≡ ascii "Autocrypt-Gossip: addr=a@b.example; keydata=\r\n Zm9vYg==\r\n"
+unfolding written fieldText preference canonical lowered lower encode letter lines laid
+without = refl
+
+-- 57 octets make one line of 76 characters, with nothing behind it; 58 make two
+one-line : length (written (ascii "A") (ascii "a@b") false (replicate 57 (octet "k"))) ≡ 1 + 7 + 3 + 12 + 79
+unfolding written fieldText preference canonical lowered lower encode letter lines laid
+one-line = refl
+
+two-lines : length (written (ascii "A") (ascii "a@b") false (replicate 58 (octet "k"))) ≡ 1 + 7 + 3 + 12 + 79 + 7
+unfolding written fieldText preference canonical lowered lower encode letter lines laid
+two-lines = refl

@@ -1,0 +1,15 @@
+-- The two halves that the private functions write of a field.
+--     opening       its name and address
+--     attributes    what stands behind the address
+use Prim.Native.Nat.{ℕ}
+use mathlib.Core.Bool.{Bool}
+use mathlib.Core.List.{List, _++_}
+use Rattle.octets.specs.Octets.{ascii}
+use Rattle.base64.specs.Base64.{encode, lines}
+use Rattle.writer.specs.Writing.{preference}
+
+unfoldable pub opening : List ℕ → List ℕ → List ℕ
+opening name address = name ++ (ascii ": addr=" ++ address)
+
+unfoldable pub attributes : Bool → List ℕ → List ℕ
+attributes isMutual key = preference isMutual ++ (ascii "; keydata=\r\n" ++ lines (encode key))

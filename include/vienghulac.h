@@ -1,0 +1,63 @@
+/* Vienghulac: Autocrypt Level 1 for mail programs. The C interface.
+ *
+ * The caller owns all memory. A block is lent to one call as a pointer and a length, and the library keeps neither
+ * pointers nor anything else behind the call; it allocates nothing. A block that is lent as `const` is read and not
+ * changed, and must not be changed by anyone while the call runs. A block that is lent for writing belongs to the call
+ * alone while it runs: it overlaps no other block of the call, and no other thread touches it. A null pointer is fine
+ * where the length is 0.
+ *
+ * Every input has an answer: nothing has to be checked before a call. A refusal has its number, and leaves all lent
+ * memory as it was:
+ *
+ *      0   done
+ *      9   the address argument is not one plain address
+ *     11   the key argument is not 1 to 2,048 octets long
+ *     12   the output is shorter than the field
+ *
+ * Numbers are given in the order of this list: 9 where more than one of them holds, then 11, then 12.
+ */
+#ifndef VIENGHULAC_H
+#define VIENGHULAC_H
+
+#include <stdbool.h>
+#include <stddef.h>
+#include <stdint.h>
+
+#ifdef __cplusplus
+extern "C" {
+#endif
+
+/* What a writer answers: 0 and the length of the field, or the number of a refusal and the length 0. */
+typedef struct {
+    uint64_t number;
+    uint64_t length;
+} vienghulac_written;
+
+/* Writes the Autocrypt field of an outgoing mail to the front of `out`:
+ *
+ *     Autocrypt: addr=a@b.example; prefer-encrypt=mutual; keydata=
+ *      Zm9v
+ *
+ * with CRLF behind each line. `address` is the sender's, and is written in canonical form; `key` holds the octets of
+ * the key, and is written as Base64. Without `mutual` the attribute prefer-encrypt is left out.
+ *
+ * Borrowed for the call: `address` and `key`. Written: the first `length` octets of `out`, where the number is 0; the
+ * octets behind them, and with a refusal all of `out`, stay as they were. No terminating zero is written.
+ * Answers 0, 9, 11 or 12. */
+vienghulac_written vienghulac_write_autocrypt(const uint8_t *address, size_t address_length,
+                                              const uint8_t *key, size_t key_length, bool mutual,
+                                              uint8_t *out, size_t out_length);
+
+/* Writes an Autocrypt-Gossip field, for the header block of a mail's encrypted payload, to the front of `out`: the
+ * same with the name Autocrypt-Gossip and without a preference. `address` and `key` are those of a recipient.
+ *
+ * Borrowed, written and answered as above. */
+vienghulac_written vienghulac_write_gossip(const uint8_t *address, size_t address_length,
+                                           const uint8_t *key, size_t key_length,
+                                           uint8_t *out, size_t out_length);
+
+#ifdef __cplusplus
+}
+#endif
+
+#endif

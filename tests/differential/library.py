@@ -1,0 +1,29 @@
+"""The library that is shipped, called through ctypes as include/vienghulac.h declares it."""
+import ctypes
+
+from probe import READ, ROOT, WRITE, Bound, Lent
+
+
+class Written(ctypes.Structure):
+    _fields_ = [("number", ctypes.c_uint64), ("length", ctypes.c_uint64)]
+
+
+class Library(Bound):
+    def __init__(self):
+        super().__init__(ROOT / "build" / "libvienghulac.so")
+
+    def _write(self, name: str, kinds: list, words: list, out: bytes) -> tuple[int, int, bytes]:
+        lent = Lent(out)
+        r = self._call(name, Written, kinds + WRITE, *words, *lent.words())
+        return r.number, r.length, lent.now()
+
+    def write_autocrypt(self, address: bytes, key: bytes, mutual: bool, out: bytes) -> tuple[int, int, bytes]:
+        """The number, the length, and what the output then holds."""
+        kinds = READ + READ + [ctypes.c_bool]
+        words = [address, len(address), key, len(key), mutual]
+        return self._write("vienghulac_write_autocrypt", kinds, words, out)
+
+    def write_gossip(self, address: bytes, key: bytes, out: bytes) -> tuple[int, int, bytes]:
+        """As above."""
+        words = [address, len(address), key, len(key)]
+        return self._write("vienghulac_write_gossip", READ + READ, words, out)

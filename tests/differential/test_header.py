@@ -1,0 +1,78 @@
+"""Crate header against the independent program: generated blocks, blocks at the limit, and the header blocks of real mail."""
+import unittest
+
+import mail
+from against import Cases
+from paper import header
+from probe import SEED, Probe
+
+
+class Header(unittest.TestCase):
+    def setUp(self):
+        self.probe = Probe()
+        self.cases = Cases(SEED)
+        self.random = self.cases.random
+
+    def same(self, block: bytes) -> bool:
+        expected = header.fields(block)
+        self.assertEqual(self.probe.readable(block), expected is not None, block)
+        if len(block) <= header.BLOCK_LIMIT:
+            self.assertEqual(self.probe.fields(block), expected, block)
+        return expected is None
+
+    def test_blocks(self):
+        answers = set()
+        for _ in range(20_000):
+            answers.add(self.same(self.cases.header_block()))
+        self.assertEqual(answers, {False, True})
+
+    def test_small_blocks(self):
+        """Every text of up to six octets out of those that matter."""
+        letters = b"A: \r\n"
+        texts = [b""]
+        for _ in range(6):
+            texts = [text + bytes([x]) for text in texts for x in letters]
+            for text in texts:
+                self.same(text)
+
+    def test_each_octet(self):
+        for x in range(256):
+            for block in (b"%c:a", b"N%c:a", b"N:a\n%cb", b"N:a\r%c", b"N:%c\n", b"%c\n", b"N:a\n\n%c"):
+                self.same(block % x)
+
+    def test_limit(self):
+        for length in (65_535, 65_536, 65_537):
+            self.same(b"N:" + b"x" * (length - 2))
+            self.same(b"N:\n\n" + b"x" * (length - 4))
+            self.same((b"N:\n" * length)[:length])
+
+    def test_unfold_room(self):
+        for raw in (b"", b"a\r\n", b"a\n b\n", b"\r\r\n"):
+            value = raw.replace(b"\r\n", b"\n").replace(b"\n", b"")
+            self.assertEqual(self.probe.unfold(raw, b"?" * len(raw)), (0, value))
+            if raw:
+                self.assertEqual(self.probe.unfold(raw, b"?" * (len(raw) - 1)), (2, b""))
+
+    def test_report(self):
+        answers = set()
+        for _ in range(5_000):
+            value = self.cases.content_type()
+            expected = header.is_report(value)
+            self.assertEqual(self.probe.is_report(value), expected, value)
+            answers.add(expected)
+        self.assertEqual(answers, {False, True})
+        for x in range(256):
+            for value in (b"multipart/report%c" % x, b"%cmultipart/report" % x, b"multipart%creport" % x):
+                self.assertEqual(self.probe.is_report(value), header.is_report(value), value)
+
+    def test_real_mail(self):
+        blocks = mail.header_blocks()
+        self.assertGreater(len(blocks), 100)
+        readable = sum(not self.same(block) for block in blocks)
+        self.assertGreater(readable, len(blocks) // 2)
+        for block in blocks:
+            self.same(block.replace(b"\r\n", b"\n").replace(b"\n", b"\r\n"))
+
+
+if __name__ == "__main__":
+    unittest.main()

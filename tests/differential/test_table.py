@@ -1,0 +1,109 @@
+"""Crates slots and table, and the listing program, against the independent program."""
+import platform
+import shutil
+import subprocess
+import unittest
+from dataclasses import replace
+from pathlib import Path
+
+from against import Cases
+from paper import listing, table as tables
+from probe import ROOT, SEED, Probe
+
+SLOT = tables.SLOT
+
+
+def defects(slot: bytes):
+    """The slot with each single octet outside the keys' middles set to other values, and each pair of bits turned."""
+    places = list(range(0, 48)) + [200, 293, 294, 295, 296, 297, 1000, 2342, 2343, 2344, 2345, 4000, 4390, 4391]
+    for at in places:
+        for x in (0, 1, 2, 8, 15, 16, 32, 65, 97, 128, 255):
+            if slot[at] != x:
+                yield slot[:at] + bytes([x]) + slot[at + 1 :]
+    for bits in range(256):
+        yield slot[:4] + bytes([bits]) + slot[5:]
+
+
+class Table(unittest.TestCase):
+    def setUp(self):
+        self.probe = Probe()
+        self.cases = Cases(SEED)
+        self.random = self.cases.random
+
+    def same(self, table: bytes) -> int:
+        expected = tables.check(table)
+        self.assertEqual(self.probe.check(table), expected)
+        if expected[0] == 0:
+            held = tables.entries(table)
+            free = tables.free_slots(held)
+            self.assertEqual(self.probe.lowest_free(table), free[0] if free else None)
+            self.assertEqual(self.probe.count_free(table), len(free))
+            for wanted in [entry.address for entry in held if entry][:8] + [self.cases.address(), b""]:
+                index = next((i for i, entry in enumerate(held) if entry and entry.address == wanted), None)
+                self.assertEqual(self.probe.find(table, wanted), index)
+        return expected[0]
+
+    def test_tables(self):
+        answers = set()
+        for _ in range(3_000):
+            answers.add(self.same(self.cases.table()))
+            answers.add(self.same(self.cases.broken_slot()))
+        self.assertEqual(answers, {0, 1, 2})
+
+    def test_each_defect(self):
+        """Each single defect, in a first, middle and last slot, of tables of 1, 2, 14 and 256 slots."""
+        entries = [
+            tables.Entry(b"alice@a.example", 1000, 1000, b"abc", True),
+            tables.Entry(b"bob@b.example", 5),
+            tables.Entry(b"c@d", None, None, None, False, 0, b"\0" * 2048),
+            tables.Entry(b"d" * 64 + b"@e", 10, 9, b"k" * 2048, False, 10, b"g"),
+        ]
+        for entry in entries:
+            for slot in defects(tables.slot_of(entry)):
+                self.same(slot)
+        for count in (2, 14, 256):
+            rest = [tables.slot_of(replace(entries[1], address=b"n%d@b" % i)) for i in range(count)]
+            for at in {0, count // 2, count - 1}:
+                for slot in self.random.sample(list(defects(tables.slot_of(entries[0]))), 40):
+                    self.same(b"".join(rest[:at] + [slot] + rest[at + 1 :]))
+                # the address of another slot
+                for other in {0, count // 2, count - 1} - {at}:
+                    self.same(b"".join(rest[:at] + [rest[other]] + rest[at + 1 :]))
+
+    def test_lengths(self):
+        for length in (0, 1, SLOT - 1, SLOT, SLOT + 1, 2 * SLOT, 256 * SLOT - 1, 256 * SLOT, 256 * SLOT + 1, 257 * SLOT):
+            self.same(bytes(length))
+
+    def test_times(self):
+        for seen in (0, 1, tables.TIME_LIMIT, tables.TIME_LIMIT + 1, 2**64 - 1):
+            for stamp in (0, 1, tables.TIME_LIMIT, tables.TIME_LIMIT + 1, 2**64 - 1):
+                self.same(tables.slot_of(tables.Entry(b"a@b", seen, stamp, b"k")))
+                self.same(tables.slot_of(tables.Entry(b"a@b", seen, None, None, False, stamp, b"k")))
+
+
+def program(name: str) -> list[str]:
+    """How a program of the repository is run: by the toolchain's own loader, and by its emulator where it brings one."""
+    kit = Path(shutil.which("rt")).resolve().parents[1]
+    tools = kit / "on" / platform.machine() / "toolchain"
+    emulator = tools / "bin" / "qemu-x86_64"
+    loader = [str(tools / "lib" / "ld-linux-x86-64.so.2"), "--library-path", str(tools / "lib")]
+    return [str(emulator)] * emulator.exists() + loader + [str(ROOT / "target" / "bin" / name)]
+
+
+class Listing(unittest.TestCase):
+    def test_listing(self):
+        cases = Cases(SEED)
+        command = program("listing")
+        self.assertTrue(Path(command[-1]).exists(), "rt check builds the programs")
+        answers = set()
+        for _ in range(400):
+            given = cases.listing_input()
+            expected = listing.listing(given)
+            run = subprocess.run(command, input=given, capture_output=True, check=True)
+            self.assertEqual(run.stdout, expected)
+            answers.add(expected[:9] if expected.startswith(b"refused") else b"")
+        self.assertEqual(answers, {b"", b"refused 1", b"refused 2"})
+
+
+if __name__ == "__main__":
+    unittest.main()

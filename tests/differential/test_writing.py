@@ -1,0 +1,77 @@
+"""The shipped library's two writers against the independent program: generated arguments, and both ends of each limit."""
+import unittest
+
+from against import Cases
+from library import Library
+from paper import writing
+from paper.address import canonical
+from probe import SEED, Probe
+
+
+class Writing(unittest.TestCase):
+    def setUp(self):
+        self.library = Library()
+        self.cases = Cases(SEED)
+        self.random = self.cases.random
+
+    def same(self, expected: tuple[int, bytes], written: tuple[int, int, bytes], out: bytes, what: object) -> int:
+        number, field = expected
+        self.assertEqual(written, (number, len(field), field + out[len(field) :]), what)
+        return number
+
+    def autocrypt(self, address: bytes, key: bytes, mutual: bool, room: int) -> int:
+        out = self.random.randbytes(room)
+        expected = writing.write_autocrypt(address, key, mutual, room)
+        return self.same(expected, self.library.write_autocrypt(address, key, mutual, out), out, (address, key, mutual, room))
+
+    def gossip(self, address: bytes, key: bytes, room: int) -> int:
+        out = self.random.randbytes(room)
+        expected = writing.write_gossip(address, key, room)
+        return self.same(expected, self.library.write_gossip(address, key, out), out, (address, key, room))
+
+    def test_writing(self):
+        answers = set()
+        for _ in range(10_000):
+            answers.add(self.autocrypt(*self.cases.writing()))
+            answers.add(self.gossip(*self.cases.writing_gossip()))
+        self.assertEqual(answers, {0, 9, 11, 12})
+
+    def test_limits(self):
+        """Addresses and keys at both ends of each limit, an output of every length around the field's."""
+        domain = b"@" + b".".join([b"d" * 63] * 2) + b"." + b"D" * 61
+        addresses = [b"a@b", b"L" * 64 + b"@b", b"l" * 65 + b"@b", b"l" * 64 + domain, b"l" * 64 + domain + b"d", b"", b" a@b", b"\xc3\x84@B"]
+        keys = [self.random.randbytes(n) for n in (0, 1, 2, 3, 56, 57, 58, 113, 114, 115, 2046, 2047, 2048, 2049, 4096)]
+        for address in addresses:
+            for key in keys:
+                for mutual in (False, True):
+                    length = len(writing.write_autocrypt(address, key, mutual, 1 << 16)[1])
+                    for room in {0, 1, max(0, length - 1), length, length + 1, length + 64}:
+                        self.autocrypt(address, key, mutual, room)
+                length = len(writing.write_gossip(address, key, 1 << 16)[1])
+                for room in {0, max(0, length - 1), length, length + 1}:
+                    self.gossip(address, key, room)
+
+    def test_example(self):
+        """The paper's own field."""
+        field = b"Autocrypt: addr=a@b.example; prefer-encrypt=mutual; keydata=\r\n Zm9v\r\n"
+        self.assertEqual(self.library.write_autocrypt(b"a@b.example", b"foo", True, bytes(80)), (0, len(field), field.ljust(80, b"\0")))
+
+    def test_read_back(self):
+        """What is written is read back by the library's own readers, alone and between other fields."""
+        probe = Probe()
+        for _ in range(2_000):
+            address, key, mutual = self.cases.address(), self.cases.good_key(), self.cases.chance(0.5)
+            number, length, out = self.library.write_autocrypt(address, key, mutual, bytes(4000))
+            if number == 9:
+                continue
+            self.assertEqual(number, 0, (address, key))
+            for block in (out[:length], b"To: x@y\r\n" + out[:length] + b"From: " + address + b"\r\n\r\nbody"):
+                values = [value for name, value in probe.fields(block) if name == b"Autocrypt"]
+                self.assertEqual(len(values), 1)
+                kind, its_address, its_mutual, its_length, its_key = probe.read_field(values[0], bytes(2048))
+                self.assertEqual((kind, its_address, its_mutual), (0, canonical(address), mutual))
+                self.assertEqual(its_key[:its_length], key)
+
+
+if __name__ == "__main__":
+    unittest.main()
