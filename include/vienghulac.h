@@ -10,11 +10,13 @@
  * memory as it was:
  *
  *      0   done
+ *      1   the table's length is not 1 to 256 whole slots
+ *      2   a slot of the table is neither free nor sound; the lowest such index is answered with it
  *      9   the address argument is not one plain address
  *     11   the key argument is not 1 to 2,048 octets long
  *     12   the output is shorter than the field
  *
- * Numbers are given in the order of this list: 9 where more than one of them holds, then 11, then 12.
+ * Where more than one of them holds, the number that stands first in this list is given.
  */
 #ifndef VIENGHULAC_H
 #define VIENGHULAC_H
@@ -26,6 +28,17 @@
 #ifdef __cplusplus
 extern "C" {
 #endif
+
+/* What a call on a table answers: 0, or the number of a refusal; the index of a slot with 2, else 0. */
+typedef struct {
+    uint32_t number;
+    uint32_t index;
+} vienghulac_answer;
+
+/* Is this a table that the calls take? A new table is zeros: 1 to 256 slots of 4,392 octets each, all free.
+ *
+ * Borrowed for the call: `table`, which is read and not changed. Answers 0, 1 or 2. */
+vienghulac_answer vienghulac_check(const uint8_t *table, size_t table_length);
 
 /* What a writer answers: 0 and the length of the field, or the number of a refusal and the length 0. */
 typedef struct {

@@ -24,5 +24,16 @@ int main(void) {
     expect("nothing behind it", memcmp(out + length, before + length, sizeof out - length) == 0);
     r = vienghulac_write_gossip(address, 11, key, 3, out, sizeof out);
     expect("gossip", r.number == 0 && r.length == sizeof gossip - 1 && memcmp(out, gossip, r.length) == 0);
+
+    static uint8_t table[2 * 4392];
+    vienghulac_answer a = vienghulac_check(table, sizeof table);
+    expect("zeros are a table", a.number == 0 && a.index == 0);
+    a = vienghulac_check(table, sizeof table - 1);
+    expect("no whole slots", a.number == 1 && a.index == 0);
+    table[2 * 4392 - 1] = 1;
+    a = vienghulac_check(table, sizeof table);
+    expect("a free slot with content", a.number == 2 && a.index == 1);
+    a = vienghulac_check(NULL, 0);
+    expect("no table", a.number == 1);
     return counted();
 }

@@ -4,6 +4,10 @@ import ctypes
 from probe import READ, ROOT, WRITE, Bound, Lent
 
 
+class Answer(ctypes.Structure):
+    _fields_ = [("number", ctypes.c_uint32), ("index", ctypes.c_uint32)]
+
+
 class Written(ctypes.Structure):
     _fields_ = [("number", ctypes.c_uint64), ("length", ctypes.c_uint64)]
 
@@ -11,6 +15,10 @@ class Written(ctypes.Structure):
 class Library(Bound):
     def __init__(self):
         super().__init__(ROOT / "build" / "libvienghulac.so")
+
+    def check(self, table: bytes) -> tuple[int, int]:
+        r = self._call("vienghulac_check", Answer, READ, table, len(table))
+        return r.number, r.index
 
     def _write(self, name: str, kinds: list, words: list, out: bytes) -> tuple[int, int, bytes]:
         lent = Lent(out)

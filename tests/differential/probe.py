@@ -225,10 +225,6 @@ class Probe(Bound):
 
     # table
 
-    def check(self, table: bytes) -> tuple[int, int]:
-        r = self._call("probe_check", Answer, _read, table, len(table))
-        return r.kind, r.value
-
     def _slot(self, name: str, kinds: list, *words) -> int | None:
         r = self._call(name, Answer, kinds, *words)
         return r.value if r.kind == 0 else None

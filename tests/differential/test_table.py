@@ -7,6 +7,7 @@ from dataclasses import replace
 from pathlib import Path
 
 from against import Cases
+from library import Library
 from paper import listing, table as tables
 from probe import ROOT, SEED, Probe
 
@@ -27,12 +28,13 @@ def defects(slot: bytes):
 class Table(unittest.TestCase):
     def setUp(self):
         self.probe = Probe()
+        self.library = Library()
         self.cases = Cases(SEED)
         self.random = self.cases.random
 
     def same(self, table: bytes) -> int:
         expected = tables.check(table)
-        self.assertEqual(self.probe.check(table), expected)
+        self.assertEqual(self.library.check(table), expected)
         if expected[0] == 0:
             held = tables.entries(table)
             free = tables.free_slots(held)

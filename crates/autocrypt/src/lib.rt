@@ -5,6 +5,8 @@ ghost use mathlib.Core.Path.{_≡_};
 ghost use lib.ListN.{length};
 ghost use Rattle.writer.specs.Writing.{written};
 ghost use Rattle.autocrypt.specs.Refusals.{numberOf, indexOf};
+ghost use Rattle.table.specs.Table.{checked};
+ghost use Rattle.autocrypt.specs.Checking.{checkedAs};
 ghost use Rattle.autocrypt.specs.Writing.{autocryptField, gossipField, writtenOf, leftByWriting};
 use slots::Slot;
 
@@ -22,6 +24,12 @@ pub enum Refusal {
     Recipients,
     KeyLength,
     OutputLength,
+}
+
+// The table is one that the calls take; or it is refused.
+pub enum Checked {
+    Sound,
+    Refused(Refusal),
 }
 
 // The length of the field that opens the output now; or nothing was written.
@@ -67,6 +75,17 @@ pub fn index(refusal: Refusal) -> u32
         Refusal::Recipients => 0,
         Refusal::KeyLength => 0,
         Refusal::OutputLength => 0,
+    }
+}
+
+// Is this a table that the calls take?
+pub fn check(table: &[u8]) -> Checked
+    ensures { λ r. ⌜ r ≡ checkedAs (checked (now (table .entry))) ⌝ }
+{
+    match table::check(table) {
+        table::Checked::Sound => Checked::Sound,
+        table::Checked::Length => Checked::Refused(Refusal::TableLength),
+        table::Checked::Slot(i) => Checked::Refused(Refusal::BrokenSlot(i as u32)),
     }
 }
 

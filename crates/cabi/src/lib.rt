@@ -2,8 +2,17 @@
 // the library that bears its name and puts the answer into numbers.
 ghost use mathlib.Core.Path.{_≡_};
 ghost use lib.ListN.{length};
+ghost use Rattle.table.specs.Table.{checked};
+ghost use Rattle.autocrypt.specs.Checking.{checkedAs};
 ghost use Rattle.autocrypt.specs.Writing.{autocryptField, gossipField, writtenOf, leftByWriting};
-ghost use Rattle.cabi.specs.Numbers.{inNumbers};
+ghost use Rattle.cabi.specs.Numbers.{inNumbers, checkedInNumbers};
+
+// vienghulac_answer
+#[repr(C)]
+pub struct Answer {
+    pub number: u32,
+    pub index: u32,
+}
 
 // vienghulac_written
 #[repr(C)]
@@ -25,6 +34,28 @@ fn in_numbers(answer: autocrypt::Written) -> Written
             length: 0,
         },
     }
+}
+
+fn checked_in_numbers(answer: autocrypt::Checked) -> Answer
+    ensures { λ r. ⌜ r ≡ checkedInNumbers answer ⌝ }
+{
+    match answer {
+        autocrypt::Checked::Sound => Answer {
+            number: 0,
+            index: 0,
+        },
+        autocrypt::Checked::Refused(r) => Answer {
+            number: autocrypt::number(r),
+            index: autocrypt::index(r),
+        },
+    }
+}
+
+#[no_mangle]
+pub extern "C" fn vienghulac_check(table: &[u8]) -> Answer
+    ensures { λ r. ⌜ r ≡ checkedInNumbers (checkedAs (checked (now (table .entry)))) ⌝ }
+{
+    checked_in_numbers(autocrypt::check(table))
 }
 
 #[no_mangle]

@@ -351,19 +351,6 @@ pub extern "C" fn probe_holds(s: &[u8], wanted: &[u8]) -> bool {
     list::holds(s, wanted)
 }
 
-// kind 0: sound; 1: its length is no table's; 2: the slot `value` is neither free nor sound
-#[no_mangle]
-pub extern "C" fn probe_check(t: &[u8]) -> Answer {
-    match table::check(t) {
-        table::Checked::Sound => Answer { kind: 0, value: 0 },
-        table::Checked::Length => Answer { kind: 1, value: 0 },
-        table::Checked::Slot(i) => Answer {
-            kind: 2,
-            value: i as u64,
-        },
-    }
-}
-
 fn slot_found(r: table::Found) -> Answer {
     match r {
         table::Found::At(i) => Answer {
