@@ -1,86 +1,176 @@
 -- What a valid field says, as callers ask for it.
---     said-plain                                the address of what a value says is plain
+--     said-plain, said-octets                   the address of what a value says is plain, and octets where the value is
 --     KeyOf, key-parts, key-made                a key is what its text decodes to, 1 to 2,048 octets
 --     FieldOf, field-parts                      a field is made of what its value says and of its key
 --     field-canonical, field-plain              its address is canonical, and plain
---     field-least, field-most, field-octets     its key has 1 to 2,048 octets, which are octets
+--     field-octets                              and octets where the value is
+--     field-least, field-most, field-key-octets     its key has 1 to 2,048 octets, which are octets
 -- Assumes nothing.
-use Prim.Native.Nat.{ℕ, _≤_}
+use Prim.Native.Nat.{ℕ, suc, _<_, _≤_}
 use mathlib.Core.Path.{_≡_, refl, sym, ap, _∙_}
 use mathlib.Core.Bool.{Bool, true}
-use mathlib.Core.List.{List, [], _∷_}
+use mathlib.Core.Logic.{⊎-elim}
+use mathlib.Core.List.{List, [], _∷_, reverse}
 use mathlib.Core.Option.{Option, some, none}
 use native.Mathlib.Omega.{arith}
-use borrow.Author.Tests.{leb-true, le-leb}
-use lib.Dec.{leb}
-use lib.ListN.{length}
+use borrow.Author.Tests.{leb-true, le-leb, lt-ltb, ltb-true}
+use lib.Dec.{leb, ltb, eqb}
+use lib.ListN.{length, getD, List·getD-eq-default}
 use Rattle.octets.specs.Octets.{AllOctets}
+use Rattle.octets.proofs.Lists.{lt-or-le}
+use Rattle.tokens.specs.Tokens.{blank}
 use Rattle.base64.specs.Base64.{decode, withoutBlanks}
 use Rattle.base64.proofs.Answered.{decode-octets}
-use Rattle.address.specs.Pieces.{pieces}
+use Rattle.address.specs.Pieces.{every, onFirst, pieces, before, behind}
 use Rattle.address.specs.Address.{oneTo, plain, canonical, isCanonical}
-use Rattle.address.proofs.Every.{by-test, and-left, and-right}
-use Rattle.address.proofs.Spelling.{plain-is-canonical, canonical-plain}
-use Rattle.keyfield.specs.Field.{Attribute, addr, preferEncrypt, keydata, ignored, spoiling, attributeOf, Step, on, last, spoils, withAddress, withPreference, step, Said, saidWith, ifLast, saidFrom, saidOf, limited, keyOf, Field, withKey, fieldBy, fieldOf}
+use Rattle.address.proofs.Every.{by-test, and-left, and-right, every-at}
+use Rattle.address.proofs.Pieces.{others, pieces-first}
+use Rattle.address.proofs.Spelling.{plain-is-canonical, canonical-plain, canonical-octets}
+use Rattle.keyfield.specs.Field.{trimmedFront, trimmedBack, trimmed, nameOf, attribute, holds, Attribute, addr, preferEncrypt, keydata, ignored, spoiling, attributeOf, Step, on, last, spoils, withAddress, withPreference, step, Said, saidWith, ifLast, saidFrom, saidOf, limited, keyOf, Field, withKey, fieldBy, fieldOf}
+use Rattle.keyfield.specs.declared.Name.{Name}
+use Rattle.keyfield.specs.declared.Name.the-variants.{Addr, PreferEncrypt, Keydata, Ignored, Unknown}
+use Rattle.keyfield.proofs.Trimming.{every-reverse}
 
--- an address that was seen is plain
-PlainIn : Option (List ℕ) → Type 0
-PlainIn none = Unit
-PlainIn (some a) = plain a ≡ true
+-- the value of an attribute is what stands behind the "=", trimmed
+value-by : (g : Name) (w v : List ℕ) → attribute g w ≡ addr v → v ≡ w
+unfolding attribute
+value-by Addr w v e = cc
+value-by PreferEncrypt w v e = cc
+value-by Keydata w v e = cc
+value-by Ignored w v e = cc
+value-by Unknown w v e = cc
 
--- a step keeps it so
-PlainStep : Step → Type 0
-PlainStep (on a m) = PlainIn a
-PlainStep (last v) = Unit
-PlainStep spoils = Unit
+named-value : (p v : List ℕ) → attributeOf p ≡ addr v → v ≡ trimmed (behind 61 p)
+unfolding attributeOf
+named-value p v e =
+    by-test (holds 61 p)
+    (λ t. value-by (nameOf (trimmed (before 61 p))) (trimmed (behind 61 p)) v (rw (attributeOf, t) at e))
+    (λ t. let k : spoiling ≡ addr v = rw (attributeOf, t) at e in cc)
 
-with-plain : (address : Option (List ℕ)) (m : Option Bool) (v : List ℕ) → PlainStep (withAddress address m v)
-unfolding withAddress PlainStep PlainIn
-with-plain none m v = by-test (plain v) (λ e. rw e e) (λ e. rw e tt)
-with-plain (some a) m v = tt
+-- What holds of the address that is said, where it holds of each plain address that a piece of a kind names.
+module _ (Q : List ℕ → Type 0) (kind : List ℕ → Bool) (named : (p v : List ℕ) → kind p ≡ true → attributeOf p ≡ addr v → plain v ≡ true → Q v) where
+  Seen : Option (List ℕ) → Type 0
+  Seen none = Unit
+  Seen (some a) = Q a
 
-with-stated : (address : Option (List ℕ)) (m : Option Bool) (v : List ℕ) → PlainIn address → PlainStep (withPreference address m v)
-unfolding withPreference PlainStep
-with-stated address none v h = h
-with-stated address (some b) v h = tt
+  After : Step → Type 0
+  After (on a m) = Seen a
+  After (last v) = Unit
+  After spoils = Unit
 
-step-plain : (address : Option (List ℕ)) (m : Option Bool) (a : Attribute) → PlainIn address → PlainStep (step address m a)
-unfolding step PlainStep
-step-plain address m (addr v) h = with-plain address m v
-step-plain address m (preferEncrypt v) h = with-stated address m v h
-step-plain address m (keydata v) h = tt
-step-plain address m ignored h = h
-step-plain address m spoiling h = tt
+  SaidSo : Option Said → Type 0
+  SaidSo none = Unit
+  SaidSo (some x) = Q (x .address)
 
--- so what is said at the end has a plain address
-PlainSaid : Option Said → Type 0
-PlainSaid none = Unit
-PlainSaid (some x) = plain (x .address) ≡ true
+  with-address : (address : Option (List ℕ)) (m : Option Bool) (v : List ℕ) → (plain v ≡ true → Q v) → After (withAddress address m v)
+  unfolding withAddress After Seen
+  with-address none m v h = by-test (plain v) (λ e. rw e (h e)) (λ e. rw e tt)
+  with-address (some a) m v h = tt
 
-with-said : (address : Option (List ℕ)) (m : Option Bool) (v : List ℕ) → PlainIn address → PlainSaid (saidWith address m v)
-unfolding saidWith PlainIn PlainSaid
-with-said none m v h = tt
-with-said (some a) m v h = h
+  with-preference : (address : Option (List ℕ)) (m : Option Bool) (v : List ℕ) → Seen address → After (withPreference address m v)
+  unfolding withPreference After
+  with-preference address none v h = h
+  with-preference address (some b) v h = tt
 
-if-last : (rest : List (List ℕ)) (x : Option Said) → PlainSaid x → PlainSaid (ifLast rest x)
-unfolding ifLast PlainSaid
-if-last [] x h = h
-if-last (q ∷ more) x h = tt
+  after-step : (address : Option (List ℕ)) (m : Option Bool) (a : Attribute) → ((v : List ℕ) → a ≡ addr v → plain v ≡ true → Q v) → Seen address → After (step address m a)
+  unfolding step After
+  after-step address m (addr v) n h = with-address address m v (n v refl)
+  after-step address m (preferEncrypt v) n h = with-preference address m v h
+  after-step address m (keydata v) n h = tt
+  after-step address m ignored n h = h
+  after-step address m spoiling n h = tt
 
-from-plain : (address : Option (List ℕ)) (m : Option Bool) (ps : List (List ℕ)) → PlainIn address → PlainSaid (saidFrom address m ps)
-unfolding saidFrom PlainSaid PlainStep
-from-plain address m [] h = tt
-from-plain address m (p ∷ rest) h = go (λ a b k. from-plain a b rest k) (step address m (attributeOf p)) refl (step-plain address m (attributeOf p) h)
-  where
-    go : ((a : Option (List ℕ)) (b : Option Bool) → PlainIn a → PlainSaid (saidFrom a b rest)) → (x : Step) → step address m (attributeOf p) ≡ x
-        → PlainStep (step address m (attributeOf p)) → PlainSaid (saidFrom address m (p ∷ rest))
-    go more (on a b) e k = rw (saidFrom, e) (more a b (rw e at k))
-    go more (last v) e k = rw (saidFrom, e) (if-last rest (saidWith address m v) (with-said address m v h))
-    go more spoils e k = rw (saidFrom, e) tt
+  said-with : (address : Option (List ℕ)) (m : Option Bool) (v : List ℕ) → Seen address → SaidSo (saidWith address m v)
+  unfolding saidWith Seen SaidSo
+  said-with none m v h = tt
+  said-with (some a) m v h = h
+
+  if-last : (rest : List (List ℕ)) (x : Option Said) → SaidSo x → SaidSo (ifLast rest x)
+  unfolding ifLast SaidSo
+  if-last [] x h = h
+  if-last (q ∷ more) x h = tt
+
+  said-from : (address : Option (List ℕ)) (m : Option Bool) (ps : List (List ℕ)) → every kind ps ≡ true → Seen address → SaidSo (saidFrom address m ps)
+  unfolding saidFrom SaidSo After every
+  said-from address m [] t h = tt
+  said-from address m (p ∷ rest) t h =
+      go (λ a b k. said-from a b rest (and-right (kind p) (every kind rest) t) k) (step address m (attributeOf p)) refl
+      (after-step address m (attributeOf p) (λ v. named p v (and-left (kind p) (every kind rest) t)) h)
+    where
+      go : ((a : Option (List ℕ)) (b : Option Bool) → Seen a → SaidSo (saidFrom a b rest)) → (x : Step) → step address m (attributeOf p) ≡ x
+          → After (step address m (attributeOf p)) → SaidSo (saidFrom address m (p ∷ rest))
+      go more (on a b) e k = rw (saidFrom, e) (more a b (rw e at k))
+      go more (last v) e k = rw (saidFrom, e) (if-last rest (saidWith address m v) (said-with address m v h))
+      go more spoils e k = rw (saidFrom, e) tt
+
+  said-so : (s : List ℕ) (x : Said) → every kind (pieces 59 s) ≡ true → saidOf s ≡ some x → Q (x .address)
+  unfolding saidOf SaidSo Seen
+  said-so s x t e = rw e at (said-from none none (pieces 59 s) t tt)
+
+-- it is plain, whatever the pieces are
+every-kind : (ps : List (List ℕ)) → every (λ p. true) ps ≡ true
+unfolding every
+every-kind [] = refl
+every-kind (p ∷ ps) = every-kind ps
 
 pub said-plain : (s : List ℕ) (x : Said) → saidOf s ≡ some x → plain (x .address) ≡ true
-unfolding saidOf PlainSaid PlainIn
-said-plain s x e = rw e at (from-plain none none (pieces 59 s) tt)
+said-plain s x e = said-so (λ v. plain v ≡ true) (λ p. true) (λ p v t n h. h) s x (every-kind (pieces 59 s)) e
+
+-- it is made of octets of the value
+module _ (q : ℕ → Bool) where
+  every-pieces : (d : ℕ) (s : List ℕ) → every q s ≡ true → every (every q) (pieces d s) ≡ true
+  unfolding every pieces onFirst
+  every-pieces d [] e = refl
+  every-pieces d (x ∷ s) e =
+      let h : every (every q) (before d s ∷ others d s) ≡ true = rw (pieces-first d s) at (every-pieces d s (and-right (q x) (every q s) e)) in
+      by-test (eqb x d)
+      (λ t. rw (pieces, t) (every-pieces d s (and-right (q x) (every q s) e)))
+      (λ t. rw (pieces, t, pieces-first d s, and-left (q x) (every q s) e) h)
+
+  every-behind : (d : ℕ) (s : List ℕ) → every q s ≡ true → every q (behind d s) ≡ true
+  unfolding every behind
+  every-behind d [] e = refl
+  every-behind d (x ∷ s) e =
+      by-test (eqb x d)
+      (λ t. rw (behind, t) (and-right (q x) (every q s) e))
+      (λ t. rw (behind, t) (every-behind d s (and-right (q x) (every q s) e)))
+
+  every-front : (s : List ℕ) → every q s ≡ true → every q (trimmedFront s) ≡ true
+  unfolding every trimmedFront
+  every-front [] e = refl
+  every-front (x ∷ s) e =
+      by-test (blank x)
+      (λ t. rw (trimmedFront, t) (every-front s (and-right (q x) (every q s) e)))
+      (λ t. rw (trimmedFront, t) e)
+
+  every-trimmed : (s : List ℕ) → every q s ≡ true → every q (trimmed s) ≡ true
+  unfolding trimmed trimmedBack
+  every-trimmed s e =
+      every-reverse q (trimmedFront (reverse (trimmedFront s))) (every-front (reverse (trimmedFront s)) (every-reverse q (trimmedFront s) (every-front s e)))
+
+  every-named : (p v : List ℕ) → every q p ≡ true → attributeOf p ≡ addr v → every q v ≡ true
+  every-named p v t e = rw (named-value p v e) (every-trimmed (behind 61 p) (every-behind 61 p t))
+
+isOctet : ℕ → Bool
+isOctet x = ltb x 256
+
+all-octets : (s : List ℕ) → AllOctets s → every isOctet s ≡ true
+unfolding every isOctet
+all-octets [] h = refl
+all-octets (x ∷ s) h = rw (lt-ltb x 256 (h 0)) (all-octets s (λ i. h (suc i)))
+
+octets-all : (s : List ℕ) → every isOctet s ≡ true → AllOctets s
+unfolding isOctet
+octets-all s e i =
+    ⊎-elim
+    (λ (l : i < length s). ltb-true (getD s i 0) 256 (every-at isOctet s e i l))
+    (λ (l : length s ≤ i). rw (List·getD-eq-default s 0 {n = i} l) (omega arith))
+    (lt-or-le i (length s))
+
+pub said-octets : (s : List ℕ) (x : Said) → AllOctets s → saidOf s ≡ some x → AllOctets (x .address)
+said-octets s x h e =
+    octets-all (x .address)
+    (said-so (λ v. every isOctet v ≡ true) (every isOctet) (λ p v t n k. every-named isOctet p v t n) s x (every-pieces isOctet 59 s (all-octets s h)) e)
 
 -- a key is what its text decodes to
 pub record KeyOf (v k : List ℕ) : Type 0 where
@@ -160,5 +250,10 @@ module _ (s : List ℕ) (f : Field) (e : fieldOf s ≡ some f) where
   pub field-most : length (f .key) ≤ 2048
   field-most = key-is .most
 
-  pub field-octets : AllOctets (f .key)
-  field-octets = decode-octets (withoutBlanks (parts .said .text)) (f .key) (key-is .decoded)
+  pub field-octets : AllOctets s → AllOctets (f .address)
+  field-octets h =
+      let o : AllOctets (parts .said .address) = said-octets s (parts .said) h (parts .says) in
+      rw (parts .address) (canonical-octets (parts .said .address) o)
+
+  pub field-key-octets : AllOctets (f .key)
+  field-key-octets = decode-octets (withoutBlanks (parts .said .text)) (f .key) (key-is .decoded)

@@ -1,8 +1,8 @@
 -- What one piece says: its name and its value.
 --     name-addr .. name-other           the answers on a name
 --     told-none                         a piece without "=" (61)
---     told-addr .. told-other           a piece whose name is known
---     value-within-addr ..              where the value stands
+--     name-within .. name-upto          where its name and its value stand
+--     told-addr .. told-other           a piece with "=", by its name
 -- Assumes nothing.
 use Prim.Native.Nat.{ℕ, _+_, _-_, _<_, _≤_}
 use mathlib.Core.Path.{_≡_, sym, _∙_}

@@ -22,12 +22,12 @@ use Rattle.base64.specs.Base64.{without, withoutBlanks, blank as blankIn}
 use Rattle.base64.proofs.Blanks.{without-passing, without-other}
 use Rattle.address.specs.Pieces.{every, pieces, before, behind}
 use Rattle.address.specs.Address.{plain, canonical, addressOctet}
-use Rattle.address.proofs.Every.{and-left, and-right, every-append, every-weaker}
+use Rattle.address.proofs.Every.{and-left, every-weaker}
 use Rattle.address.proofs.Pieces.{others, before-into, behind-into, pieces-into, pieces-whole}
 use Rattle.address.proofs.Sides.{plain-octets, low-apart}
 use Rattle.keyfield.specs.Field.{trimmedFront, trimmedBack, trimmed, nameOf, addr, preferEncrypt, keydata, attribute, holds, attributeOf, on, last, withAddress, withPreference, step, saidWith, ifLast, saidFrom, saidOf, keyOf, withKey, fieldBy, fieldOf}
 use Rattle.keyfield.specs.declared.Name.the-variants.{Keydata}
-use Rattle.keyfield.proofs.Trimming.{front-blank, front-other}
+use Rattle.keyfield.proofs.Trimming.{front-blank, front-other, every-reverse}
 
 abbrev pub other : ℕ → ℕ → Bool
 other d x = not (eqb x d)
@@ -62,13 +62,6 @@ module _ (n v : List ℕ) (e : every (other 61) n ≡ true) where
   attribute-joined = rw (attributeOf, joined-holds, joined-before, joined-behind)
 
 -- trimming
-module _ (test : ℕ → Bool) where
-  every-reverse : (s : List ℕ) → every test s ≡ true → every test (reverse s) ≡ true
-  unfolding every
-  every-reverse [] e = refl
-  every-reverse (x ∷ s) e =
-      rw (reverse-cons, every-append, every-reverse s (and-right (test x) (every test s) e), and-left (test x) (every test s) e)
-
 unblank : ℕ → Bool
 unblank x = not (blank x)
 

@@ -59,12 +59,14 @@ module _ (s : List ℕ) (at : ℕ) (address : Place) (preference : Preference) (
     scan-within = record { order = omega (arith, f .is); upto = f .upto }
 
     module _ (n : Next) (t : Steps s n (step (addressAt s address) (stated preference) (attributeOf (part s at end)))) where
+      comes : (x : Next) → n ≡ x → step (addressAt s address) (stated preference) (attributeOf (part s at end)) ≡ stepAt s x
+      comes x e = sym (t .is) ∙ ap (stepAt s) e
+
       -- a piece that spoils the field does so whatever follows
       spoilt : (rest : List (List ℕ)) → saidOf s ≡ saidFrom (addressAt s address) (stated preference) (part s at end ∷ rest) → n ≡ Spoils → Scans s Broken
       unfolding saidFrom stepAt saidAt WholeWithin
       spoilt rest q e =
-          let k : step (addressAt s address) (stated preference) (attributeOf (part s at end)) ≡ stepAt s Spoils = rw e at (sym (t .is)) in
-          record { is = sym (q ∙ rw (saidFrom, k)); within = tt }
+          record { is = sym (q ∙ rw (saidFrom, comes Spoils e)); within = tt }
 
       module _ (l : end < length s) where
         -- a piece, and those behind it
@@ -74,14 +76,12 @@ module _ (s : List ℕ) (at : ℕ) (address : Place) (preference : Preference) (
         pub scan-next : (a : Place) (p : Preference) → n ≡ On a p → Scanning s (end + 1) a p
         unfolding saidFrom stepAt NextWithin
         scan-next a p e =
-            let k : step (addressAt s address) (stated preference) (attributeOf (part s at end)) ≡ stepAt s (On a p) = rw e at (sym (t .is)) in
-            record { upto = omega arith; stands = rw e at (t .within); so-far = more ∙ rw (saidFrom, k) }
+            record { upto = omega arith; stands = rw e at (t .within); so-far = more ∙ rw (saidFrom, comes (On a p) e) }
 
         pub scan-early : (a e : ℕ) → n ≡ Last a e → Scans s Broken
         unfolding saidFrom stepAt saidAt WholeWithin ifLast
         scan-early a b e =
-            let k : step (addressAt s address) (stated preference) (attributeOf (part s at end)) ≡ stepAt s (Last a b) = rw e at (sym (t .is)) in
-            record { is = sym (more ∙ rw (saidFrom, k, pieces-first 59 (part s (end + 1) (length s)))); within = tt }
+            record { is = sym (more ∙ rw (saidFrom, comes (Last a b) e, pieces-first 59 (part s (end + 1) (length s)))); within = tt }
 
       module _ (l : length s ≤ end) where
         -- the last piece
@@ -91,15 +91,13 @@ module _ (s : List ℕ) (at : ℕ) (address : Place) (preference : Preference) (
         pub scan-keyless : (a : Place) (p : Preference) → n ≡ On a p → Scans s Broken
         unfolding saidFrom stepAt saidAt WholeWithin
         scan-keyless a p e =
-            let k : step (addressAt s address) (stated preference) (attributeOf (part s at end)) ≡ stepAt s (On a p) = rw e at (sym (t .is)) in
-            record { is = sym (alone ∙ rw (saidFrom, k)); within = tt }
+            record { is = sym (alone ∙ rw (saidFrom, comes (On a p) e)); within = tt }
 
         pub scan-last : (a b : ℕ) (r : Scanned) → n ≡ Last a b → r ≡ wholeOf address preference a b → Scans s r
         unfolding saidFrom stepAt ifLast NextWithin
         scan-last a b r e q =
-            let k : step (addressAt s address) (stated preference) (attributeOf (part s at end)) ≡ stepAt s (Last a b) = rw e at (sym (t .is)) in
             record {
-              is = ap (saidAt s) q ∙ whole-said s address preference a b ∙ sym (alone ∙ rw (saidFrom, k));
+              is = ap (saidAt s) q ∙ whole-said s address preference a b ∙ sym (alone ∙ rw (saidFrom, comes (Last a b) e));
               within = rw q (whole-there s address preference a b (h .stands) (rw e at (t .within)));
             }
 

@@ -1,7 +1,8 @@
 -- What a piece comes to, behind what was read before it.
 --     address-taken .. address-twice            the address
---     preference-mutual .. preference-twice     the preference
---     step-addr .. step-spoiling                a piece, from what it says
+--     preference-mutual .. preference-again     the preference
+--     within-addr .. step-spoiling              a piece, from what it says
+--     mutual-not .. whole-all                   what has been read at the end
 -- Assumes nothing.
 use Prim.Native.Nat.{ℕ, _-_}
 use mathlib.Core.Path.{_≡_, sym, _∙_}

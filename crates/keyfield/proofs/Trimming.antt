@@ -6,16 +6,19 @@
 --     Back s from to i              trimmed behind, the part up to `to` is the part up to i
 --     back-begin .. back-end        the steps of a loop that looks for that place
 --     trim-both                     both ends together
+--     every-reverse                 a list turned round has the same elements
 -- Assumes nothing.
 use Prim.Native.Nat.{ℕ, _+_, _-_, _<_, _≤_}
 use mathlib.Core.Path.{_≡_, refl, sym, ap, _∙_}
 use mathlib.Core.Bool.{Bool, true, false, not}
-use mathlib.Core.List.{List, [], _∷_, _++_, reverse-append, reverse-reverse}
+use mathlib.Core.List.{List, [], _∷_, _++_, reverse, reverse-cons, reverse-append, reverse-reverse}
 use native.Mathlib.Omega.{arith}
 use borrow.Author.Needs.{needs}
 use borrow.Author.Tests.{not-true, not-false}
 use lib.ListN.{length, getD}
 use Rattle.tokens.specs.Tokens.{blank}
+use Rattle.address.specs.Pieces.{every}
+use Rattle.address.proofs.Every.{and-left, and-right, every-append}
 use Rattle.keyfield.specs.Field.{trimmedFront, trimmedBack, trimmed}
 use Rattle.keyfield.specs.Answers.{part, Within, TrimmedFrom, TrimmedTo, Trimmed}
 use Rattle.keyfield.proofs.Parts.{part-none, part-first, part-last}
@@ -128,3 +131,10 @@ trim-both s from to start end f b =
     record { low = f .low; order = b .low; high = b .high; is = b .is ∙ ap trimmedBack (f .is) }
 
 pub ruleset trimming = (trim-both, needs)
+
+-- a list turned round has the same elements
+pub every-reverse : (test : ℕ → Bool) (s : List ℕ) → every test s ≡ true → every test (reverse s) ≡ true
+unfolding every
+every-reverse test [] e = refl
+every-reverse test (x ∷ s) e =
+    rw (reverse-cons, every-append, every-reverse test s (and-right (test x) (every test s) e), and-left (test x) (every test s) e)

@@ -27,29 +27,29 @@ mutualF = record { address = ascii "a@b"; isMutual = true; key = ascii "f" }
 abbrev pub Counts : Option Field → List (List ℕ) → Type 0
 Counts f values = counted values (canonical (ascii "A@B.example")) ≡ f
 
-pub counts : Counts (some foo) (ascii "addr=a@b.example; keydata=Zm9v" ∷ [])
+abbrev pub WhatCounts : Type 0
+WhatCounts =
+    Counts (some foo) (ascii "addr=a@b.example; keydata=Zm9v" ∷ [])
     × Counts none (ascii "addr=a@b.example; type=1; keydata=Zm9v" ∷ [])
     × Counts (some foo) (ascii "addr=a@b.example; _type=1; keydata=Zm9v" ∷ [])
     × Counts none (ascii "addr=a@b.example; keydata=Zm9v;" ∷ [])
     × Counts none (ascii "addr=a@b.example; keydata=Zm9v" ∷ ascii "addr=a@b.example; keydata=Zm9v" ∷ [])
     × Counts (some foo) (ascii "addr=c@d; keydata=Zm9v" ∷ ascii "addr=a@b.example; keydata=Zm9v" ∷ ascii "spoiled" ∷ [])
-unfolding counted onlyOne validFields naming fieldOf fieldBy withKey keyOf limited saidOf saidFrom ifLast saidWith step withAddress withPreference attributeOf holds attribute nameOf trimmed trimmedBack trimmedFront blank every onFirst pieces before behind plain localPart atom domain label labelOctet freeEnds belongs canonical lowered lower sameOctets startsWith base64.decode base64.follow base64.before base64.atEnd base64.grouped base64.closed base64.signOf base64.without base64.blank
-counts = (refl, refl, refl, refl, refl, refl)
 
 -- "`Zg==` is `f`; `Zh==` and `Zg` spoil the field."
-pub the-key : (fieldOf (ascii "addr=a@b;keydata=Zg==") ≡ some plainF)
+abbrev pub KeyData : Type 0
+KeyData =
+    (fieldOf (ascii "addr=a@b;keydata=Zg==") ≡ some plainF)
     × (fieldOf (ascii "addr=a@b;keydata=Zh==") ≡ none)
     × (fieldOf (ascii "addr=a@b;keydata=Zg") ≡ none)
-unfolding fieldOf fieldBy withKey keyOf limited saidOf saidFrom ifLast saidWith step withAddress withPreference attributeOf holds attribute nameOf trimmed trimmedBack trimmedFront blank every onFirst pieces before behind plain localPart atom domain label labelOctet freeEnds belongs canonical lowered lower sameOctets startsWith base64.decode base64.follow base64.before base64.atEnd base64.grouped base64.closed base64.signOf base64.without base64.blank
-the-key = (refl, refl, refl)
 
 -- K4, K5, K7, K9: preferences, ignored names, blanks, an address with a "="
-valid-ones : (fieldOf (ascii " addr = A@b\t; prefer-encrypt\t= mutual ;keydata= Z g=\t= ") ≡ some mutualF)
+abbrev GoodOnes : Type 0
+GoodOnes =
+    (fieldOf (ascii " addr = A@b\t; prefer-encrypt\t= mutual ;keydata= Z g=\t= ") ≡ some mutualF)
     × (fieldOf (ascii "addr=a@b; prefer-encrypt=Mutual; keydata=Zg==") ≡ some plainF)
     × (fieldOf (ascii "_=; _=1; addr=a@b; _x=y=z; _=; keydata=Zg==") ≡ some plainF)
     × (fieldOf (ascii "addr=a=b@c; keydata=Zg==") ≡ some (record { address = ascii "a=b@c"; isMutual = false; key = ascii "f" }))
-unfolding fieldOf fieldBy withKey keyOf limited saidOf saidFrom ifLast saidWith step withAddress withPreference attributeOf holds attribute nameOf trimmed trimmedBack trimmedFront blank every onFirst pieces before behind plain localPart atom domain label labelOctet freeEnds belongs canonical lowered lower sameOctets startsWith base64.decode base64.follow base64.before base64.atEnd base64.grouped base64.closed base64.signOf base64.without base64.blank
-valid-ones = (refl, refl, refl, refl)
 
 -- K1, K2, K3, K4, K5, K8: what spoils a field
 spoiledOnes : List (List ℕ)
@@ -78,6 +78,12 @@ isSpoiled : Option Field → Bool
 isSpoiled none = true
 isSpoiled (some f) = false
 
-all-spoiled : every (λ s. isSpoiled (fieldOf s)) spoiledOnes ≡ true
-unfolding spoiledOnes isSpoiled fieldOf fieldBy withKey keyOf limited saidOf saidFrom ifLast saidWith step withAddress withPreference attributeOf holds attribute nameOf trimmed trimmedBack trimmedFront blank every onFirst pieces before behind plain localPart atom domain label labelOctet freeEnds belongs canonical lowered lower sameOctets startsWith base64.decode base64.follow base64.before base64.atEnd base64.grouped base64.closed base64.signOf base64.without base64.blank
-all-spoiled = refl
+worked : WhatCounts × KeyData × GoodOnes × (every (λ s. isSpoiled (fieldOf s)) spoiledOnes ≡ true)
+unfolding spoiledOnes isSpoiled counted onlyOne validFields naming fieldOf fieldBy withKey keyOf limited saidOf saidFrom ifLast saidWith step withAddress withPreference attributeOf holds attribute nameOf trimmed trimmedBack trimmedFront blank every onFirst pieces before behind plain localPart atom domain label labelOctet freeEnds belongs canonical lowered lower sameOctets startsWith base64.decode base64.follow base64.before base64.atEnd base64.grouped base64.closed base64.signOf base64.without base64.blank
+worked = ((refl, refl, refl, refl, refl, refl), (refl, refl, refl), (refl, refl, refl, refl), refl)
+
+pub counts : WhatCounts
+counts = worked .0
+
+pub the-key : KeyData
+the-key = worked .1

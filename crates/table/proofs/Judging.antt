@@ -1,5 +1,6 @@
 -- Refusals 1 and 2: whether a slot is right, and the scan for the lowest that is not.
---     right-free .. right-whole       the answers on one slot
+--     right-free .. right-used        the answers on one slot
+--     lower-at, lower-none            whether its address stands in a lower one
 --     whole-is                        the answer on the length
 --     judged-on .. checked-length     one slot, and the whole
 --     Judged t n i                    the answer on n slots is that on those from i on
@@ -40,23 +41,30 @@ module _ (t s : List ℕ) (i : ℕ) (m : Bool) (e : (s ≡ slotAt t i) × (lengt
         let z : sound (slotAt t i) ≡ false = ap sound (sym (e .0)) ∙ sym f ∙ not-true b n in
         rw (taken, z)
 
-    module _ (b : Bool) (f : b ≡ sound s) (n : not b ≡ false) (a : List ℕ) (r : Found) (ea : a ≡ addressOf s) (er : r ≡ lowest (holds a) t 0 i) where
-      lower-is : inLower t i ≡ isAt r
-      unfolding inLower
-      lower-is = sym (rw (er, ea, e .0))
+    pub right-used : (b c : Bool) → b ≡ sound s → not b ≡ false → c ≡ inLower t i → not c ≡ right t i
+    unfolding right
+    right-used b c f n r =
+        let z : sound (slotAt t i) ≡ true = ap sound (sym (e .0)) ∙ sym f ∙ not-false b n in
+        rw (taken, z, r)
 
-      good : sound (slotAt t i) ≡ true
-      good = ap sound (sym (e .0)) ∙ sym f ∙ not-false b n
+pub ruleset being-right = (right-free, right-not, right-used, needs)
 
-      pub right-twice : (j : ℕ) → r ≡ At j → false ≡ right t i
-      unfolding right
-      right-twice j w = rw (taken, good, lower-is, w)
+-- the address of slot i, looked for in the lower slots
+module _ (t a : List ℕ) (i : ℕ) (r : Found) (ea : a ≡ addressOf (slotAt t i)) (er : r ≡ lowest (holds a) t 0 i) where
+  lower-is : inLower t i ≡ isAt r
+  unfolding inLower
+  lower-is = sym (rw (er, ea))
 
-      pub right-whole : r ≡ Nothing → true ≡ right t i
-      unfolding right
-      right-whole w = rw (taken, good, lower-is, w)
+  pub lower-at : (j : ℕ) → r ≡ At j → true ≡ inLower t i
+  lower-at j e = rw (lower-is, e)
 
-pub ruleset being-right = (right-free, right-not, right-twice, right-whole, needs)
+  pub lower-none : r ≡ Nothing → false ≡ inLower t i
+  lower-none e = rw (lower-is, e)
+
+pub lower-few : (t : List ℕ) (i : ℕ) → i < slots t → i ≤ slots t
+lower-few t i l = omega arith
+
+pub ruleset looking-lower = (lower-at, lower-none, lower-few, needs)
 
 pub whole-is : (t : List ℕ) (n : ℕ) → n ≡ slots t → (eqb (length t % 4392) 0 && leb 1 n && leb n 256) ≡ whole t
 unfolding whole

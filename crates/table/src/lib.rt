@@ -7,7 +7,7 @@ ghost use lib.Dec.{eqb};
 ghost use lib.ListN.{length};
 ghost use Rattle.slots.specs.Slot.{slotLength, addressRoom, keyLimit, numbersOf, marked, addressOf, directKeyOf, gossipKeyOf, sound};
 ghost use Rattle.slots.specs.Entry.{entryOf, slotOf, newcomer, seenBy, withDirect, withGossip};
-ghost use Rattle.table.specs.Table.{slots as slotsOf, slotAt, withSlot, unused, holds, lowest, found, lowestFree, freeCount, right, whole, checked};
+ghost use Rattle.table.specs.Table.{slots as slotsOf, slotAt, withSlot, unused, holds, lowest, found, lowestFree, freeCount, inLower, right, whole, checked};
 use slots::Slot;
 
 // Whether a table is one: refusal 1 for its length, 2 with the lowest slot that is neither free nor sound.
@@ -120,6 +120,17 @@ pub fn count_free(table: &[u8]) -> usize
     many
 }
 
+// Does the address of the slot stand in a lower one?
+fn in_lower(table: &[u8], i: usize) -> bool
+    requires { ⌜ i < slotsOf (now table) ⌝ }
+    ensures { λ r. ⌜ r ≡ inLower (now (table .entry)) i ⌝ }
+{
+    match search(table, address(table, i), i) {
+        Found::At(_) => true,
+        Found::Nothing => false,
+    }
+}
+
 // Is the slot free, or sound with its address in no lower slot?
 fn is_right(table: &[u8], i: usize) -> bool
     requires { ⌜ i < slotsOf (now table) ⌝ }
@@ -132,10 +143,7 @@ fn is_right(table: &[u8], i: usize) -> bool
     if !slots::is_sound(slot) {
         return false;
     }
-    match search(table, slots::address_of(slot), i) {
-        Found::At(_) => false,
-        Found::Nothing => true,
-    }
+    !in_lower(table, i)
 }
 
 // Is the length that of 1 to 256 whole slots?

@@ -4,7 +4,6 @@ use Rattle.keyfield.proofs.read_key.Tie as tie
 use native.Mathlib.Omega.{arith}
 use Rattle.keyfield.proofs.Keying.{key-most, keying}
 
--- x
 slice-aggregate-decode : tie.Need-slice-aggregate-decode
 slice-aggregate-decode c = search keying
 

@@ -21,23 +21,11 @@ is-sound-requires c κs = search being-right
 returns-2 : tie.Need-returns-2
 returns-2 c = search being-right
 
-address-of-requires : tie.Need-address-of-requires
-address-of-requires c κs = search being-right
-
-search-requires : tie.Need-search-requires
-search-requires c κs = search being-right
-
-enum-told : tie.Need-enum-told
-enum-told c = search being-right
-
-enum-told-2 : tie.Need-enum-told-2
-enum-told-2 c = search being-right
+in-lower-requires : tie.Need-in-lower-requires
+in-lower-requires c κs = search being-right
 
 returns-3 : tie.Need-returns-3
 returns-3 c = search being-right
-
-returns-4 : tie.Need-returns-4
-returns-4 c = search being-right
 
 pub is-right-spec : {M : Type 1} → statement M
 is-right-spec =
@@ -49,9 +37,5 @@ is-right-spec =
     returns
     is-sound-requires
     returns-2
-    address-of-requires
-    search-requires
-    enum-told
-    enum-told-2
-    returns-3
-    returns-4)
+    in-lower-requires
+    returns-3)
