@@ -1,18 +1,18 @@
 -- The two writers: what is answered and left on each way through the code.
---     not-plain .. written       the refusal, by the three tests
---     spoilt-address .. done-left    the same as the code has its tests, for the answer and for the output
---     same-autocrypt, same-gossip    the two writers by the one
---     the rulesets               refusing, for `write`; naming, for `write_autocrypt` and `write_gossip`
+--     key-none, key-long, key-good     "1 to 2,048 octets", as the code tests it
+--     not-plain .. in-order            the refusal, by the three tests
+--     refused-answer .. done-left      the answer and the output, by the refusal
+--     nine-answered .. zero-left       both on each way through `write`
+--     the ruleset                      refusing, for `write`
 -- Assumes nothing.
 use Prim.Native.Nat.{ℕ, _<_, _≤_}
-use mathlib.Core.Path.{_≡_, refl, sym, ap, _∙_}
-use mathlib.Core.Bool.{Bool, true, false, not, _&&_}
+use mathlib.Core.Path.{_≡_, sym, ap, _∙_}
+use mathlib.Core.Bool.{Bool, true, false, not}
 use mathlib.Core.List.{List}
-use mathlib.Core.Option.{Option, some, none}
+use mathlib.Core.Option.{some, none}
 use native.Mathlib.Omega.{arith}
 use borrow.Author.Needs.{needs}
 use borrow.Author.Tests.{le-leb, lt-leb, not-true, not-false}
-use lib.Dec.{leb}
 use lib.ListN.{length}
 use Rattle.octets.specs.Written.{onto}
 use Rattle.address.specs.Address.{oneTo, plain}
@@ -20,9 +20,8 @@ use Rattle.address.specs.Answers.{writtenOf as fittedOf, ontoIfFits}
 use Rattle.address.specs.declared.Written.{Written as Fitted}
 use Rattle.address.specs.declared.Written.the-variants.{Length, NoRoom}
 use Rattle.address.proofs.Room.{written-length, written-no-room, onto-fits, onto-none}
-use Rattle.writer.specs.Writing.{written}
 use Rattle.slots.specs.Slot.{keyLimit}
-use Rattle.autocrypt.specs.Writing.{autocryptField, gossipField, refusedWriting, writtenBy, leftBy, writtenOf, leftByWriting}
+use Rattle.autocrypt.specs.Writing.{refusedWriting, writtenBy, leftBy, writtenOf, leftByWriting}
 use Rattle.autocrypt.specs.declared.Refusal.{Refusal}
 use Rattle.autocrypt.specs.declared.Refusal.the-variants.{OwnAddress, KeyLength, OutputLength}
 use Rattle.autocrypt.specs.declared.Written.the-variants.{Done, Refused}

@@ -1,23 +1,22 @@
 -- A field written part by part: three parts one behind the other make each half, and two halves the field.
---     part-room, part-put            there is room for the next part, and it is put
+--     room-first .. three-put        three parts from a place on: there is room for each, and together they are one text put there
 --     room-name .. opening-put       name and address
 --     room-preference .. attributes-put    what stands behind them
 --     room-opening .. field-put      both
 --     the rulesets                   opening-up, attributing, joining, for `put_opening`, `put_attributes` and `put_field`
 -- Assumes nothing.
 use Prim.Native.Nat.{ℕ, _+_, _≤_}
-use mathlib.Core.Path.{_≡_, refl, sym, _∙_, subst}
+use mathlib.Core.Path.{_≡_}
 use mathlib.Core.Bool.{Bool}
-use mathlib.Core.List.{List, [], _++_, append-nil}
+use mathlib.Core.List.{List, _++_}
 use native.Mathlib.Omega.{arith}
 use native.Mathlib.Nat.{zero-add}
 use borrow.Author.Needs.{needs}
 use lib.ListN.{length, length-append}
 use Rattle.octets.specs.Octets.{ascii}
 use Rattle.octets.specs.Written.{putAt, onto}
-use Rattle.octets.proofs.Writing.{Wrote, begin-at, puts, done-at, counted}
 use Rattle.base64.specs.Base64.{encode, lines}
-use Rattle.base64.proofs.Putting.{has-room, put-both, room-second}
+use Rattle.base64.proofs.Putting.{put-both, room-second}
 use Rattle.writer.specs.Writing.{preference, fieldText}
 use Rattle.writer.specs.Steps.{opening, attributes}
 use Rattle.writer.proofs.Parts.{field-halves}

@@ -1,0 +1,4 @@
+pub mod Folded
+pub mod Among
+pub mod RoundTrip
+pub mod Worked

@@ -1,0 +1,177 @@
+-- What the writers write is read back.
+--     ReadsBack                                   octets that are read as one field, with this name, address, preference and key
+--     reads-alone                                 alone they are the only field
+--     Writable                                    what a field can be written for: a plain address, and a key of 1 to 2,048 octets
+--     written-reads-back                          every such field is read back
+--     autocrypt-reads-back, gossip-reads-back     so is what the two writers leave in front of the output when they answer 0; gossip has no preference
+-- Assumes nothing.
+use Prim.Native.Nat.{ℕ, zero, suc, _<_}
+use mathlib.Core.Path.{_≡_, refl, sym, ap, _∙_}
+use mathlib.Core.Bool.{Bool, true, false, not, false≢true}
+use mathlib.Core.List.{List, [], _∷_, _++_, append-assoc, append-nil}
+use mathlib.Core.Option.{some}
+use native.Mathlib.Omega.{arith}
+use borrow.Author.Tests.{leb-true, eqb-false, ne-eqb, not-true}
+use lib.Dec.{leb, eqb}
+use lib.ListN.{length, getD, take, drop}
+use lib.Seq.{take-append-seam}
+use Rattle.octets.specs.Octets.{ascii, octet, AllOctets}
+use Rattle.octets.specs.Written.{onto}
+use Rattle.base64.specs.Base64.{signOf, encode, lines, cr, lf}
+use Rattle.base64.specs.Joined.{ending, spread, Free}
+use Rattle.base64.proofs.Lengths.{length-encode}
+use Rattle.base64.proofs.RoundTrip.{encode-free, ending-other, one-other, spread-free, spread-read-back}
+use Rattle.address.specs.Pieces.{every}
+use Rattle.address.specs.Address.{oneTo, plain, canonical, addressOctet}
+use Rattle.address.proofs.Every.{and-left, and-right, every-append, every-weaker}
+use Rattle.address.proofs.Sides.{plain-octets, low-apart}
+use Rattle.address.proofs.Spelling.{canonical-twice, plain-canonical}
+use Rattle.header.specs.Header.{over, belongs, runLength, FieldText, inFront, fields}
+use Rattle.header.specs.declared.Class.the-variants.{Name, Blank}
+use Rattle.header.proofs.Unfolding.{NoLf}
+use Rattle.header.proofs.Fields.{fields-over}
+use Rattle.header.proofs.InFront.{field-in-front}
+use Rattle.keyfield.specs.Field.{keyLimit, limited, keyOf, fieldOf}
+use Rattle.keyfield.proofs.ReadBack.{other, valueOf, read-back-key}
+use Rattle.writer.specs.Writing.{preference, fieldText, written}
+use Rattle.promises.proofs.Folded.{folded-raw, folded-value}
+use Rattle.autocrypt.specs.Writing.{autocryptField, gossipField, writtenOf, leftByWriting, numberIn}
+use Rattle.autocrypt.specs.declared.Written.the-variants.{Done}
+use Rattle.autocrypt.proofs.Exactly.{Row, nought, exactly, done-length, done-there}
+use Rattle.promises.proofs.Among.{Lines, none as no-lines, inFrontAll, opens-plain, fields-among}
+
+-- a text that `every` finds without LF has none
+no-lf : (s : List ℕ) → every (other lf) s ≡ true → NoLf s
+unfolding every
+no-lf [] e i q = omega arith
+no-lf (x ∷ s) e zero q = let f : eqb x lf ≡ false = not-true (eqb x lf) (and-left (other lf x) (every (other lf) s) e) in absurd (eqb-false x lf f q)
+no-lf (x ∷ s) e (suc i) q = no-lf s (and-right (other lf x) (every (other lf) s) e) i q
+
+free-every : (test : ℕ → Bool) (t : List ℕ) → Free test t → every (λ x. not (test x)) t ≡ true
+unfolding Free every
+free-every test [] h = refl
+free-every test (x ∷ t) h = rw (h .0) (free-every test t (h .1))
+
+-- an address has no LF
+address-no-lf : (a : List ℕ) → plain a ≡ true → every (other lf) a ≡ true
+address-no-lf a p = every-weaker addressOctet (other lf) apart a (plain-octets a p)
+  where
+    apart : (x : ℕ) → addressOctet x ≡ true → other lf x ≡ true
+    apart x e = ap not (ne-eqb x lf (λ q. false≢true (sym (low-apart lf (omega arith)) ∙ ap addressOctet (sym q) ∙ e)))
+
+-- Octets that are read back: among whole fields, and before a text that does not open with space or tab, they are one field, which has this
+-- name, and its value says this address in canonical form, this preference and this key.
+pub record ReadsBack (name address key : List ℕ) (m : Bool) (octets : List ℕ) : Type 0 where
+  pub found : FieldText
+  pub named : found .name ≡ name
+  pub says : fieldOf (found .value) ≡ some (record { address = canonical address; isMutual = m; key = key })
+  pub among : (s : List ℕ) (fs : List FieldText) → Lines s fs → (rest : List ℕ) → belongs Blank (getD rest 0 0) ≡ false
+      → fields (s ++ (octets ++ rest)) ≡ inFrontAll fs (inFront found (fields rest))
+
+-- alone they are the only field
+pub reads-alone : (name address key octets : List ℕ) (m : Bool) (r : ReadsBack name address key m octets) → fields octets ≡ some (r .found ∷ [])
+unfolding inFrontAll inFront belongs over
+reads-alone name address key octets m r =
+    let e : fields (octets ++ []) ≡ inFront (r .found) (fields []) = r .among [] [] no-lines [] refl in
+    ap fields (sym (append-nil octets)) ∙ e ∙ rw (fields-over [] refl)
+
+-- what a field can be written for
+pub record Writable (address key : List ℕ) : Type 0 where
+  pub plainly : plain address ≡ true
+  pub octets : AllOctets key
+  pub limit : oneTo keyLimit (length key) ≡ true
+
+module _ (address key : List ℕ) (m : Bool) (w : Writable address key) where
+  -- the value before its lines, and the text that they are
+  head : List ℕ
+  head = ascii " addr=" ++ (canonical address ++ (preference m ++ ascii "; keydata="))
+
+  abbrev text : List ℕ
+  text = spread (encode key)
+
+  abbrev value : List ℕ
+  value = valueOf (canonical address) m text
+
+  head-no-lf : NoLf head
+  unfolding head every preference
+  head-no-lf = no-lf head (rw (every-append (other lf) (canonical address) (preference m ++ ascii "; keydata="), address-no-lf (canonical address) (plain-canonical address (w .plainly))) (go m))
+    where
+      go : (m : Bool) → every (other lf) (preference m ++ ascii "; keydata=") ≡ true
+      go true = refl
+      go false = refl
+
+  some-text : 0 < length (encode key)
+  some-text = omega (arith, length-encode key, leb-true 1 (length key) (and-left (leb 1 (length key)) (leb (length key) keyLimit) (w .limit)))
+
+  head-value : head ++ text ≡ value
+  unfolding head preference
+  head-value = go m
+    where
+      go : (m : Bool) → (ascii " addr=" ++ (canonical address ++ (preference m ++ ascii "; keydata="))) ++ text ≡ valueOf (canonical address) m text
+      go true = simp append-assoc
+      go false = simp append-assoc
+
+  value-read : fieldOf value ≡ some (record { address = canonical address; isMutual = m; key = key })
+  unfolding keyOf limited signOf
+  value-read =
+      read-back-key (canonical address) text (plain-canonical address (w .plainly))
+      (free-every (λ x. eqb x 59) text (spread-free (λ x. eqb x 59) refl (encode key) (encode-free (λ x. eqb x 59) (one-other 59 refl) key)))
+      m key (rw (spread-read-back key (w .octets), w .limit))
+      ∙ rw canonical-twice
+
+  module _ (name : List ℕ) (named : runLength Name name ≡ length name) (some-name : 0 < length name) where
+    -- the field as the reader of blocks has it: name, colon and value
+    raw : List ℕ
+    raw = head ++ (cr ∷ lf ∷ lines (encode key))
+
+    whole : (rest : List ℕ) → written name address m key ++ rest ≡ name ++ (octet ":" ∷ (raw ++ rest))
+    unfolding written fieldText raw head
+    whole rest = simp append-assoc
+
+    in-front : (rest : List ℕ) → belongs Blank (getD rest 0 0) ≡ false
+        → fields (written name address m key ++ rest) ≡ inFront (record { name = name; value = value }) (fields rest)
+    unfolding raw
+    in-front rest b =
+        let free : Free ending (encode key) = encode-free ending ending-other key in
+        ap fields (whole rest)
+        ∙ field-in-front name raw rest named some-name (folded-raw (encode key) some-text free head head-no-lf) b
+        ∙ rw (folded-value (encode key) some-text free head head-no-lf, head-value)
+
+    pub written-reads-back : ReadsBack name address key m (written name address m key)
+    written-reads-back =
+        record {
+          found = record { name = name; value = value };
+          named = refl;
+          says = value-read;
+          among = λ s fs k rest b.
+              fields-among s fs k (written name address m key ++ rest) (rw (whole rest) (opens-plain name (octet ":" ∷ (raw ++ rest)) named some-name))
+              ∙ ap (inFrontAll fs) (in-front rest b);
+        }
+
+-- a call that answers 0: its address and key are such, and the field opens the output
+module _ (address key field out : List ℕ) (octets : AllOctets key) (n : ℕ) (done : Done n ≡ writtenOf address key field (length out)) where
+  done-writable : Writable address key
+  done-writable = of-row (exactly address key field (length out) 0 .0 (ap numberIn (sym done)))
+    where
+      of-row : Row address key field (length out) 0 → Writable address key
+      of-row (nought p k l) = record { plainly = p; octets = octets; limit = k }
+
+  output-opens : take n (leftByWriting address key field out) ≡ field
+  unfolding onto
+  output-opens =
+      rw (done-length address key field out n done, done-there address key field out n done) (take-append-seam field (drop (length field) out))
+
+module _ (address key out : List ℕ) (octets : AllOctets key) (n : ℕ) where
+  pub autocrypt-reads-back : (m : Bool) → Done n ≡ writtenOf address key (autocryptField address m key) (length out)
+      → ReadsBack (ascii "Autocrypt") address key m (take n (leftByWriting address key (autocryptField address m key) out))
+  unfolding autocryptField runLength belongs
+  autocrypt-reads-back m done =
+      rw (output-opens address key (autocryptField address m key) out octets n done)
+      (written-reads-back address key m (done-writable address key (autocryptField address m key) out octets n done) (ascii "Autocrypt") refl (omega arith))
+
+  pub gossip-reads-back : Done n ≡ writtenOf address key (gossipField address key) (length out)
+      → ReadsBack (ascii "Autocrypt-Gossip") address key false (take n (leftByWriting address key (gossipField address key) out))
+  unfolding gossipField runLength belongs
+  gossip-reads-back done =
+      rw (output-opens address key (gossipField address key) out octets n done)
+      (written-reads-back address key false (done-writable address key (gossipField address key) out octets n done) (ascii "Autocrypt-Gossip") refl (omega arith))
