@@ -1,0 +1,73 @@
+-- From entries to what the code reads and hands out: numbers of a slot, and parts of the table.
+--     ratedAs, prefersAs    advice by the numbers of a slot
+--     lowerOf               the lesser of two
+--     noPart                a part of no octets
+--     keyPart, targetPart   where the key to encrypt to lies in the table
+--     targetAt              the same for a place in a list
+--     octetsAt              the octets of a part
+use Prim.Native.Nat.{ℕ, zero, suc, _+_, _*_}
+use mathlib.Core.Bool.{Bool, true, false}
+use mathlib.Core.List.{List, [], _∷_}
+use lib.ListN.{take, drop}
+use Rattle.slots.specs.declared.Slot.{Slot}
+use Rattle.slots.specs.Slot.{slotLength, numbersOf}
+use Rattle.address.specs.Address.{canonical}
+use Rattle.table.specs.Table.{slotAt, found}
+use Rattle.table.specs.declared.Found.{Found}
+use Rattle.table.specs.declared.Found.the-variants.{At, Nothing}
+use Rattle.advice.specs.Advice.{stale}
+use Rattle.advice.specs.declared.Advice.{Advice}
+use Rattle.advice.specs.declared.Advice.the-variants.{Disable, Discourage, Available, Encrypt}
+use Rattle.advice.specs.declared.Part.{Part}
+
+-- `rated` of Advice.antt, by the numbers of the entry's slot
+unfoldable pub ratedAs : Slot → Advice
+ratedAs n =
+    elim (n .direct) [
+      | true ↦ elim (stale (n .«last_seen») (n .timestamp)) [ true ↦ Discourage | false ↦ Available ]
+      | false ↦ elim (n .gossip) [ true ↦ Discourage | false ↦ Disable ]
+    ]
+
+-- the order of Advice is disable, discourage, available, encrypt
+unfoldable pub lowerOf : Advice → Advice → Advice
+lowerOf Disable b = Disable
+lowerOf Discourage Disable = Disable
+lowerOf Discourage Discourage = Discourage
+lowerOf Discourage Available = Discourage
+lowerOf Discourage Encrypt = Discourage
+lowerOf Available Disable = Disable
+lowerOf Available Discourage = Discourage
+lowerOf Available Available = Available
+lowerOf Available Encrypt = Available
+lowerOf Encrypt b = b
+
+abbrev pub noPart : Part
+noPart = record { start = 0; length = 0 }
+
+-- "296-2343 direct key", "2344-4391 gossip key": the key to encrypt to, in slot i with these numbers
+unfoldable pub keyPart : ℕ → Slot → Part
+keyPart i n =
+    elim (n .direct) [
+      | true ↦ record { start = i * slotLength + 296; length = n .«direct_length» }
+      | false ↦ elim (n .gossip) [
+        | true ↦ record { start = i * slotLength + 2344; length = n .«gossip_length» }
+        | false ↦ noPart
+      ]
+    ]
+
+unfoldable pub partIn : List ℕ → Found → Part
+partIn t (At i) = keyPart i (numbersOf (slotAt t i))
+partIn t Nothing = noPart
+
+-- the key to encrypt to for an address as it stands in a list
+unfoldable pub targetPart : List ℕ → List ℕ → Part
+targetPart t a = partIn t (found t (canonical a))
+
+-- "a list place from 0 .. an empty part without one, past the list"
+unfoldable pub targetAt : List ℕ → List (List ℕ) → ℕ → Part
+targetAt t [] place = noPart
+targetAt t (a ∷ rest) zero = targetPart t a
+targetAt t (a ∷ rest) (suc place) = targetAt t rest place
+
+unfoldable pub octetsAt : List ℕ → Part → List ℕ
+octetsAt t p = take (p .length) (drop (p .start) t)

@@ -1,0 +1,11 @@
+-- What a table holds of an address, whichever slot that stands in.
+--     entryIn    the entry of an address, none where it has none
+use Prim.Native.Nat.{ℕ}
+use mathlib.Core.List.{List}
+use mathlib.Core.Option.{Option, some, none}
+use Rattle.slots.specs.Entry.{Entry, entryOf}
+use Rattle.table.specs.Table.{slotAt, found}
+use Rattle.table.specs.declared.Found.the-variants.{At, Nothing}
+
+unfoldable pub entryIn : List ℕ → List ℕ → Option Entry
+entryIn t a = elim (found t a) [ At i ↦ some (entryOf (slotAt t i)) | Nothing ↦ none ]
