@@ -1,0 +1,30 @@
+-- A message with its blocks read, and the table after it: "A message is applied whole or refused whole."
+--     directBy, messageBy    what the message brings, by the fields of its blocks
+--     delivered              the table afterwards: where there is no room it stays as it was
+use Prim.Native.Nat.{ℕ}
+use mathlib.Core.Bool.{true, false}
+use mathlib.Core.List.{List}
+use mathlib.Core.Option.{Option, some, none}
+use Rattle.header.specs.Header.{FieldText}
+use Rattle.keyfield.specs.Field.{Field}
+use Rattle.slots.specs.Entry.{Direct}
+use Rattle.update.specs.Message.{Message, hasRoom, applied}
+use Rattle.message.specs.Message.{dateIn, countedIn, recipientsIn, gossipIn}
+
+-- "With a counted field set timestamp, key and preference."
+unfoldable pub directBy : ℕ → Option Field → Option Direct
+directBy date none = none
+directBy date (some f) = some (record { timestamp = date; key = f .key; «mutual» = f .isMutual })
+
+-- the sender, the effective date, the counted field and the accepted gossip, of the fields of the outer block and of the payload
+unfoldable pub messageBy : ℕ → List ℕ → List FieldText → List FieldText → Message
+messageBy receipt sender outer payload =
+    record {
+      sender = sender;
+      date = dateIn outer receipt;
+      direct = directBy (dateIn outer receipt) (countedIn outer sender);
+      gossip = gossipIn (recipientsIn outer) payload;
+    }
+
+unfoldable pub delivered : List ℕ → Message → List ℕ
+delivered t m = elim (hasRoom t m) [ true ↦ applied t m | false ↦ t ]

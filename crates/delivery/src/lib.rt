@@ -1,0 +1,153 @@
+// A message delivered to a table, whole or not at all: first the count of the addresses that are new with it, and only
+// where there is a free slot for each of them, the writing. What is right is said by specs/Delivery.antt.
+ghost use Prim.Native.Nat.{_≤_};
+ghost use mathlib.Core.Path.{_≡_};
+ghost use mathlib.Core.Bool.{true, not, _||_};
+ghost use mathlib.Core.List.{[], _∷_};
+ghost use lib.Dec.{leb};
+ghost use lib.ListN.{length, take};
+ghost use Prim.Native.Nat.{_+_};
+ghost use Rattle.header.specs.Header.{readable, isSome, limit};
+ghost use Rattle.header.specs.Answers.{fieldsFrom};
+ghost use Rattle.address.specs.Address.{isCanonical};
+ghost use Rattle.list.specs.List.{among};
+ghost use Rattle.slots.specs.Slot.{timeLimit};
+ghost use Rattle.table.specs.Table.{found, isAt, freeCount, checked};
+ghost use Rattle.table.specs.declared.Checked.the-variants.{Sound};
+ghost use Rattle.roll.specs.Roll.{unrolled};
+ghost use Rattle.update.specs.Update.{updated, put};
+ghost use Rattle.update.specs.Message.{gossipAddresses, newcomers, hasRoom, heardAll};
+ghost use Rattle.message.specs.Message.{fieldsIn, countedIn};
+ghost use Rattle.message.specs.Answers.{gossipFrom};
+ghost use Rattle.delivery.specs.Delivery.{directBy, messageBy, delivered};
+ghost use Rattle.delivery.specs.Counting.{Known};
+use message::Counted;
+use message::Heard;
+use slots::Slot;
+use table::Found;
+
+// Room for the roll of as many newcomers as there may be slots, each with its length.
+const ROLL: usize = 65536;
+
+// Has the address no entry, and is it not known yet to be new?
+fn is_new(table: &[u8], known: &[u8], address: &[u8]) -> bool
+    ensures { λ r. ⌜ r ≡ not (isAt (found (now (table .entry)) (now (address .entry))) || among (now (address .entry)) (unrolled (now (known .entry)))) ⌝ }
+{
+    match table::find(table, address) {
+        Found::At(_) => false,
+        Found::Nothing => !roll::holds(known, address),
+    }
+}
+
+// Is there a free slot for each address that is new with the gossip, beside so many that are known already?
+fn has_room_for(table: &[u8], payload: &[u8], recipients: &[u8], text: &mut [u8], known: &mut [u8], filled: usize, many: usize) -> bool
+    requires { ⌜ (checked (now table) ≡ Sound) × (isSome (fieldsFrom (now payload) 0) ≡ true) × (length (now payload) ≤ length (now text)) × (length (now known) ≡ 65536) × Known (now known) filled many × (many ≤ freeCount (now table)) ⌝ }
+    ensures { λ r. ⌜ r ≡ leb (many + length (newcomers (now (table .entry)) (unrolled (take filled (now (known .entry)))) (gossipAddresses (gossipFrom (unrolled (now (recipients .entry))) (now (payload .entry)) 0)))) (freeCount (now (table .entry))) ⌝ }
+{
+    let free = table::count_free(table);
+    let mut address = [0u8; Slot::ADDRESS_ROOM];
+    let mut key = [0u8; Slot::KEY_LIMIT];
+    let mut end = filled;
+    let mut count = many;
+    let mut at = 0;
+    loop {
+        match message::next_gossip(payload, at, recipients, text, &mut address, &mut key) {
+            Heard::Next {
+                end: next,
+                address: n,
+                key: _,
+            } => {
+                at = next;
+                if !is_new(table, &known[0..end], &address[0..n]) {
+                    continue;
+                }
+                if count == free {
+                    return false;
+                }
+                end = roll::add(known, end, &address[0..n]);
+                count += 1;
+            }
+            Heard::Over => return true,
+        }
+    }
+}
+
+// Is there a free slot for each address that is new with the message, its sender first?
+fn has_room(table: &[u8], sender: &[u8], payload: &[u8], recipients: &[u8], text: &mut [u8]) -> bool
+    requires { ⌜ (checked (now table) ≡ Sound) × (isCanonical (now sender) ≡ true) × (isSome (fieldsFrom (now payload) 0) ≡ true) × (length (now payload) ≤ length (now text)) ⌝ }
+    ensures { λ r. ⌜ r ≡ leb (length (newcomers (now (table .entry)) [] (now (sender .entry) ∷ gossipAddresses (gossipFrom (unrolled (now (recipients .entry))) (now (payload .entry)) 0)))) (freeCount (now (table .entry))) ⌝ }
+{
+    let mut known = [0u8; ROLL];
+    match table::find(table, sender) {
+        Found::At(_) => has_room_for(table, payload, recipients, text, &mut known, 0, 0),
+        Found::Nothing => {
+            if table::count_free(table) == 0 {
+                return false;
+            }
+            let filled = roll::add(&mut known, 0, sender);
+            has_room_for(table, payload, recipients, text, &mut known, filled, 1)
+        }
+    }
+}
+
+// Puts the gossip of the payload into the table, field by field.
+fn hear_all(table: &mut [u8], date: u64, payload: &[u8], recipients: &[u8], text: &mut [u8])
+    requires { ⌜ (checked (now table) ≡ Sound) × (date ≤ timeLimit) × (isSome (fieldsFrom (now payload) 0) ≡ true) × (length (now payload) ≤ length (now text)) ⌝ }
+    ensures { λ _. ⌜ now (table .exit) ≡ heardAll date (gossipFrom (unrolled (now (recipients .entry))) (now (payload .entry)) 0) (now (table .entry)) ⌝ }
+{
+    let mut address = [0u8; Slot::ADDRESS_ROOM];
+    let mut key = [0u8; Slot::KEY_LIMIT];
+    let mut at = 0;
+    loop {
+        match message::next_gossip(payload, at, recipients, text, &mut address, &mut key) {
+            Heard::Next {
+                end,
+                address: n,
+                key: length,
+            } => {
+                update::hear(table, &address[0..n], date, &key[0..length]);
+                at = end;
+            }
+            Heard::Over => return,
+        }
+    }
+}
+
+// Updates the entry of the sender.
+fn update_sender(table: &mut [u8], outer: &[u8], sender: &[u8], date: u64, text: &mut [u8])
+    requires { ⌜ (checked (now table) ≡ Sound) × (readable (now outer) ≡ true) × (length (now outer) ≤ length (now text)) × (isCanonical (now sender) ≡ true) × (date ≤ timeLimit) ⌝ }
+    ensures { λ _. ⌜ now (table .exit) ≡ put (now (table .entry)) (now (sender .entry)) (updated date (directBy date (countedIn (fieldsIn (now (outer .entry))) (now (sender .entry))))) ⌝ }
+{
+    let mut key = [0u8; Slot::KEY_LIMIT];
+    match message::counted_field(outer, sender, text, &mut key) {
+        Counted::Key { mutual, length } => {
+            update::update_with_key(table, sender, date, &key[0..length], mutual);
+        }
+        Counted::NoKey => update::update_keyless(table, sender, date),
+    }
+}
+
+// Writes the message into the table, which has room for it.
+fn apply(table: &mut [u8], date: u64, outer: &[u8], payload: &[u8], sender: &[u8], recipients: &[u8], text: &mut [u8])
+    requires { ⌜ (checked (now table) ≡ Sound) × (readable (now outer) ≡ true) × (length (now outer) ≤ length (now text)) × (isSome (fieldsFrom (now payload) 0) ≡ true) × (length (now payload) ≤ length (now text)) × (isCanonical (now sender) ≡ true) × (date ≤ timeLimit) ⌝ }
+    ensures { λ _. ⌜ now (table .exit) ≡ heardAll date (gossipFrom (unrolled (now (recipients .entry))) (now (payload .entry)) 0) (put (now (table .entry)) (now (sender .entry)) (updated date (directBy date (countedIn (fieldsIn (now (outer .entry))) (now (sender .entry)))))) ⌝ }
+{
+    update_sender(table, outer, sender, date, text);
+    hear_all(table, date, payload, recipients, text);
+}
+
+// Delivers the message of the sender, its blocks being readable, if there is room for it; answers whether there was.
+pub fn deliver(table: &mut [u8], receipt: u64, outer: &[u8], payload: &[u8], sender: &[u8], text: &mut [u8]) -> bool
+    requires { ⌜ (checked (now table) ≡ Sound) × (receipt ≤ timeLimit) × (readable (now outer) ≡ true) × (readable (now payload) ≡ true) × (isCanonical (now sender) ≡ true) × (limit ≤ length (now text)) ⌝ }
+    ensures { λ r. ⌜ r ≡ hasRoom (now (table .entry)) (messageBy receipt (now (sender .entry)) (fieldsIn (now (outer .entry))) (fieldsIn (now (payload .entry)))) ⌝ }
+    ensures { λ _. ⌜ now (table .exit) ≡ delivered (now (table .entry)) (messageBy receipt (now (sender .entry)) (fieldsIn (now (outer .entry))) (fieldsIn (now (payload .entry)))) ⌝ }
+{
+    let mut roll = [0u8; ROLL];
+    let filled = message::recipients(outer, text, &mut roll);
+    if !has_room(table, sender, payload, &roll[0..filled], text) {
+        return false;
+    }
+    let date = date::effective_date(message::date(outer, text), receipt);
+    apply(table, date, outer, payload, sender, &roll[0..filled], text);
+    true
+}
