@@ -20,6 +20,14 @@ class Library(Bound):
         r = self._call("vienghulac_check", Answer, READ, table, len(table))
         return r.number, r.index
 
+    def process(self, table: bytes, receipt: int, outer: bytes, payload: bytes, gossip: int) -> tuple[int, int, bytes]:
+        """The number, the index, and what the table then holds."""
+        lent = Lent(table)
+        kinds = WRITE + [ctypes.c_uint64] + READ + READ + [ctypes.c_uint8]
+        words = [*lent.words(), receipt, outer, len(outer), payload, len(payload), gossip]
+        r = self._call("vienghulac_process", Answer, kinds, *words)
+        return r.number, r.index, lent.now()
+
     def _write(self, name: str, kinds: list, words: list, out: bytes) -> tuple[int, int, bytes]:
         lent = Lent(out)
         r = self._call(name, Written, kinds + WRITE, *words, *lent.words())

@@ -2,13 +2,25 @@
 // anything, and none requires anything of its arguments. What each answers is said by specs/.
 ghost use Prim.Native.Nat.{_≤_};
 ghost use mathlib.Core.Path.{_≡_};
+ghost use mathlib.Core.Bool.{true};
+ghost use mathlib.Core.Option.{some};
 ghost use lib.ListN.{length};
 ghost use Rattle.writer.specs.Writing.{written};
 ghost use Rattle.autocrypt.specs.Refusals.{numberOf, indexOf};
+ghost use Rattle.header.specs.Header.{readable, limit};
+ghost use Rattle.address.specs.Address.{isCanonical};
+ghost use Rattle.slots.specs.Slot.{timeLimit};
 ghost use Rattle.table.specs.Table.{checked};
+ghost use Rattle.table.specs.declared.Checked.the-variants.{Sound};
+ghost use Rattle.message.specs.Message.{fieldsIn};
 ghost use Rattle.autocrypt.specs.Checking.{checkedAs};
+ghost use Rattle.autocrypt.specs.Processing.{taken, payloadFields, withSender, withPayload, broughtBy, putInto, processed};
 ghost use Rattle.autocrypt.specs.Writing.{autocryptField, gossipField, writtenOf, leftByWriting};
+use message::Sender;
 use slots::Slot;
+
+// How long a block may be, and so a value in it.
+const BLOCK: usize = 65536;
 
 // Why a call refuses, named for the rows of "Refusal numbers", in their order.
 pub enum Refusal {
@@ -29,6 +41,19 @@ pub enum Refusal {
 // The table is one that the calls take; or it is refused.
 pub enum Checked {
     Sound,
+    Refused(Refusal),
+}
+
+// Is gossip in encrypted mail taken? A caller that does not care leaves it unset.
+pub enum Gossip {
+    Take,
+    Skip,
+    Unset,
+}
+
+// The message is in the table now; or nothing was written.
+pub enum Processed {
+    Done,
     Refused(Refusal),
 }
 
@@ -124,4 +149,76 @@ pub fn write_gossip(address: &[u8], key: &[u8], out: &mut [u8]) -> Written
     ensures { λ _. ⌜ now (out .exit) ≡ leftByWriting (now (address .entry)) (now (key .entry)) (gossipField (now (address .entry)) (now (key .entry))) (now (out .entry)) ⌝ }
 {
     write(b"Autocrypt-Gossip", address, false, key, out)
+}
+
+// "unset takes"
+fn is_taken(gossip: Gossip) -> bool
+    ensures { λ r. ⌜ r ≡ taken gossip ⌝ }
+{
+    match gossip {
+        Gossip::Take => true,
+        Gossip::Skip => false,
+        Gossip::Unset => true,
+    }
+}
+
+// Refusal 8, with the blocks read: the last check of all, before anything is written.
+fn deliver(table: &mut [u8], receipt: u64, outer: &[u8], payload: &[u8], sender: &[u8], text: &mut [u8]) -> Processed
+    requires { ⌜ (checked (now table) ≡ Sound) × (receipt ≤ timeLimit) × (readable (now outer) ≡ true) × (readable (now payload) ≡ true) × (isCanonical (now sender) ≡ true) × (limit ≤ length (now text)) ⌝ }
+    ensures { λ r. ⌜ r ≡ putInto (now (table .entry)) (withPayload receipt (now (sender .entry)) (fieldsIn (now (outer .entry))) (some (fieldsIn (now (payload .entry))))) .answer ⌝ }
+    ensures { λ _. ⌜ now (table .exit) ≡ putInto (now (table .entry)) (withPayload receipt (now (sender .entry)) (fieldsIn (now (outer .entry))) (some (fieldsIn (now (payload .entry))))) .table ⌝ }
+{
+    if delivery::deliver(table, receipt, outer, payload, sender, text) {
+        return Processed::Done;
+    }
+    Processed::Refused(Refusal::NoFreeSlot)
+}
+
+// Refusals 6 and 7, with the sender known. Where gossip is not taken an empty block stands for the payload.
+fn process_from(table: &mut [u8], receipt: u64, outer: &[u8], payload: &[u8], gossip: Gossip, sender: &[u8], text: &mut [u8]) -> Processed
+    requires { ⌜ (checked (now table) ≡ Sound) × (receipt ≤ timeLimit) × (readable (now outer) ≡ true) × (isCanonical (now sender) ≡ true) × (limit ≤ length (now text)) ⌝ }
+    ensures { λ r. ⌜ r ≡ putInto (now (table .entry)) (withSender receipt (some (now (sender .entry))) (fieldsIn (now (outer .entry))) (payloadFields gossip (now (payload .entry)))) .answer ⌝ }
+    ensures { λ _. ⌜ now (table .exit) ≡ putInto (now (table .entry)) (withSender receipt (some (now (sender .entry))) (fieldsIn (now (outer .entry))) (payloadFields gossip (now (payload .entry)))) .table ⌝ }
+{
+    if message::is_report(outer, text) {
+        return Processed::Refused(Refusal::Report);
+    }
+    if !is_taken(gossip) {
+        return deliver(table, receipt, outer, &payload[0..0], sender, text);
+    }
+    if !header::readable(payload) {
+        return Processed::Refused(Refusal::PayloadBlock);
+    }
+    deliver(table, receipt, outer, payload, sender, text)
+}
+
+// Refusals 3, 4 and 5, with the table checked.
+fn process_sound(table: &mut [u8], receipt: u64, outer: &[u8], payload: &[u8], gossip: Gossip) -> Processed
+    requires { ⌜ checked (now table) ≡ Sound ⌝ }
+    ensures { λ r. ⌜ r ≡ putInto (now (table .entry)) (broughtBy receipt (now (outer .entry)) (now (payload .entry)) gossip) .answer ⌝ }
+    ensures { λ _. ⌜ now (table .exit) ≡ putInto (now (table .entry)) (broughtBy receipt (now (outer .entry)) (now (payload .entry)) gossip) .table ⌝ }
+{
+    if Slot::TIME_LIMIT < receipt {
+        return Processed::Refused(Refusal::ReceiptTime);
+    }
+    if !header::readable(outer) {
+        return Processed::Refused(Refusal::OuterBlock);
+    }
+    let mut text = [0u8; BLOCK];
+    let mut sender = [0u8; Slot::ADDRESS_ROOM];
+    match message::sender_of(outer, &mut text, &mut sender) {
+        Sender::Address(n) => process_from(table, receipt, outer, payload, gossip, &sender[0..n], &mut text),
+        Sender::NotOne => Processed::Refused(Refusal::Sender),
+    }
+}
+
+// Processes a message: its outer header block, and the header block of its decrypted payload, empty where there is none.
+pub fn process(table: &mut [u8], receipt: u64, outer: &[u8], payload: &[u8], gossip: Gossip) -> Processed
+    ensures { λ r. ⌜ r ≡ processed (now (table .entry)) receipt (now (outer .entry)) (now (payload .entry)) gossip .answer ⌝ }
+    ensures { λ _. ⌜ now (table .exit) ≡ processed (now (table .entry)) receipt (now (outer .entry)) (now (payload .entry)) gossip .table ⌝ }
+{
+    match check(table) {
+        Checked::Sound => process_sound(table, receipt, outer, payload, gossip),
+        Checked::Refused(refusal) => Processed::Refused(refusal),
+    }
 }

@@ -1,11 +1,19 @@
 -- Answers in numbers, as C has them.
 --     checkedInNumbers    "A refusal carries its number (2 also the index)"
+--     processedInNumbers, settingOf    the same of a message, and the gossip setting
 --     inNumbers    "Success answers 0, writing also the length of the field .. A refusal carries its number": it has no length, 0 stands for that
+use Prim.Native.Nat.{ℕ}
+use mathlib.Core.Bool.{true, false}
+use lib.Dec.{eqb}
 use Rattle.autocrypt.specs.Refusals.{numberOf, indexOf}
 use Rattle.autocrypt.specs.declared.Checked.{Checked}
 use Rattle.autocrypt.specs.declared.Checked.the-variants.{Sound, Refused as RefusedTable}
 use Rattle.autocrypt.specs.declared.Written.{Written as Answer}
 use Rattle.autocrypt.specs.declared.Written.the-variants.{Done, Refused}
+use Rattle.autocrypt.specs.declared.Processed.{Processed}
+use Rattle.autocrypt.specs.declared.Processed.the-variants.{Done as Taken, Refused as RefusedMessage}
+use Rattle.autocrypt.specs.declared.Gossip.{Gossip}
+use Rattle.autocrypt.specs.declared.Gossip.the-variants.{Take, Skip, Unset}
 use Rattle.cabi.specs.declared.Answer.{Answer as Numbers}
 use Rattle.cabi.specs.declared.Written.{Written}
 
@@ -16,3 +24,12 @@ inNumbers (Refused r) = record { number = numberOf r; length = 0 }
 unfoldable pub checkedInNumbers : Checked → Numbers
 checkedInNumbers Sound = record { number = 0; index = 0 }
 checkedInNumbers (RefusedTable r) = record { number = numberOf r; index = indexOf r }
+
+-- the answer of vienghulac_process
+unfoldable pub processedInNumbers : Processed → Numbers
+processedInNumbers Taken = record { number = 0; index = 0 }
+processedInNumbers (RefusedMessage r) = record { number = numberOf r; index = indexOf r }
+
+-- "take, skip or unset": 1, 2, and any other number
+unfoldable pub settingOf : ℕ → Gossip
+settingOf n = elim (eqb n 1) [ true ↦ Take | false ↦ elim (eqb n 2) [ true ↦ Skip | false ↦ Unset ] ]
