@@ -1,7 +1,9 @@
 -- What the three writers leave is `put` of the change.
 --     put-same                        where the entry is left alone, so is the table
 --     within, sound-place, good-place what is known of the slot that was placed
+--     good-updated                    a direct half that was brought is good
 --     weighing                        what `has_younger` and `has_younger_gossip` ask
+--     setting                         what `set_field` asks
 --     seeing, keying, hearing         what `update_keyless`, `update_with_key` and `hear` ask
 -- Assumes nothing.
 use Prim.Native.Nat.{ℕ, _<_, _≤_, max}
@@ -25,7 +27,7 @@ use Rattle.slots.specs.Entry.{Direct, Gossip, Entry, present, orElse, entryOf, 
 use Rattle.slots.proofs.Sounds.{sound-parts}
 use Rattle.slots.proofs.Entries.{slot-back}
 use Rattle.slots.proofs.Made.{slot-long, slot-sound, entry-back}
-use Rattle.slots.proofs.Goodness.{good-seen-by, good-with-direct}
+use Rattle.slots.proofs.Goodness.{good-entry, good-seen-by, good-with-direct}
 use Rattle.table.specs.Table.{slots, slotAt, withSlot, found, checked}
 use Rattle.table.specs.declared.Checked.the-variants.{Sound}
 use Rattle.table.specs.declared.Found.{Found}
@@ -83,6 +85,41 @@ good-updated e g date h d k q =
     good-with-direct (seenBy date e) (good-seen-by e g date h) d
     (record { key = k; was-seen = refl; not-below = rw q (le-max-right (orElse 0 (e .lastSeen)) date) })
 
+-- two writes to one slot of a table, as the code has them: v is what `raise_seen` left, w what `set_direct` left behind it
+module _ (t v : List ℕ) (i date : ℕ) (ev : v ≡ withSlot t i (slotOf (seenBy date (entryOf (slotAt t i))))) (l : i < slots t)
+    (s : sound (slotAt t i) ≡ true) (h : date ≤ timeLimit) (o : (j : ℕ) → Fits w8 (getD t j 0)) where
+  good : Good (entryOf (slotAt t i))
+  good = good-entry (slotAt t i) (part-long t i l) (sound-parts (slotAt t i) s) (slot-octets t i (given-octets t o))
+
+  good-seen : Good (seenBy date (entryOf (slotAt t i)))
+  good-seen = good-seen-by (entryOf (slotAt t i)) good date h
+
+  seen-long : length (slotOf (seenBy date (entryOf (slotAt t i)))) ≡ slotLength
+  seen-long = slot-long (seenBy date (entryOf (slotAt t i))) good-seen
+
+  seen-there : slotAt v i ≡ slotOf (seenBy date (entryOf (slotAt t i)))
+  seen-there = rw ev (slot-same t (slotOf (seenBy date (entryOf (slotAt t i)))) i l seen-long)
+
+  pub within-still : i < slots v
+  within-still = rw (ev, slots-kept t (slotOf (seenBy date (entryOf (slotAt t i)))) i l seen-long) l
+
+  pub sound-still : sound (slotAt v i) ≡ true
+  sound-still = rw seen-there (slot-sound (seenBy date (entryOf (slotAt t i))) good-seen)
+
+  pub written-twice : (key : List ℕ) (m : Bool) (w : List ℕ)
+      → w ≡ withSlot v i (slotOf (withDirect (record { timestamp = date; key = key; «mutual» = m }) (entryOf (slotAt v i))))
+      → 1 ≤ length key → length key ≤ keyLimit → ((j : ℕ) → Fits w8 (getD key j 0))
+      → w ≡ withSlot t i (slotOf (withDirect (record { timestamp = date; key = key; «mutual» = m }) (seenBy date (entryOf (slotAt t i)))))
+  written-twice key m w ew k₁ k₂ k₃ =
+      let x : Entry = entryOf (slotAt t i) in
+      let d : Direct = record { timestamp = date; key = key; «mutual» = m } in
+      let all : Good (withDirect d (seenBy date x)) =
+      good-updated x good date h d (record { some-octet = k₁; most = k₂; octets = given-octets key k₃ }) refl in
+      let back : entryOf (slotAt v i) ≡ seenBy date x = rw seen-there (entry-back (seenBy date x) good-seen) in
+      ew ∙ rw (back, ev) (written-over t i l (slotOf (seenBy date x)) (slotOf (withDirect d (seenBy date x))) seen-long (slot-long (withDirect d (seenBy date x)) all))
+
+pub ruleset setting = (within-still, sound-still, written-twice, needs)
+
 -- a slot written back
 pub entry-over : (t a : List ℕ) (i : ℕ) → found t a ≡ At i → checked t ≡ Sound → AllOctets t → withSlot t i (slotOf (entryOf (slotAt t i))) ≡ t
 entry-over t a i e s o =
@@ -126,44 +163,19 @@ module _ (t a u : List ℕ) (f : Found) (i : ℕ) (ef : f ≡ found (begun t a) 
         pub left-unheard : (key : List ℕ) → b ≡ youngerGossip date (entryOf (slotAt u i) .gossip) → not b ≡ false → u ≡ put t a (heard date key)
         left-unheard key e h = left-alone (heard date key) (heard-older date (entryOf (slotAt u i)) key (sym e ∙ not-false b h))
 
-        -- v is what `raise_seen` left there
-        module _ (h₀ : date ≤ timeLimit) (v : List ℕ) (ev : v ≡ withSlot u i (slotOf (seenBy date (entryOf (slotAt u i))))) where
-          good-seen : Good (seenBy date (entryOf (slotAt u i)))
-          good-seen = good-seen-by (entryOf (slotAt u i)) good-place date h₀
-
-          seen-long : length (slotOf (seenBy date (entryOf (slotAt u i)))) ≡ slotLength
-          seen-long = slot-long (seenBy date (entryOf (slotAt u i))) good-seen
-
-          seen-there : slotAt v i ≡ slotOf (seenBy date (entryOf (slotAt u i)))
-          seen-there = rw ev (slot-same u (slotOf (seenBy date (entryOf (slotAt u i)))) i within seen-long)
-
-          pub within-still : i < slots v
-          within-still = rw (ev, slots-kept u (slotOf (seenBy date (entryOf (slotAt u i)))) i within seen-long) within
-
-          pub sound-still : sound (slotAt v i) ≡ true
-          sound-still = rw seen-there (slot-sound (seenBy date (entryOf (slotAt u i))) good-seen)
-
-          -- and w what `set_direct` left: one slot, written twice
-          pub direct-set : (key : List ℕ) (m : Bool) (w : List ℕ) → 1 ≤ length key → length key ≤ keyLimit → ((j : ℕ) → Fits w8 (getD key j 0))
-              → b ≡ younger date (entryOf (slotAt u i) .direct) → not b ≡ true
-              → w ≡ withSlot v i (slotOf (withDirect (record { timestamp = date; key = key; «mutual» = m }) (entryOf (slotAt v i))))
-              → w ≡ put t a (updated date (some (record { timestamp = date; key = key; «mutual» = m })))
-          unfolding withField
-          direct-set key m w k₁ k₂ k₃ e h ew =
-              let x : Entry = entryOf (slotAt u i) in
-              let d : Direct = record { timestamp = date; key = key; «mutual» = m } in
-              let good : Good (withDirect d (seenBy date x)) =
-              good-updated x good-place date h₀ d (record { some-octet = k₁; most = k₂; octets = given-octets key k₃ }) refl in
-              let back : entryOf (slotAt v i) ≡ seenBy date x = rw seen-there (entry-back (seenBy date x) good-seen) in
-              let once : w ≡ withSlot u i (slotOf (withDirect d (seenBy date x))) =
-              ew ∙ rw (back, ev) (written-over u i within (slotOf (seenBy date x)) (slotOf (withDirect d (seenBy date x))) seen-long (slot-long (withDirect d (seenBy date x)) good)) in
-              written (updated date (some d)) w (once ∙ rw (updated-now date x (some d) (sym e ∙ not-true b h)))
-
   module _ (date : ℕ) (b : Bool) (h : not b ≡ true) where
     module _ (e : b ≡ younger date (entryOf (slotAt u i) .direct)) where
       pub seen-raised : (v : List ℕ) → v ≡ withSlot u i (slotOf (seenBy date (entryOf (slotAt u i)))) → v ≡ put t a (updated date none)
       unfolding withField
       seen-raised v ev = written (updated date none) v (ev ∙ rw (updated-now date (entryOf (slotAt u i)) none (sym e ∙ not-true b h)))
+
+      pub field-set : (key : List ℕ) (m : Bool) (v : List ℕ)
+          → v ≡ withSlot u i (slotOf (withDirect (record { timestamp = date; key = key; «mutual» = m }) (seenBy date (entryOf (slotAt u i)))))
+          → v ≡ put t a (updated date (some (record { timestamp = date; key = key; «mutual» = m })))
+      unfolding withField
+      field-set key m v ev =
+          let d : Direct = record { timestamp = date; key = key; «mutual» = m } in
+          written (updated date (some d)) v (ev ∙ rw (updated-now date (entryOf (slotAt u i)) (some d) (sym e ∙ not-true b h)))
 
     pub gossip-set : b ≡ youngerGossip date (entryOf (slotAt u i) .gossip) → (key v : List ℕ)
         → v ≡ withSlot u i (slotOf (withGossip (record { timestamp = date; key = key }) (entryOf (slotAt u i)))) → v ≡ put t a (heard date key)
@@ -174,6 +186,6 @@ nowhere t a u f change ef eu en = eu ∙ sym (put-nothing t a change (sym ef ∙
 
 pub ruleset seeing = (within, sound-place, seen-raised, left-older, nowhere, needs)
 
-pub ruleset keying = (within, sound-place, within-still, sound-still, direct-set, left-older, nowhere, needs)
+pub ruleset keying = (within, sound-place, field-set, left-older, nowhere, needs)
 
 pub ruleset hearing = (within, sound-place, gossip-set, left-unheard, nowhere, needs)

@@ -1,52 +1,38 @@
+-- `update::hear` meets its contract: the laws of `Writing` answer every need. Assumes nothing.
 use Rattle.update.proofs.hear.Statement.{statement}
 use Rattle.update.proofs.hear.Tie as tie
-use Rattle.update.proofs.hear.Reads as reads
-use Rattle.update.proofs.hear.Lts as lts
-use Rattle.table.proofs.set_gossip.Reads as set-gossip-reads
-use Rattle.update.proofs.has_younger_gossip.Reads as has-younger-gossip-reads
-use Rattle.update.proofs.place.Reads as place-reads
 use Rattle.update.proofs.Writing.{hearing}
 
--- src/lib.rt:88:11
 place-requires : tie.Need-place-requires
 place-requires c κs = search hearing
 
--- src/lib.rt:89:19
 enum-known-i : tie.Need-enum-known-i
 enum-known-i c = search hearing
 
--- src/lib.rt:90:17
 has-younger-gossip-requires : tie.Need-has-younger-gossip-requires
 has-younger-gossip-requires c κs = search hearing
 
--- src/lib.rt:91:17
 set-gossip-requires : tie.Need-set-gossip-requires
 set-gossip-requires c κs = search hearing
 
 enum-told : tie.Need-enum-told
 enum-told c = search hearing
 
--- src/lib.rt:84:1
 same-length : tie.Need-same-length
 same-length c = search hearing
 
--- src/lib.rt:84:1
 returns : tie.Need-returns
 returns c = search hearing
 
--- src/lib.rt:84:1
 same-length-2 : tie.Need-same-length-2
 same-length-2 c = search hearing
 
--- src/lib.rt:84:1
 returns-2 : tie.Need-returns-2
 returns-2 c = search hearing
 
--- src/lib.rt:84:1
 same-length-3 : tie.Need-same-length-3
 same-length-3 c = search hearing
 
--- src/lib.rt:84:1
 returns-3 : tie.Need-returns-3
 returns-3 c = search hearing
 
