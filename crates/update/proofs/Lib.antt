@@ -1,2 +1,5 @@
 pub mod Placing
 pub mod Writing
+pub mod Putting
+pub mod Room
+pub mod Applying
