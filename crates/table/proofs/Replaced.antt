@@ -13,7 +13,7 @@
 use Prim.Native.Nat.{ℕ, suc, zero, _+_, _*_, _<_, _≤_}
 use mathlib.Core.Path.{_≡_, refl, sym, _∙_}
 use mathlib.Core.Logic.{⊎-elim}
-use mathlib.Core.Bool.{Bool, true, false, not, _&&_, false≢true}
+use mathlib.Core.Bool.{Bool, true, false, false≢true}
 use mathlib.Core.Option.{some, none}
 use mathlib.Core.List.{List}
 use native.Mathlib.Omega.{arith}
@@ -25,7 +25,7 @@ use Rattle.octets.proofs.Comparing.{same-refl}
 use Rattle.octets.proofs.Joined.{put-octets}
 use Rattle.octets.proofs.Lists.{lt-or-le}
 use Rattle.address.proofs.Every.{by-test}
-use Rattle.slots.specs.Slot.{slotLength, marked, sound, addressOf}
+use Rattle.slots.specs.Slot.{slotLength, marked, sound}
 use Rattle.slots.specs.Entry.{Entry, entryOf, slotOf, Good}
 use Rattle.slots.proofs.Parts.{put-again, put-back}
 use Rattle.slots.proofs.Sounds.{sound-parts, unmarked-not-sound}

@@ -4,7 +4,7 @@
 --     applied-sound, applied-octets, applied-entry    the whole message
 -- Assumes nothing.
 use Prim.Native.Nat.{ℕ, _≤_}
-use mathlib.Core.Path.{_≡_, refl, sym, _∙_}
+use mathlib.Core.Path.{_≡_, refl, _∙_}
 use mathlib.Core.Bool.{true}
 use mathlib.Core.List.{List, [], _∷_}
 use borrow.Author.Tests.{leb-true}
@@ -17,7 +17,7 @@ use Rattle.table.specs.Table.{freeCount, checked}
 use Rattle.table.specs.Entries.{entryIn}
 use Rattle.table.specs.declared.Checked.the-variants.{Sound}
 use Rattle.update.specs.Update.{updated, heard, put}
-use Rattle.update.specs.Message.{Gossiped, Message, gossipAddresses, addressesOf, newcomers, hasRoom, heardAll, applied, entryPut, entryHeard, entryAfter, GoodGossiped, GoodGossipeds, GoodMessage}
+use Rattle.update.specs.Message.{Gossiped, Message, gossipAddresses, addressesOf, newcomers, hasRoom, heardAll, applied, entryHeard, entryAfter, GoodGossiped, GoodGossipeds, GoodMessage}
 use Rattle.update.proofs.Putting.{Keeps, keeps-updated, keeps-heard, put-sound, put-octets, put-entry}
 use Rattle.update.proofs.Room.{room-first, room-rest}
 
@@ -32,23 +32,23 @@ module _ (date : ℕ) (d : date ≤ timeLimit) where
     keeps : Keeps (heard date (g .key))
     keeps = keeps-heard date d (g .key) (h .key)
 
-    pub heard-sound : checked (put t (g .address) (heard date (g .key))) ≡ Sound
-    heard-sound = put-sound t (g .address) (h .canonical) (h .octets) (heard date (g .key)) keeps s o
+    one-sound : checked (put t (g .address) (heard date (g .key))) ≡ Sound
+    one-sound = put-sound t (g .address) (h .canonical) (h .octets) (heard date (g .key)) keeps s o
 
-    pub heard-octets : AllOctets (put t (g .address) (heard date (g .key)))
-    heard-octets = put-octets t (g .address) (h .canonical) (h .octets) (heard date (g .key)) keeps s o
+    one-octets : AllOctets (put t (g .address) (heard date (g .key)))
+    one-octets = put-octets t (g .address) (h .canonical) (h .octets) (heard date (g .key)) keeps s o
 
   pub heard-all-sound : (gs : List Gossiped) → GoodGossipeds gs → (t : List ℕ) → checked t ≡ Sound → AllOctets t → checked (heardAll date gs t) ≡ Sound
   unfolding heardAll GoodGossipeds
   heard-all-sound [] h t s o = s
   heard-all-sound (g ∷ gs) h t s o =
-      heard-all-sound gs (h .1) (put t (g .address) (heard date (g .key))) (heard-sound t g (h .0) s o) (heard-octets t g (h .0) s o)
+      heard-all-sound gs (h .1) (put t (g .address) (heard date (g .key))) (one-sound t g (h .0) s o) (one-octets t g (h .0) s o)
 
   pub heard-all-octets : (gs : List Gossiped) → GoodGossipeds gs → (t : List ℕ) → checked t ≡ Sound → AllOctets t → AllOctets (heardAll date gs t)
   unfolding heardAll GoodGossipeds
   heard-all-octets [] h t s o = o
   heard-all-octets (g ∷ gs) h t s o =
-      heard-all-octets gs (h .1) (put t (g .address) (heard date (g .key))) (heard-sound t g (h .0) s o) (heard-octets t g (h .0) s o)
+      heard-all-octets gs (h .1) (put t (g .address) (heard date (g .key))) (one-sound t g (h .0) s o) (one-octets t g (h .0) s o)
 
   pub heard-all-entry : (gs : List Gossiped) → GoodGossipeds gs → (t : List ℕ) → checked t ≡ Sound → AllOctets t
       → length (newcomers t [] (gossipAddresses gs)) ≤ freeCount t → (b : List ℕ) → entryIn (heardAll date gs t) b ≡ entryHeard date gs b (entryIn t b)
@@ -56,7 +56,7 @@ module _ (date : ℕ) (d : date ≤ timeLimit) where
   heard-all-entry [] h t s o r b = refl
   heard-all-entry (g ∷ gs) h t s o r b =
       let k : Keeps (heard date (g .key)) = keeps t g (h .0) s o in
-      heard-all-entry gs (h .1) (put t (g .address) (heard date (g .key))) (heard-sound t g (h .0) s o) (heard-octets t g (h .0) s o)
+      heard-all-entry gs (h .1) (put t (g .address) (heard date (g .key))) (one-sound t g (h .0) s o) (one-octets t g (h .0) s o)
       (room-rest t (g .address) (gossipAddresses gs) r (h .0 .canonical) (gossip-canonical gs (h .1)) (h .0 .octets) (heard date (g .key)) k s o)
       b
       ∙ rw (put-entry t (g .address) (h .0 .canonical) (h .0 .octets) (heard date (g .key)) k s o (room-first t (g .address) (gossipAddresses gs) r) b)

@@ -2,28 +2,30 @@
 --     Keeps                          a change that keeps an entry good and its address
 --     keeps-updated, keeps-heard     the two changes of a message
 --     put-sound, put-octets          the table stays sound, and its octets octets
+--     keyless-sound .. heard-octets  the same for the changes of the three writers
 --     hasPlace                       an entry of its own, or a free slot
 --     put-own, put-other             the entry of the address, and any other
 --     put-entry                      both in one
 -- Assumes nothing.
 use Prim.Native.Nat.{ℕ, _<_, _≤_}
 use mathlib.Core.Path.{_≡_, refl, sym, ap, _∙_}
-use mathlib.Core.Bool.{Bool, true, false, _||_, _&&_, and-false, false≢true}
+use mathlib.Core.Bool.{Bool, true, false, _||_, and-false, false≢true}
 use mathlib.Core.Option.{Option, some, none}
 use mathlib.Core.List.{List}
 use native.Mathlib.Omega.{arith}
+use lib.ListN.{length}
 use Rattle.octets.specs.Octets.{AllOctets, sameOctets}
 use Rattle.octets.proofs.Comparing.{same-true}
 use Rattle.address.specs.Address.{isCanonical}
 use Rattle.address.proofs.Every.{by-test}
-use Rattle.slots.specs.Slot.{timeLimit, marked, addressOf}
+use Rattle.slots.specs.Slot.{timeLimit, keyLimit, marked, addressOf}
 use Rattle.slots.specs.Entry.{Direct, Entry, orElse, entryOf, slotOf, newcomer, seenBy, withDirect, withGossip, GoodKey, GoodHalf, Good}
 use Rattle.slots.proofs.Made.{slot-octets, slot-long, entry-back}
 use Rattle.slots.proofs.Goodness.{good-newcomer, good-seen-by, good-with-gossip}
 use Rattle.table.specs.Table.{slots, slotAt, withSlot, holds, found, lowestFree, isAt, checked}
 use Rattle.table.specs.Entries.{entryIn}
 use Rattle.table.specs.declared.Checked.the-variants.{Sound}
-use Rattle.table.specs.declared.Found.the-variants.{At, Nothing}
+use Rattle.table.specs.declared.Found.the-variants.{At}
 use Rattle.table.proofs.Slots.{slot-same}
 use Rattle.table.proofs.Finding.{found-at, found-address, free-at}
 use Rattle.table.proofs.Keeping.{table-sound, others-not, write-own}
@@ -188,3 +190,30 @@ module _ (t a : List ℕ) (c : isCanonical a ≡ true) (p : AllOctets a) where
         by-test (sameOctets a b)
         (λ q. let x : a ≡ b = same-true a b q in rw (entryPut, q, ← x) (put-own h))
         (λ q. rw (entryPut, q) (put-other b q))
+
+-- the changes of the three writers
+module _ (t a : List ℕ) (c : isCanonical a ≡ true) (p : AllOctets a) (s : checked t ≡ Sound) (o : AllOctets t) (date : ℕ) (h : date ≤ timeLimit) where
+  pub keyless-sound : checked (put t a (updated date none)) ≡ Sound
+  keyless-sound = put-sound t a c p (updated date none) (keeps-updated date h none tt) s o
+
+  pub keyless-octets : AllOctets (put t a (updated date none))
+  keyless-octets = put-octets t a c p (updated date none) (keeps-updated date h none tt) s o
+
+  module _ (key : List ℕ) (k₁ : 1 ≤ length key) (k₂ : length key ≤ keyLimit) (k₃ : AllOctets key) where
+    good-key : GoodKey key
+    good-key = record { some-octet = k₁; most = k₂; octets = k₃ }
+
+    keeps-keyed : (m : Bool) → Keeps (updated date (some (record { timestamp = date; key = key; «mutual» = m })))
+    keeps-keyed m = keeps-updated date h (some (record { timestamp = date; key = key; «mutual» = m })) (record { dated = refl; key = good-key })
+
+    pub keyed-sound : (m : Bool) → checked (put t a (updated date (some (record { timestamp = date; key = key; «mutual» = m })))) ≡ Sound
+    keyed-sound m = put-sound t a c p (updated date (some (record { timestamp = date; key = key; «mutual» = m }))) (keeps-keyed m) s o
+
+    pub keyed-octets : (m : Bool) → AllOctets (put t a (updated date (some (record { timestamp = date; key = key; «mutual» = m }))))
+    keyed-octets m = put-octets t a c p (updated date (some (record { timestamp = date; key = key; «mutual» = m }))) (keeps-keyed m) s o
+
+    pub heard-sound : checked (put t a (heard date key)) ≡ Sound
+    heard-sound = put-sound t a c p (heard date key) (keeps-heard date h key good-key) s o
+
+    pub heard-octets : AllOctets (put t a (heard date key))
+    heard-octets = put-octets t a c p (heard date key) (keeps-heard date h key good-key) s o

@@ -4,10 +4,10 @@
 --     newcomers-same                the newcomers of two tables that have the same addresses, the known ones counted in
 --     room-first, room-rest         the first address has its place, and the others have room behind it
 -- Assumes nothing.
-use Prim.Native.Nat.{ℕ, _+_, _<_, _≤_}
+use Prim.Native.Nat.{ℕ, _+_, _≤_}
 use mathlib.Core.Path.{_≡_, refl, sym, ap, _∙_}
-use mathlib.Core.Bool.{Bool, true, false, _||_, _&&_, or-false, or-true, or-assoc}
-use mathlib.Core.Option.{Option, some, none}
+use mathlib.Core.Bool.{Bool, true, false, _||_, or-false, or-true, or-assoc, false≢true}
+use mathlib.Core.Option.{Option}
 use mathlib.Core.List.{List, [], _∷_, _++_}
 use native.Mathlib.Omega.{arith}
 use lib.ListN.{length}
@@ -17,10 +17,9 @@ use Rattle.address.specs.Pieces.{every}
 use Rattle.address.specs.Address.{plain, canonical, isCanonical}
 use Rattle.address.proofs.Every.{and-left, and-right, by-test}
 use Rattle.list.specs.List.{among}
-use Rattle.slots.specs.Slot.{marked}
-use Rattle.slots.specs.Entry.{Entry, isPresent, orElse, entryOf, slotOf, newcomer}
+use Rattle.slots.specs.Entry.{Entry, isPresent, entryOf, newcomer}
 use Rattle.slots.proofs.Goodness.{good-newcomer}
-use Rattle.table.specs.Table.{slots, slotAt, withSlot, found, lowestFree, freeCount, isAt, checked}
+use Rattle.table.specs.Table.{slotAt, found, lowestFree, freeCount, isAt, checked}
 use Rattle.table.specs.Entries.{entryIn}
 use Rattle.table.specs.declared.Checked.the-variants.{Sound}
 use Rattle.table.specs.declared.Found.the-variants.{At, Nothing}
@@ -159,4 +158,4 @@ module _ (t a : List ℕ) (rest : List (List ℕ)) (r : length (newcomers t [] (
         (λ f. let h : isAt (lowestFree t) ≡ true = some-free t (omega (arith, one-more e)) in absurd (no-place f h)))
       where
         no-place : lowestFree t ≡ Nothing → isAt (lowestFree t) ≡ true → ⊥
-        no-place f h = mathlib.Core.Bool.false≢true (rw f at h)
+        no-place f h = false≢true (rw f at h)

@@ -6,8 +6,8 @@
 --     setting                         what `set_field` asks
 --     seeing, keying, hearing         what `update_keyless`, `update_with_key` and `hear` ask
 -- Assumes nothing.
-use Prim.Native.Nat.{ℕ, _<_, _≤_, max}
-use mathlib.Core.Path.{_≡_, refl, sym, ap, _∙_}
+use Prim.Native.Nat.{ℕ, _<_, _≤_}
+use mathlib.Core.Path.{_≡_, refl, sym, _∙_}
 use mathlib.Core.Bool.{Bool, true, false, not, _&&_}
 use mathlib.Core.Option.{Option, some, none}
 use mathlib.Core.List.{List}
@@ -23,7 +23,7 @@ use Rattle.octets.proofs.Lists.{given-octets}
 use Rattle.address.specs.Address.{isCanonical}
 use Rattle.slots.specs.declared.Slot.{Slot}
 use Rattle.slots.specs.Slot.{slotLength, timeLimit, keyLimit, hasDirect, hasGossip, isMutual, timestamp, gossipTimestamp, directKeyOf, gossipKeyOf, numbersOf, sound}
-use Rattle.slots.specs.Entry.{Direct, Gossip, Entry, present, orElse, entryOf, slotOf, seenBy, withDirect, withGossip, GoodKey, GoodDirect, Good}
+use Rattle.slots.specs.Entry.{Direct, Gossip, Entry, present, orElse, entryOf, slotOf, seenBy, withDirect, withGossip, GoodKey, Good}
 use Rattle.slots.proofs.Sounds.{sound-parts}
 use Rattle.slots.proofs.Entries.{slot-back}
 use Rattle.slots.proofs.Made.{slot-long, slot-sound, entry-back}
