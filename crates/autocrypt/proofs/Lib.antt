@@ -2,3 +2,4 @@ pub mod Writing
 pub mod Exactly
 pub mod Tables
 pub mod Recommending
+pub mod ExactlyRecommending

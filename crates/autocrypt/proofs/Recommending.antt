@@ -143,7 +143,7 @@ pub ruleset recommending = (table-answered, table-taken, list-answered, list-giv
 pub ruleset parting = (table-empty, table-taken, list-empty, list-given, part-answered, needs)
 
 -- `target_key`: without a refusal the table is sound
-by-refusal : {P : Type 0} (o : Option Refusal) → ((r : Refusal) → o ≡ some r → P) → (o ≡ none → P) → P
+pub by-refusal : {P : Type 0} (o : Option Refusal) → ((r : Refusal) → o ≡ some r → P) → (o ≡ none → P) → P
 by-refusal (some r) a b = a r refl
 by-refusal none a b = b refl
 

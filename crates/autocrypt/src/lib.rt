@@ -11,10 +11,10 @@ ghost use Rattle.autocrypt.specs.Writing.{autocryptField, gossipField, w
 ghost use Rattle.list.specs.List.{addresses};
 ghost use Rattle.advice.specs.Places.{octetsAt};
 ghost use Rattle.autocrypt.specs.Recommending.{recipientList, recommendedOf, targetPartOf, targetKeyOf};
-use slots::Slot;
-use list::Counted;
 pub use advice::Advice;
 pub use advice::Part;
+use list::Counted;
+use slots::Slot;
 
 // Why a call refuses, named for the rows of "Refusal numbers", in their order.
 pub enum Refusal {
@@ -190,7 +190,13 @@ pub fn target_part(table: &[u8], recipients: &[u8], mutual: bool, reply: bool, p
 }
 
 // That key as a part of the lent table.
-pub fn target_key<'a>(table: &'a [u8], recipients: &[u8], mutual: bool, reply: bool, place: usize) -> &'a [u8]
+pub fn target_key<'a>(
+    table: &'a [u8],
+    recipients: &[u8],
+    mutual: bool,
+    reply: bool,
+    place: usize,
+) -> &'a [u8]
     ensures { λ r. ⌜ now r ≡ targetKeyOf (now (table .entry)) (now (recipients .entry)) place ⌝ }
     ensures { λ r. ⌜ now r ≡ octetsAt (now (table .entry)) (targetPartOf (now (table .entry)) (now (recipients .entry)) place) ⌝ }
 {

@@ -5,3 +5,4 @@ pub mod Finding
 pub mod Keeping
 mod Worked
 pub mod Entries
+pub mod Broken
