@@ -3,3 +3,4 @@ pub mod Exactly
 pub mod Tables
 pub mod Recommending
 pub mod ExactlyRecommending
+pub mod SameEntries
