@@ -5,3 +5,5 @@ pub mod Finding
 pub mod Keeping
 pub mod Replaced
 mod Worked
+pub mod Entries
+pub mod Broken
