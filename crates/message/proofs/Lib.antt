@@ -4,4 +4,5 @@ pub mod Dating
 pub mod Reporting
 pub mod Texts
 pub mod Sending
+pub mod Gathering
 pub mod Worked
