@@ -4,6 +4,7 @@ use mathlib.Core.Path.{_≡_}
 use lib.ListN.{length}
 use Rattle.message.proofs.recipients.Statement.{statement}
 use Rattle.message.proofs.recipients.Tie as tie
+use borrow.Author.Needs.{needs}
 use Rattle.message.proofs.Gathering.{Gathering, rolling}
 
 abbrev Inv-loop : tie.InvT-loop
@@ -49,7 +50,7 @@ loop-less : tie.Need-loop-less Inv-loop μ-loop
 loop-less c = search rolling
 
 loop-again : tie.Need-loop-again Inv-loop μ-loop
-loop-again c = search rolling
+loop-again c = (search rolling, search needs)
 
 enum-told : tie.Need-enum-told Inv-loop μ-loop
 enum-told c = search rolling
