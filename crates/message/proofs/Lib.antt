@@ -1,0 +1,8 @@
+pub mod Asking
+pub mod Single
+pub mod Dating
+pub mod Reporting
+pub mod Texts
+pub mod Sending
+pub mod Gathering
+pub mod Worked
