@@ -58,7 +58,7 @@ module _ (h : Handed) (at : ℕ) where
 pub ruleset going-on = (behind-over, behind-broken, behind-field, needs)
 
 -- where the reader stays, all that comes after is the same
-stays : (k : ℕ) (s : List ℕ) (at : ℕ) (h : Handed) → h ≡ handedAt s at → at ≡ placeBehind h at → h ≡ handedAfter k s at
+pub stays : (k : ℕ) (s : List ℕ) (at : ℕ) (h : Handed) → h ≡ handedAt s at → at ≡ placeBehind h at → h ≡ handedAfter k s at
 unfolding handedAfter
 stays zero s at h t p = t
 stays (suc k) s at h t p = rw (handedAfter, ← t, ← p) (stays k s at h t p)
