@@ -4,22 +4,18 @@
 --     Ahead s at k i l               what comes after k others from the place `at` on comes after l others from i on
 --     ahead-begin .. ahead-next      the steps of a loop over the fields
 --     handed-places                  how the places of a field that is handed out lie
---     number-text                    of a readable block it is the field of that number
 -- Assumes nothing.
 use Prim.Native.Nat.{ℕ, zero, suc, _+_, _-_}
 use mathlib.Core.Path.{_≡_, refl, sym, ap, _∙_, subst}
-use mathlib.Core.List.{List, [], _∷_}
-use mathlib.Core.Option.{Option, some, none}
+use mathlib.Core.List.{List}
 use native.Mathlib.Omega.{arith}
 use native.Mathlib.Numerals.{add-one}
 use borrow.Author.Needs.{needs}
-use Rattle.header.specs.Header.{FieldText, inFront}
-use Rattle.header.specs.Answers.{fieldsFrom, stepAt, fieldAt}
+use Rattle.header.specs.Answers.{stepAt}
 use Rattle.header.specs.declared.Step.{Step}
 use Rattle.header.specs.declared.Step.the-variants as step
 use Rattle.header.proofs.Stepping.{Places, field-places}
-use Rattle.header.proofs.Fields.{from-over, from-broken, from-field}
-use Rattle.reader.specs.Reading.{handed, handedAt, placeBehind, handedAfter, textOf, fieldOf}
+use Rattle.reader.specs.Reading.{handed, handedAt, placeBehind, handedAfter}
 use Rattle.reader.specs.declared.Handed.{Handed}
 use Rattle.reader.specs.declared.Handed.the-variants.{Over, Broken, Field}
 

@@ -8,7 +8,7 @@
 use Prim.Native.Nat.{ℕ, zero, suc}
 use mathlib.Core.Path.{_≡_, refl, sym, ap, _∙_, subst}
 use mathlib.Core.Bool.{true}
-use mathlib.Core.List.{List, [], _∷_}
+use mathlib.Core.List.{List, []}
 use mathlib.Core.Option.{Option, some, none}
 use native.Mathlib.Omega.{arith}
 use Rattle.header.specs.Header.{FieldText, inFront, fieldsOf, isSome}
@@ -16,7 +16,7 @@ use Rattle.header.specs.Answers.{fieldsFrom, stepAt, fieldAt}
 use Rattle.header.specs.declared.Step.{Step}
 use Rattle.header.specs.declared.Step.the-variants as step
 use Rattle.header.proofs.Fields.{from-over, from-broken, from-field, fields-fit, clear-fits}
-use Rattle.reader.specs.Reading.{handedAt, placeBehind, handedAfter, textOf, fieldOf}
+use Rattle.reader.specs.Reading.{handedAfter, textOf, fieldOf}
 use Rattle.reader.specs.declared.Handed.{Handed}
 use Rattle.reader.specs.declared.Handed.the-variants.{Over, Broken, Field}
 use Rattle.reader.proofs.Handing.{out-over, out-broken, out-field, behind-over, behind-broken, behind-field, stays}

@@ -116,7 +116,7 @@ impl<'a> Reader<'a> {
     }
 }
 
-// The field of the number `k`, from 0, of a block.
+// The field of the number `k`, from 0, of a block: what a reader at its beginning hands out after `k` others.
 pub fn field_number(block: &[u8], k: usize) -> Handed
     ensures { λ r. ⌜ r ≡ handedAfter k (now (block .entry)) 0 ⌝ }
 {
