@@ -22,7 +22,7 @@
 enum { FIELD_ROOM = 4096, CASES_LIMIT = 256, TAKE = 1 };
 
 static const uint64_t receipt = 1700000000; /* also in messages.py */
-static const double window_seconds = 0.004; /* at least so long is one measurement */
+static const double window_seconds = 0.003; /* at least so long is one measurement */
 
 /* Memory */
 
@@ -210,6 +210,7 @@ struct row {
     const char *program;
     round_of *round;
     uint8_t *table; /* this row's own */
+    long rounds;    /* that fill a window */
     double best;
 };
 
@@ -219,7 +220,7 @@ static int row_count;
 static void add_row(const struct one_case *one, const struct library *library, const char *program, round_of *round) {
     struct row *row = &rows[row_count++];
     size_t room = one->table.n > FIELD_ROOM ? one->table.n : FIELD_ROOM;
-    *row = (struct row){one, library, program, round, reserve(room), -1};
+    *row = (struct row){one, library, program, round, reserve(room), 1, -1};
     memset(row->table, 0, room);
     memcpy(row->table, one->table.s, one->table.n);
 }
@@ -346,16 +347,15 @@ static double now(void) {
     return (double)t.tv_sec + (double)t.tv_nsec * 1e-9;
 }
 
-/* Nanoseconds a call, over a window that is long enough. */
-static double window(const struct row *row) {
-    long rounds = 1;
+/* Nanoseconds a call, over a window that is long enough; how many rounds that takes is remembered for the next pass. */
+static double window(struct row *row) {
     row->round(row->one, row->library, row->table);
     for (;;) {
         double began = now();
-        for (long i = 0; i < rounds; i++) row->round(row->one, row->library, row->table);
+        for (long i = 0; i < row->rounds; i++) row->round(row->one, row->library, row->table);
         double took = now() - began;
-        if (took >= window_seconds) return took * 1e9 / (double)rounds / (double)row->one->count;
-        rounds = took < window_seconds / 16 ? rounds * 8 : rounds * 2;
+        if (took >= window_seconds) return took * 1e9 / (double)row->rounds / (double)row->one->count;
+        row->rounds = took < window_seconds / 16 ? row->rounds * 8 : row->rounds * 2;
     }
 }
 

@@ -3,7 +3,7 @@
 run.py --smoke: every program once on few messages, no times; the last line is 'N passed, M failed'.
 
 The inputs are made by messages.py, the C programs are measured by measure.c, Python's here; the passes of both take turns
-and the best one counts. All times are CPU time. Everything is written below build/bench/; with --record the tables also go
+(three of C, one of Python) and the best one counts. All times are CPU time. Everything is written below build/bench/; with --record the tables also go
 into README.md and the plots beside it.
 """
 import argparse
@@ -173,8 +173,8 @@ def measure(data: Path, passes: int) -> Times:
     def keep(row: tuple[str, str], took: float) -> None:
         best[row] = min(took, best.get(row, took))
 
-    for turn in range(passes):
-        found = subprocess.run([BUILD / "measure", data, "1"], check=True, cwd=ROOT, text=True, stdout=subprocess.PIPE,
+    for turn in range(passes // 3):
+        found = subprocess.run([BUILD / "measure", data, "3"], check=True, cwd=ROOT, text=True, stdout=subprocess.PIPE,
                                stderr=None if turn == 0 else subprocess.DEVNULL)
         for line in found.stdout.splitlines():
             name, program, took = line.split("\t")
@@ -428,10 +428,12 @@ def smoke(data: Path) -> int:
 
 def main() -> int:
     words = argparse.ArgumentParser(description="The side-by-side measurement.")
-    words.add_argument("--passes", type=int, default=7, help="interleaved passes, of which the best counts")
+    words.add_argument("--passes", type=int, default=15, help="interleaved passes, of which the best counts; a multiple of 3")
     words.add_argument("--record", action="store_true", help="put tables and plots into bench/")
     words.add_argument("--smoke", action="store_true", help="every program once, no times")
     given = words.parse_args()
+    if given.passes < 3 or given.passes % 3 != 0:
+        words.error("the passes are a multiple of 3")
     if given.smoke:
         return smoke(BUILD / "smoke")
     report(BUILD / "data", given.passes, given.record)
