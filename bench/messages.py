@@ -170,7 +170,7 @@ class Maker:
 
     def ordinary(self) -> tuple[bytes, bytes]:
         """3 to 8 KB with a key."""
-        return self.message(True, self.random.randint(4096, 8192))
+        return self.message(True, self.random.randint(3072, 8192))
 
     def gossiping(self, known: list[bytes], fields: int) -> tuple[bytes, bytes]:
         """A message with a key, and a payload with gossip about each recipient."""
