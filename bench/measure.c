@@ -5,8 +5,9 @@
  * disturbance of the machine meets them alike, and the best pass is printed: case, program, nanoseconds of CPU time a call.
  * A program that is not there (a call that the library does not have yet, GMime) is named on standard error.
  *
- * With --smoke nothing is measured and the counts are printed. With --count each case is run once inside the function
- * counted_window, whose instructions callgrind counts; the order of the cases is printed. */
+ * With --smoke nothing is measured and the counts are printed. With --count each case but the hostile ones, which take
+ * long there, is run once inside the function counted_window, whose instructions callgrind counts; the order of the cases is
+ * printed. */
 #define _POSIX_C_SOURCE 200809L
 #include <dlfcn.h>
 #include <stdio.h>
@@ -375,6 +376,7 @@ __attribute__((noinline)) void counted_window(const struct row *row) { row->roun
 static void count(void) {
     void (*volatile counted)(const struct row *) = counted_window;
     for (int i = 0; i < row_count; i++) {
+        if (strncmp(rows[i].one->name, "hostile", 7) == 0) continue;
         rows[i].round(rows[i].one, rows[i].library, rows[i].table);
         counted(&rows[i]);
         printf("%s\t%s\t%u\n", rows[i].one->name, rows[i].program, (unsigned)rows[i].one->count);

@@ -52,6 +52,8 @@ HOSTILE = {
 }
 NAMES = {"ours": "ours", "peer": "C peer", "peer3": "C peer, -O3", "gmime": "GMime", "read": "plain read", "memcpy": "memcpy"}
 
+COLOURS = {"ours": "#9400d3", "peer": "#009e73", "gmime": "#e69f00", "read": "#56b4e9"}
+
 Times = dict[tuple[str, str], float]
 
 
@@ -297,8 +299,8 @@ def targets(times: Times) -> str:
         aim("check of the whole table: ours / plain read", used, between(f"check.{used}", "ours", "read"), 2, True)
     for used in SIZES:
         aim("recommend, 20 recipients: ours / C peer", used, between(f"recommend-20.{used}", "ours", "peer"), 2, True)
-    aim("process with a key: `email` (compat32, its quicker form) / ours through Python", 16,
-        between("key.16", "email-compat", "ours-python"), 20, False)
+    for form, program in (("compat32, its quicker form", "email-compat"), ("its recommended policy", "email")):
+        aim(f"process with a key: `email` ({form}) / ours through Python", 16, between("key.16", program, "ours-python"), 20, False)
     return markdown(["target", "slots", "wanted", "measured", ""], rows)
 
 
@@ -310,6 +312,18 @@ def fit(points: list[tuple[float, float]]) -> tuple[float, float]:
     return slope, mean_y - slope * mean_x
 
 
+def slope_in_words(points: list[tuple[float, float]], unit: str) -> str:
+    """Start and slope of a straight line; both slopes where the upper half is steeper by more than a half (a square would
+    make it three times as steep)."""
+    half = min(range(1, len(points) - 1), key=lambda i: abs(points[i][0] - points[-1][0] / 2))
+    (lower, _), (upper, _) = fit(points[:half + 1]), fit(points[half:])
+    if upper > lower * 3 / 2:
+        return (f"bent, {short(lower)} ns each {unit} up to {points[half][0]:,.0f} and {short(upper)} ns above"
+                f" ({short(points[-1][1] / 1000)} µs at {points[-1][0]:,.0f})")
+    slope, start = fit(points)
+    return f"straight, {short(max(start, 0) / 1000)} µs + {short(slope)} ns each {unit}"
+
+
 def growth(cases: list[Case], times: Times) -> tuple[str, dict[str, dict[str, list[tuple[float, float]]]]]:
     """A sentence on each slope, and the points of the plots."""
     sentences, plots = [], {}
@@ -319,15 +333,15 @@ def growth(cases: list[Case], times: Times) -> tuple[str, dict[str, dict[str, li
         for program in ("ours", "peer", "gmime", "read"):
             points = sorted((float(case.octets if unit == "octet" else case.number), times[case.name, program])
                             for case in cases if case.group == group and (case.name, program) in times)
+            if points:
+                plots[group][program] = points
             if not points:
                 if program == "ours":
                     parts.append("ours not measured")
-                continue
-            plots[group][program] = points
-            slope, start = fit(points)
-            half = min(points, key=lambda point: abs(point[0] - points[-1][0] / 2))
-            parts.append(f"{NAMES[program]} {short(start / 1000)} µs + {short(slope)} ns each {unit}"
-                         f" ({half[0]:,.0f} to {points[-1][0]:,.0f}: times {short(points[-1][1] / half[1])})")
+            elif program == "gmime" and unit == "slot":
+                parts.append(f"GMime keeps no table, {short(min(took for _, took in points) / 1000)} µs")
+            else:
+                parts.append(f"{NAMES[program]} {slope_in_words(points, unit)}")
         sentences.append(f"- Cost against {words}: " + "; ".join(parts) + ".")
     for group, words in HOSTILE.items():
         for case in cases:
@@ -353,8 +367,8 @@ def plot(plots: dict[str, dict[str, list[tuple[float, float]]]]) -> list[Path]:
         for program, points in series.items():
             file = BUILD / f"{group}.{program}.dat"
             file.write_text("".join(f"{x} {y / 1000}\n" for x, y in points))
-            lines.append(f"'{file}' using 1:2 with linespoints linewidth 2 title '{NAMES[program]}'")
-        script = (f"set terminal png size 800,500\nset output '{picture}'\nset key left top\nset grid\nset xrange [0:*]\n"
+            lines.append(f"'{file}' using 1:2 with linespoints linewidth 2 linecolor '{COLOURS[program]}' title '{NAMES[program]}'")
+        script = (f"set terminal png size 800,500\nset output '{picture}'\nset key below\nset grid\nset xrange [0:*]\n"
                   f"set yrange [0:*]\nset xlabel '{GROWTHS[group][0]}'\nset ylabel 'microseconds a call'\nplot "
                   + ", ".join(lines) + "\n")
         subprocess.run(["gnuplot"], input=script, text=True, check=True)
