@@ -93,9 +93,9 @@ module _ (kind : Kind) (s : List ℕ) (at : ℕ) where
       seek-found y =
           record {
             first =
-              h .same
-              ∙ ap (λ (o : Option (List FieldText)). valuesOf kind (readFields o)) front
-              ∙ values-in kind (fieldAt s place n v e) (fieldsFrom s e) (sym u ∙ y) clear-behind;
+                h .same
+                ∙ ap (λ (o : Option (List FieldText)). valuesOf kind (readFields o)) front
+                ∙ values-in kind (fieldAt s place n v e) (fieldsFrom s e) (sym u ∙ y) clear-behind;
             order = lies .behind;
             later = omega (arith, h .behind, lies);
             upto = lies .upto;
@@ -107,9 +107,9 @@ module _ (kind : Kind) (s : List ℕ) (at : ℕ) where
       seek-next y =
           record {
             same =
-              h .same
-              ∙ ap (λ (o : Option (List FieldText)). valuesOf kind (readFields o)) front
-              ∙ values-out kind (fieldAt s place n v e) (fieldsFrom s e) (sym u ∙ y);
+                h .same
+                ∙ ap (λ (o : Option (List FieldText)). valuesOf kind (readFields o)) front
+                ∙ values-out kind (fieldAt s place n v e) (fieldsFrom s e) (sym u ∙ y);
             clear = clear-behind;
             behind = omega (arith, h .behind, lies);
           }
@@ -140,6 +140,10 @@ module _ (kind : Kind) (s : List ℕ) (at : ℕ) (k : Named) (p : NamedAs kind s
     pub named-fits : (room : ℕ) → length s ≤ room → length (take (e - v) (drop v s)) ≤ room
     named-fits room h = simp (length-take, length-drop) (omega arith)
 
+    -- a text that was written to is as long as it came
+    pub named-fits-kept : (d text : List ℕ) → length s ≤ length d → length text ≡ length d → length (take (e - v) (drop v s)) ≤ length text
+    named-fits-kept d text h l = named-fits (length text) (omega arith)
+
     pub named-less : length s - e < length s - at
     named-less = omega (arith, named .later, named .upto)
 
@@ -147,4 +151,4 @@ module _ (kind : Kind) (s : List ℕ) (at : ℕ) (k : Named) (p : NamedAs kind s
   unfolding NamedAs
   named-none q = rw q at p
 
-pub ruleset finding = (named-order, named-upto, named-readable, named-fits, named-less)
+pub ruleset finding = (named-order, named-upto, named-readable, named-fits, named-fits-kept, named-less)
