@@ -5,3 +5,9 @@ pub mod Reporting
 pub mod Texts
 pub mod Sending
 pub mod Worked
+pub mod Keys
+pub mod Trying
+pub mod Counting
+pub mod Accepting
+pub mod Hearing
+pub mod WorkedFields
