@@ -1,7 +1,7 @@
 -- One gossip field: by what the field says, its canonical address, and whether the roll of recipients holds it.
---     by-field, by-none                what is accepted, by the field
---     accept-spoiled .. accept-not     the answer
---     accepted-is .. accepted-none     what a caller asks of the answer
+--     by-none, by-listed, by-other     what is accepted, by the field
+--     accept-within                    where the address stands
+--     accept-spoiled .. accept-listed  the answer
 -- Assumes nothing.
 use Prim.Native.Nat.{ℕ, _-_, _≤_}
 use mathlib.Core.Path.{_≡_, refl, sym, ap, _∙_}
@@ -48,14 +48,17 @@ module _ (recipients : List (List ℕ)) where
     unfolding acceptedBy
     by-other e = rw (acceptedBy, e)
 
-module _ (recipients : List (List ℕ)) (s old : List ℕ) (r : Read) (a : Answered s (length old) r) where
-  pub accept-spoiled : (address key : List ℕ) → r ≡ Spoiled → AcceptedAs (acceptedBy recipients (fieldOf s)) address key NotAccepted
+module _ (s old : List ℕ) (r : Read) (a : Answered s (length old) r) where
+  pub accept-spoiled :
+      (recipients : List (List ℕ)) (address key : List ℕ) → r ≡ Spoiled → AcceptedAs (acceptedBy recipients (fieldOf s)) address key NotAccepted
   unfolding AcceptedAs
-  accept-spoiled address key q = ap (acceptedBy recipients) (told-spoiled s (length old) r a q) ∙ by-none recipients
+  accept-spoiled recipients address key q = ap (acceptedBy recipients) (told-spoiled s (length old) r a q) ∙ by-none recipients
 
   -- there is room
-  pub accept-crowded : (address key : List ℕ) → keyLimit ≤ length old → r ≡ NoRoom → AcceptedAs (acceptedBy recipients (fieldOf s)) address key NotAccepted
-  accept-crowded address key l q = absurd (never-crowded s (length old) r a l q)
+  pub accept-crowded :
+      (recipients : List (List ℕ)) (address key : List ℕ) → keyLimit ≤ length old → r ≡ NoRoom
+      → AcceptedAs (acceptedBy recipients (fieldOf s)) address key NotAccepted
+  accept-crowded recipients address key l q = absurd (never-crowded s (length old) r a l q)
 
   module _ (from to : ℕ) (m : Bool) (l : ℕ) (q : r ≡ Valid from to m l) where
     abbrev named : List ℕ
@@ -67,8 +70,9 @@ module _ (recipients : List (List ℕ)) (s old : List ℕ) (r : Read) (a : Answe
 
     module _ (room : List ℕ) (h : addressRoom ≤ length room) (w : Written) (u : w ≡ writtenOf (canonical (take (to - from) (drop from s))) (length room)) where
       -- there is room
-      pub accept-no-room : (address key : List ℕ) → w ≡ NoAddressRoom → AcceptedAs (acceptedBy recipients (fieldOf s)) address key NotAccepted
-      accept-no-room address key y = absurd (omega (arith, written-no-room named (length room) (sym y ∙ u), fits (length room) h))
+      pub accept-no-room :
+          (recipients : List (List ℕ)) (address key : List ℕ) → w ≡ NoAddressRoom → AcceptedAs (acceptedBy recipients (fieldOf s)) address key NotAccepted
+      accept-no-room recipients address key y = absurd (omega (arith, written-no-room named (length room) (sym y ∙ u), fits (length room) h))
 
       module _ (n : ℕ) (y : w ≡ Length n) (address : List ℕ) (z : address ≡ ontoIfFits (canonical (take (to - from) (drop from s))) room) where
         long : n ≡ length named
@@ -80,7 +84,8 @@ module _ (recipients : List (List ℕ)) (s old : List ℕ) (r : Read) (a : Answe
         pub accept-within : n ≤ length address
         accept-within = value-within named room address n long written
 
-        module _ (key : List ℕ) (left : key ≡ leftIn (keyIn (fieldOf s)) old) (b : Bool) (listed : b ≡ among (take (n - 0) (drop 0 address)) recipients) where
+        module _ (recipients : List (List ℕ)) (key : List ℕ) (left : key ≡ leftIn (keyIn (fieldOf s)) old)
+            (b : Bool) (listed : b ≡ among (take (n - 0) (drop 0 address)) recipients) where
           field : Holds s named key m l
           field = read-valid s old key r a left from to m l q
 

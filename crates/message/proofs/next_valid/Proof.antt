@@ -73,7 +73,7 @@ loop-less : tie.Need-loop-less Inv-loop μ-loop
 loop-less c = search trying
 
 loop-again : tie.Need-loop-again Inv-loop μ-loop
-loop-again c = search trying
+loop-again c = (search trying, search trying, search trying)
 
 enum-told : tie.Need-enum-told Inv-loop μ-loop
 enum-told c = search trying
@@ -82,7 +82,7 @@ loop-less-2 : tie.Need-loop-less-2 Inv-loop μ-loop
 loop-less-2 c = search trying
 
 loop-again-2 : tie.Need-loop-again-2 Inv-loop μ-loop
-loop-again-2 c = search trying
+loop-again-2 c = (search trying, search trying, search trying)
 
 enum-told-2 : tie.Need-enum-told-2 Inv-loop μ-loop
 enum-told-2 c = search trying
@@ -91,7 +91,7 @@ loop-less-3 : tie.Need-loop-less-3 Inv-loop μ-loop
 loop-less-3 c = search trying
 
 loop-again-3 : tie.Need-loop-again-3 Inv-loop μ-loop
-loop-again-3 c = search trying
+loop-again-3 c = (search trying, search trying, search trying)
 
 enum-told-3 : tie.Need-enum-told-3 Inv-loop μ-loop
 enum-told-3 c = search trying
