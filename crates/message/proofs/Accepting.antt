@@ -106,9 +106,9 @@ module _ (s old : List ℕ) (r : Read) (a : Answered s (length old) r) where
           accept-listed t =
               record {
                 is =
-                  ap (acceptedBy recipients) (field .is)
-                  ∙ by-listed recipients (record { address = named; isMutual = m; key = take l key }) (sym tested ∙ t)
-                  ∙ ap some (λ i. record { address = sym there i; key = take l key });
+                    ap (acceptedBy recipients) (field .is)
+                    ∙ by-listed recipients (record { address = named; isMutual = m; key = take l key }) (sym tested ∙ t)
+                    ∙ ap some (λ i. record { address = sym there i; key = take l key });
                 canonical = rw there (field .canonical);
                 address-within = accept-within;
                 some-octet = field .some-octet;

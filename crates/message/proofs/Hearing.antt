@@ -82,13 +82,13 @@ module _ (recipients : List (List ℕ)) (s : List ℕ) (at place : ℕ) (k : Nam
         let g : AcceptedAt (acceptedBy recipients (fieldOf (valueAt s v e))) address key l m = rw y at answered in
         record {
           first =
-            first
-            ∙ accepted-next
-            recipients
-            (valueAt s v e)
-            (valuesFrom AutocryptGossip s e)
-            (record { address = take l address; key = take m key })
-            (g .is);
+              first
+              ∙ accepted-next
+              recipients
+              (valueAt s v e)
+              (valuesFrom AutocryptGossip s e)
+              (record { address = take l address; key = take m key })
+              (g .is);
           canonical = g .canonical;
           address-within = g .address-within;
           some-octet = g .some-octet;

@@ -53,14 +53,14 @@ module _ (s d key : List ℕ) (r : Read) (a : Answered s (length d) r) (left : k
   read-valid =
       record {
         is =
-          told .is
-          ∙ ap some
-          (λ i.
-          record {
-            address = sym (told .address) i;
-            isMutual = sym (told .isMutual) i;
-            key = sym (value-there (field .key) d key n (told .long) holds) i;
-          });
+            told .is
+            ∙ ap some
+            (λ i.
+            record {
+              address = sym (told .address) i;
+              isMutual = sym (told .isMutual) i;
+              key = sym (value-there (field .key) d key n (told .long) holds) i;
+            });
         canonical = rw (told .address) (field-canonical s field (told .is));
         some-octet = omega (arith, told .long, field-least s field (told .is));
         most = omega (arith, told .long, field-most s field (told .is));

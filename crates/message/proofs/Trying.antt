@@ -79,8 +79,8 @@ module _ (sender s : List ℕ) (at place : ℕ) (k : Named) (h : Trying sender s
       try-spoiled y = skip (naming-spoiled sender (valueAt s v e) (told-spoiled (valueAt s v e) (length old) r answered y))
 
       -- there is room
-      pub try-crowded : keyLimit ≤ length old → r ≡ NoRoom → Trying sender s at e
-      try-crowded l y = absurd (never-crowded (valueAt s v e) (length old) r answered l y)
+      pub try-crowded : (lent : List ℕ) → keyLimit ≤ length lent → length old ≡ length lent → r ≡ NoRoom → Trying sender s at e
+      try-crowded lent l g y = absurd (never-crowded (valueAt s v e) (length old) r answered (omega (arith, l, g)) y)
 
       module _ (from to : ℕ) (m : Bool) (l : ℕ) (y : r ≡ ValidField from to m l) where
         pub try-from : from ≤ to
@@ -119,18 +119,18 @@ module _ (sender s : List ℕ) (at place : ℕ) (k : Named) (h : Trying sender s
               let same : named ≡ sender = same-true named sender (sym alike ∙ z) in
               record {
                 first =
-                  first
-                  ∙ valid-next
-                  sender
-                  (valueAt s v e)
-                  (valuesFrom Autocrypt s e)
-                  (record { address = sender; isMutual = m; key = take l key })
-                  (naming-sender
-                  sender
-                  (valueAt s v e)
-                  (record { address = sender; isMutual = m; key = take l key })
-                  (rw same at (field .is))
-                  refl);
+                    first
+                    ∙ valid-next
+                    sender
+                    (valueAt s v e)
+                    (valuesFrom Autocrypt s e)
+                    (record { address = sender; isMutual = m; key = take l key })
+                    (naming-sender
+                    sender
+                    (valueAt s v e)
+                    (record { address = sender; isMutual = m; key = take l key })
+                    (rw same at (field .is))
+                    refl);
                 some-octet = field .some-octet;
                 most = field .most;
                 within = field .within;
