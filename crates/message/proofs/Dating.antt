@@ -1,5 +1,6 @@
 -- The Date: by the one Date field and what it reads as.
 --     dated-by, dated-none     the answer
+--     date-effective           what a caller has of it: the effective date
 -- Assumes nothing.
 use Prim.Native.Nat.{ℕ, _-_}
 use mathlib.Core.Path.{_≡_, sym, ap, _∙_}
@@ -8,13 +9,16 @@ use mathlib.Core.Option.{Option, some, none}
 use borrow.Author.Needs.{needs}
 use lib.ListN.{length, take, drop}
 use Rattle.octets.specs.Written.{onto}
+use Rattle.header.specs.Header.{FieldText}
 use Rattle.header.proofs.Unfolding.{value-within, value-there-from}
-use Rattle.date.specs.Date.{dateOf}
-use Rattle.date.specs.Answers.{datedOf}
+use Rattle.date.specs.Date.{dateOf, effectiveDate}
+use Rattle.date.specs.Answers.{datedOf, optionOf}
 use Rattle.date.specs.declared.Dated.{Dated}
 use Rattle.date.specs.declared.Dated.the-variants.{Unavailable}
-use Rattle.message.specs.Message.{dateBy}
+use Rattle.date.proofs.Effective.{option-dated}
+use Rattle.message.specs.Message.{valuesOf, onlyValue, dateBy, dateIn}
 use Rattle.message.specs.Answers.{valueAt, valueIn}
+use Rattle.message.specs.declared.Kind.the-variants.{Date}
 use Rattle.message.specs.declared.Only.{Only}
 use Rattle.message.specs.declared.Only.the-variants.{One, Other}
 use Rattle.message.proofs.Single.{value-is, value-none, valued}
@@ -31,3 +35,10 @@ module _ (s : List ℕ) (k : Only) (o : Option (List ℕ)) (p : valueIn s k ≡ 
   dated-by v e q text d n c t r h = h ∙ rw (value-there-from (valueAt s v e) d text n c t, value-is s k v e q o p)
 
 pub ruleset dating = (dated-none, dated-by, value-within, valued, needs)
+
+pub date-effective :
+    (fs : List FieldText) (receipt : ℕ) (r : Dated) → r ≡ datedOf (dateBy (onlyValue (valuesOf Date fs))) → effectiveDate (optionOf r) receipt ≡ dateIn fs receipt
+unfolding dateIn
+date-effective fs receipt r h =
+    let o : Option ℕ = dateBy (onlyValue (valuesOf Date fs)) in
+    ap (λ (d : Option ℕ). effectiveDate d receipt) (ap optionOf h ∙ option-dated o)

@@ -4,6 +4,7 @@ pub mod Dating
 pub mod Reporting
 pub mod Texts
 pub mod Sending
+pub mod Gathering
 pub mod Worked
 pub mod Keys
 pub mod Trying

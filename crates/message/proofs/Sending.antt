@@ -1,5 +1,5 @@
 -- The sender: by the one From field, the one address in it, and its canonical form.
---     sender-some .. sender-octets     what a sender is: the canonical form of a plain address
+--     sender-canonical .. sender-octets     what a sender is: the canonical form of a plain address
 --     sent-..                          the answer, and what is left in the lent memory, by the answers of the code's three calls
 --     answer-some .. left-open         what a caller reads off the answer
 -- Assumes nothing.
@@ -11,23 +11,28 @@ use mathlib.Core.Option.{Option, some, none}
 use native.Mathlib.Omega.{arith}
 use borrow.Author.Needs.{needs}
 use lib.ListN.{length, take, drop}
+use Rattle.octets.specs.Octets.{AllOctets}
 use Rattle.octets.specs.Written.{onto}
 use Rattle.address.specs.Address.{plain, canonical, isCanonical}
 use Rattle.address.specs.Answers.{writtenOf, ontoIfFits}
 use Rattle.address.specs.declared.Written.{Written}
 use Rattle.address.specs.declared.Written.the-variants.{Length, NoRoom}
 use Rattle.address.proofs.Room.{written-length, written-no-room, onto-fits}
-use Rattle.address.proofs.Spelling.{plain-is-canonical, canonical-most}
-use Rattle.header.specs.Header.{FieldText}
+use Rattle.address.proofs.Every.{by-test}
+use Rattle.address.proofs.Spelling.{plain-is-canonical, canonical-most, canonical-octets}
+use Rattle.header.specs.Header.{FieldText, fieldsOf}
+use Rattle.header.proofs.Octetwise.{ValuesOctets, block-octets}
 use Rattle.header.proofs.Unfolding.{value-within, value-there, value-there-from}
 use Rattle.list.specs.List.{addresses}
 use Rattle.list.specs.Answers.{onlyOf, onlyIn, Within}
 use Rattle.list.specs.declared.Only.{Only as ListOnly}
 use Rattle.list.specs.declared.Only.the-variants.{One as OneAddress, Other as NoOne}
 use Rattle.list.proofs.Readable.{only-some, readable-at}
+use Rattle.list.proofs.Octetwise.{EachOctets, only-octets}
 use Rattle.slots.specs.Slot.{addressRoom}
-use Rattle.message.specs.Message.{valuesOf, onlyValue, canonicalOf, senderBy, senderIn}
+use Rattle.message.specs.Message.{readFields, fieldsIn, isKind, valuesOf, onlyValue, canonicalOf, senderBy, senderIn}
 use Rattle.message.specs.Answers.{valueAt, valueIn, senderOf, leftBySender}
+use Rattle.message.specs.declared.Kind.{Kind}
 use Rattle.message.specs.declared.Kind.the-variants.{From}
 use Rattle.message.specs.declared.Only.{Only}
 use Rattle.message.specs.declared.Only.the-variants.{One, Other}
@@ -67,6 +72,35 @@ module _ (fs : List FieldText) (a : List ℕ) (e : senderIn fs ≡ some a) where
 
   pub sender-most : length a ≤ 254
   sender-most = rw (given .1 .1) (canonical-most (given .0) given-plain)
+
+-- and it is octets, where the block is
+values-octets : (kind : Kind) (fs : List FieldText) → ValuesOctets fs → EachOctets (valuesOf kind fs)
+unfolding valuesOf ValuesOctets EachOctets
+values-octets kind [] h = tt
+values-octets kind (f ∷ fs) h =
+    by-test (isKind kind (f .name)) (λ e. rw (valuesOf, e) (h .0, values-octets kind fs (h .1))) (λ e. rw (valuesOf, e) (values-octets kind fs (h .1)))
+
+value-octets : (vs : List (List ℕ)) (v : List ℕ) → EachOctets vs → onlyValue vs ≡ some v → AllOctets v
+unfolding onlyValue EachOctets
+value-octets [] v h e = let z : _≡_ {A = ℕ} 0 1 = cc in absurd (omega arith)
+value-octets (w ∷ []) v h e = let q : w ≡ v = cc in rw q at (h .0)
+value-octets (w ∷ x ∷ rest) v h e = let z : _≡_ {A = ℕ} 0 1 = cc in absurd (omega arith)
+
+fields-octets : (s : List ℕ) → AllOctets s → ValuesOctets (fieldsIn s)
+unfolding fieldsIn readFields ValuesOctets
+fields-octets s o = go (fieldsOf s) refl
+  where
+    go : (found : Option (List FieldText)) → fieldsOf s ≡ found → ValuesOctets (readFields (fieldsOf s))
+    go none e = rw e tt
+    go (some fs) e = rw e (block-octets s o fs e)
+
+pub sender-octets : (s a : List ℕ) → AllOctets s → senderIn (fieldsIn s) ≡ some a → AllOctets a
+sender-octets s a o e =
+    let v : List ℕ = value (fieldsIn s) a e .0 in
+    let b : List ℕ = given (fieldsIn s) a e .0 in
+    let h : AllOctets v =
+    value-octets (valuesOf From (fieldsIn s)) v (values-octets From (fieldsIn s) (fields-octets s o)) (value (fieldsIn s) a e .1 .0) in
+    rw (given (fieldsIn s) a e .1 .1) (canonical-octets b (only-octets v h b (sym (given (fieldsIn s) a e .1 .0))))
 
 module _ (s : List ℕ) (k : Only) (fs : List FieldText) (p : valueIn s k ≡ onlyValue (valuesOf From fs)) where
   other : k ≡ Other → senderIn fs ≡ none

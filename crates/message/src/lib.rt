@@ -19,7 +19,6 @@ ghost use Rattle.message.specs.Message.{fieldsIn, isKind as kindOf, valu
 ghost use Rattle.message.specs.declared.Kind.the-variants.{Date};
 ghost use Rattle.message.specs.Answers.{NamedAs, valueIn, OnlyWithin, senderOf, leftBySender, ValidAs, CountedAs, AcceptedAs, HeardAs};
 use date::Dated;
-use header::Cursor;
 use header::Step;
 use keyfield::Read;
 use slots::Slot;
