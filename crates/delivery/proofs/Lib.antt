@@ -1,0 +1,4 @@
+pub mod Spreading
+pub mod Newcomers
+pub mod Updating
+pub mod Delivering
