@@ -169,7 +169,14 @@ fn is_taken(gossip: Gossip) -> bool
 }
 
 // Refusal 8, with the blocks read: the last check of all, before anything is written.
-fn deliver(table: &mut [u8], receipt: u64, outer: &[u8], payload: &[u8], sender: &[u8], text: &mut [u8]) -> Processed
+fn deliver(
+    table: &mut [u8],
+    receipt: u64,
+    outer: &[u8],
+    payload: &[u8],
+    sender: &[u8],
+    text: &mut [u8],
+) -> Processed
     requires { ⌜ (checked (now table) ≡ Sound) × (receipt ≤ timeLimit) × (readable (now outer) ≡ true) × (readable (now payload) ≡ true) × (isCanonical (now sender) ≡ true) × (limit ≤ length (now text)) ⌝ }
     ensures { λ r. ⌜ r ≡ putInto (now (table .entry)) (withPayload receipt (now (sender .entry)) (fieldsIn (now (outer .entry))) (some (fieldsIn (now (payload .entry))))) .answer ⌝ }
     ensures { λ _. ⌜ now (table .exit) ≡ putInto (now (table .entry)) (withPayload receipt (now (sender .entry)) (fieldsIn (now (outer .entry))) (some (fieldsIn (now (payload .entry))))) .table ⌝ }
@@ -181,7 +188,15 @@ fn deliver(table: &mut [u8], receipt: u64, outer: &[u8], payload: &[u8], sender:
 }
 
 // Refusals 6 and 7, with the sender known. Where gossip is not taken an empty block stands for the payload.
-fn process_from(table: &mut [u8], receipt: u64, outer: &[u8], payload: &[u8], gossip: Gossip, sender: &[u8], text: &mut [u8]) -> Processed
+fn process_from(
+    table: &mut [u8],
+    receipt: u64,
+    outer: &[u8],
+    payload: &[u8],
+    gossip: Gossip,
+    sender: &[u8],
+    text: &mut [u8],
+) -> Processed
     requires { ⌜ (checked (now table) ≡ Sound) × (receipt ≤ timeLimit) × (readable (now outer) ≡ true) × (isCanonical (now sender) ≡ true) × (limit ≤ length (now text)) ⌝ }
     ensures { λ r. ⌜ r ≡ putInto (now (table .entry)) (withSender receipt (some (now (sender .entry))) (fieldsIn (now (outer .entry))) (payloadFields gossip (now (payload .entry)))) .answer ⌝ }
     ensures { λ _. ⌜ now (table .exit) ≡ putInto (now (table .entry)) (withSender receipt (some (now (sender .entry))) (fieldsIn (now (outer .entry))) (payloadFields gossip (now (payload .entry)))) .table ⌝ }
@@ -199,7 +214,13 @@ fn process_from(table: &mut [u8], receipt: u64, outer: &[u8], payload: &[u8], go
 }
 
 // Refusals 3, 4 and 5, with the table checked.
-fn process_sound(table: &mut [u8], receipt: u64, outer: &[u8], payload: &[u8], gossip: Gossip) -> Processed
+fn process_sound(
+    table: &mut [u8],
+    receipt: u64,
+    outer: &[u8],
+    payload: &[u8],
+    gossip: Gossip,
+) -> Processed
     requires { ⌜ checked (now table) ≡ Sound ⌝ }
     ensures { λ r. ⌜ r ≡ putInto (now (table .entry)) (broughtBy receipt (now (outer .entry)) (now (payload .entry)) gossip) .answer ⌝ }
     ensures { λ _. ⌜ now (table .exit) ≡ putInto (now (table .entry)) (broughtBy receipt (now (outer .entry)) (now (payload .entry)) gossip) .table ⌝ }
@@ -213,13 +234,27 @@ fn process_sound(table: &mut [u8], receipt: u64, outer: &[u8], payload: &[u8], g
     let mut text = [0u8; BLOCK];
     let mut sender = [0u8; Slot::ADDRESS_ROOM];
     match message::sender_of(outer, &mut text, &mut sender) {
-        Sender::Address(n) => process_from(table, receipt, outer, payload, gossip, &sender[0..n], &mut text),
+        Sender::Address(n) => process_from(
+            table,
+            receipt,
+            outer,
+            payload,
+            gossip,
+            &sender[0..n],
+            &mut text,
+        ),
         Sender::NotOne => Processed::Refused(Refusal::Sender),
     }
 }
 
 // Processes a message: its outer header block, and the header block of its decrypted payload, empty where there is none.
-pub fn process(table: &mut [u8], receipt: u64, outer: &[u8], payload: &[u8], gossip: Gossip) -> Processed
+pub fn process(
+    table: &mut [u8],
+    receipt: u64,
+    outer: &[u8],
+    payload: &[u8],
+    gossip: Gossip,
+) -> Processed
     ensures { λ r. ⌜ r ≡ processed (now (table .entry)) receipt (now (outer .entry)) (now (payload .entry)) gossip .answer ⌝ }
     ensures { λ _. ⌜ now (table .exit) ≡ processed (now (table .entry)) receipt (now (outer .entry)) (now (payload .entry)) gossip .table ⌝ }
 {

@@ -42,6 +42,7 @@ processedInNumbers (RefusedMessage r) = record { number = numberOf r; index = in
 -- "take, skip or unset": 1, 2, and any other number
 unfoldable pub settingOf : ℕ → Gossip
 settingOf n = elim (eqb n 1) [ true ↦ Take | false ↦ elim (eqb n 2) [ true ↦ Skip | false ↦ Unset ] ]
+
 -- 0 stands for no advice
 abbrev pub adviceNumber : Kind → ℕ
 adviceNumber Disable = 1
