@@ -40,15 +40,7 @@ fn is_new(table: &[u8], known: &[u8], address: &[u8]) -> bool
 }
 
 // Is there a free slot for each address that is new with the gossip, beside so many that are known already?
-fn has_room_for(
-    table: &[u8],
-    payload: &[u8],
-    recipients: &[u8],
-    text: &mut [u8],
-    known: &mut [u8],
-    filled: usize,
-    many: usize,
-) -> bool
+fn has_room_for(table: &[u8], payload: &[u8], recipients: &[u8], text: &mut [u8], known: &mut [u8], filled: usize, many: usize) -> bool
     requires { ⌜ (checked (now table) ≡ Sound) × (isSome (fieldsFrom (now payload) 0) ≡ true) × (length (now payload) ≤ length (now text)) × (length (now known) ≡ 65536) × Known (now known) filled many × (many ≤ freeCount (now table)) ⌝ }
     ensures { λ r. ⌜ r ≡ leb (many + length (newcomers (now (table .entry)) (unrolled (take filled (now (known .entry)))) (gossipAddresses (gossipFrom (unrolled (now (recipients .entry))) (now (payload .entry)) 0)))) (freeCount (now (table .entry))) ⌝ }
 {
@@ -136,15 +128,7 @@ fn update_sender(table: &mut [u8], outer: &[u8], sender: &[u8], date: u64, text:
 }
 
 // Writes the message into the table, which has room for it.
-fn apply(
-    table: &mut [u8],
-    date: u64,
-    outer: &[u8],
-    payload: &[u8],
-    sender: &[u8],
-    recipients: &[u8],
-    text: &mut [u8],
-)
+fn apply(table: &mut [u8], date: u64, outer: &[u8], payload: &[u8], sender: &[u8], recipients: &[u8], text: &mut [u8])
     requires { ⌜ (checked (now table) ≡ Sound) × (readable (now outer) ≡ true) × (length (now outer) ≤ length (now text)) × (isSome (fieldsFrom (now payload) 0) ≡ true) × (length (now payload) ≤ length (now text)) × (isCanonical (now sender) ≡ true) × (date ≤ timeLimit) ⌝ }
     ensures { λ _. ⌜ now (table .exit) ≡ heardAll date (gossipFrom (unrolled (now (recipients .entry))) (now (payload .entry)) 0) (put (now (table .entry)) (now (sender .entry)) (updated date (directBy date (countedIn (fieldsIn (now (outer .entry))) (now (sender .entry)))))) ⌝ }
 {
@@ -153,14 +137,7 @@ fn apply(
 }
 
 // Delivers the message of the sender, its blocks being readable, if there is room for it; answers whether there was.
-pub fn deliver(
-    table: &mut [u8],
-    receipt: u64,
-    outer: &[u8],
-    payload: &[u8],
-    sender: &[u8],
-    text: &mut [u8],
-) -> bool
+pub fn deliver(table: &mut [u8], receipt: u64, outer: &[u8], payload: &[u8], sender: &[u8], text: &mut [u8]) -> bool
     requires { ⌜ (checked (now table) ≡ Sound) × (receipt ≤ timeLimit) × (readable (now outer) ≡ true) × (readable (now payload) ≡ true) × (isCanonical (now sender) ≡ true) × (limit ≤ length (now text)) ⌝ }
     ensures { λ r. ⌜ r ≡ hasRoom (now (table .entry)) (messageBy receipt (now (sender .entry)) (fieldsIn (now (outer .entry))) (fieldsIn (now (payload .entry)))) ⌝ }
     ensures { λ _. ⌜ now (table .exit) ≡ delivered (now (table .entry)) (messageBy receipt (now (sender .entry)) (fieldsIn (now (outer .entry))) (fieldsIn (now (payload .entry)))) ⌝ }
