@@ -14,7 +14,6 @@ use mathlib.Core.Logic.{_↔_, ⊎-elim}
 use mathlib.Core.Bool.{true, false}
 use mathlib.Core.List.{List, []}
 use mathlib.Core.Option.{Option, some, none}
-use native.Mathlib.Omega.{arith}
 use Rattle.octets.specs.Octets.{AllOctets}
 use Rattle.octets.proofs.Lists.{lt-or-le}
 use Rattle.address.proofs.Every.{by-test}
@@ -35,11 +34,10 @@ use Rattle.delivery.specs.Delivery.{messageBy}
 use Rattle.delivery.proofs.Good.{message-good}
 use Rattle.autocrypt.specs.Refusals.{numberOf}
 use Rattle.autocrypt.specs.Checking.{checkedAs}
-use Rattle.autocrypt.specs.Processing.{taken, payloadFields, Brought, refused, brings, withPayload, broughtBy, Outcome, refusing, putInto, processed, numberAfter}
+use Rattle.autocrypt.specs.Processing.{taken, payloadFields, refused, brings, withPayload, broughtBy, Outcome, refusing, putInto, processed, numberAfter}
 use Rattle.autocrypt.specs.declared.Refusal.{Refusal}
 use Rattle.autocrypt.specs.declared.Refusal.the-variants.{TableLength, BrokenSlot, ReceiptTime, OuterBlock, Sender, Report, PayloadBlock, NoFreeSlot}
 use Rattle.autocrypt.specs.declared.Gossip.{Gossip}
-use Rattle.autocrypt.specs.declared.Processed.{Processed}
 use Rattle.autocrypt.specs.declared.Processed.the-variants.{Done, Refused}
 use Rattle.autocrypt.proofs.Processing.{put-refused, put-room, put-full, fields-taken, fields-skipped, sent-report, sent-on, brought-late, brought-unreadable, brought-unsent, brought-from, processed-sound, processed-refused}
 
@@ -95,9 +93,6 @@ module _ (t : List ℕ) (receipt : ℕ) (outer payload : List ℕ) (g : Gossip) 
   abbrev outcome : Outcome
   outcome = processed t receipt outer payload g
 
-  abbrev Held : ℕ → Type 0
-  Held n = Row t receipt outer payload g n
-
   -- the outcome, by the rows
   length-refused : whole t ≡ false → outcome ≡ refusing TableLength t
   unfolding checkedAs
@@ -126,9 +121,6 @@ module _ (t : List ℕ) (receipt : ℕ) (outer payload : List ℕ) (g : Gossip) 
       table-is : SoundTable t
       table-is = h .opened .in-time .sound
 
-      abbrev onwards : Brought
-      onwards = withPayload receipt sender fs (payloadFields g payload)
-
       report : isReported fs ≡ true → outcome ≡ refusing Report t
       report e =
           brings-refused table-is Report
@@ -147,9 +139,6 @@ module _ (t : List ℕ) (receipt : ℕ) (outer payload : List ℕ) (g : Gossip) 
           (brought-on e ∙ ap (withPayload receipt sender fs) (fields-taken g payload k ∙ n))
 
     module _ (ps : List FieldText) (h : Readied t receipt outer payload g fs sender ps) where
-      abbrev message : Message
-      message = messageBy receipt sender fs ps
-
       brought : outcome ≡ putInto t (brings (messageBy receipt sender fs ps))
       unfolding withPayload
       brought =

@@ -180,10 +180,10 @@ module _ (t : List ℕ) (receipt : ℕ) (sender outer payload : List ℕ) (g : G
       skipped : without ≡ sent
       skipped = sym (on ∙ ap (withPayload receipt sender (fieldsIn outer)) (fields-skipped g payload (sym f ∙ not-true k n) ∙ ap some (sym (fields-are [] [] fields-empty))))
 
-      pub skip-answered : (a : Processed) → a ≡ putInto t (withPayload receipt sender (fieldsIn outer) (some (fieldsIn (take (0 - 0) (drop 0 payload))))) .answer → a ≡ putInto t sent .answer
+      pub skip-answered : (a : Processed) → a ≡ putInto t without .answer → a ≡ putInto t sent .answer
       skip-answered a h = h ∙ ap (λ (x : Brought). putInto t x .answer) skipped
 
-      pub skip-left : (left : List ℕ) → left ≡ putInto t (withPayload receipt sender (fieldsIn outer) (some (fieldsIn (take (0 - 0) (drop 0 payload))))) .table → left ≡ putInto t sent .table
+      pub skip-left : (left : List ℕ) → left ≡ putInto t without .table → left ≡ putInto t sent .table
       skip-left left h = h ∙ ap (λ (x : Brought). putInto t x .table) skipped
 
     module _ (n : not k ≡ false) (c : Bool) (h : c ≡ isSome (fieldsOf payload)) where
@@ -202,13 +202,16 @@ module _ (t : List ℕ) (receipt : ℕ) (sender outer payload : List ℕ) (g : G
         seven-left = refused-left t PayloadBlock (putInto t sent) seven
 
       module _ (u : not c ≡ false) where
-        whole : withPayload receipt sender (fieldsIn outer) (some (fieldsIn payload)) ≡ sent
+        abbrev heard : Brought
+        heard = withPayload receipt sender (fieldsIn outer) (some (fieldsIn payload))
+
+        whole : heard ≡ sent
         whole = sym (taking-on ∙ ap (withPayload receipt sender (fieldsIn outer)) (fields-read payload (found-readable payload c h u)))
 
-        pub take-answered : (a : Processed) → a ≡ putInto t (withPayload receipt sender (fieldsIn outer) (some (fieldsIn payload))) .answer → a ≡ putInto t sent .answer
+        pub take-answered : (a : Processed) → a ≡ putInto t heard .answer → a ≡ putInto t sent .answer
         take-answered a i = i ∙ ap (λ (x : Brought). putInto t x .answer) whole
 
-        pub take-left : (left : List ℕ) → left ≡ putInto t (withPayload receipt sender (fieldsIn outer) (some (fieldsIn payload))) .table → left ≡ putInto t sent .table
+        pub take-left : (left : List ℕ) → left ≡ putInto t heard .table → left ≡ putInto t sent .table
         take-left left i = i ∙ ap (λ (x : Brought). putInto t x .table) whole
 
 pub none-readable : (payload : List ℕ) → readable (take (0 - 0) (drop 0 payload)) ≡ true
@@ -303,13 +306,16 @@ module _ (t : List ℕ) (receipt : ℕ) (outer payload : List ℕ) (g : Gossip) 
           is : senderIn (fieldsIn outer) ≡ some (take (i - 0) (drop 0 out))
           is = from-is (fieldsIn outer) k h out d w i q
 
-          from : withSender receipt (some (take (i - 0) (drop 0 out))) (fieldsIn outer) (payloadFields g payload) ≡ brought
+          abbrev sent-by : Brought
+          sent-by = withSender receipt (some (take (i - 0) (drop 0 out))) (fieldsIn outer) (payloadFields g payload)
+
+          from : sent-by ≡ brought
           from = sym (brought-from receipt outer payload g l (fieldsIn outer) read (take (i - 0) (drop 0 out)) is)
 
-          pub from-answered : (a : Processed) → a ≡ putInto t (withSender receipt (some (take (i - 0) (drop 0 out))) (fieldsIn outer) (payloadFields g payload)) .answer → a ≡ putInto t brought .answer
+          pub from-answered : (a : Processed) → a ≡ putInto t sent-by .answer → a ≡ putInto t brought .answer
           from-answered a y = y ∙ ap (λ (x : Brought). putInto t x .answer) from
 
-          pub from-left : (left : List ℕ) → left ≡ putInto t (withSender receipt (some (take (i - 0) (drop 0 out))) (fieldsIn outer) (payloadFields g payload)) .table → left ≡ putInto t brought .table
+          pub from-left : (left : List ℕ) → left ≡ putInto t sent-by .table → left ≡ putInto t brought .table
           from-left left y = y ∙ ap (λ (x : Brought). putInto t x .table) from
 
 pub ruleset opening =

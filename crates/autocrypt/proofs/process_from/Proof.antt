@@ -45,9 +45,16 @@ same-length-4 c = search sending
 returns-3 : tie.Need-returns-3
 returns-3 c = search sending
 
+-- one search for all six breaks off
 deliver-requires-2 : tie.Need-deliver-requires-2
-deliver-requires-2 c κs =
-    (search sending, search sending, search sending, found-readable _ _ (c .before .before .before .readable .ensures) (c .before .before .if3 .left), search sending, search sending)
+deliver-requires-2 c κs = (
+  search sending,
+  search sending,
+  search sending,
+  found-readable _ _ (c .before .before .before .readable .ensures) (c .before .before .if3 .left),
+  search sending,
+  search sending,
+)
 
 same-length-5 : tie.Need-same-length-5
 same-length-5 c = search sending
