@@ -48,6 +48,42 @@ int main(void) {
     a = vienghulac_check(NULL, 0);
     expect("no table", a.number == 1);
 
+    static uint8_t lent[2 * 4392], kept[2 * 4392];
+    const char *outer = "From: A <A@x.example>\r\nTo: b@x.example, c@x.example\r\n"
+                        "Autocrypt: addr=a@x.example; prefer-encrypt=mutual; keydata=Zm9v\r\n";
+    const char *payload = "Autocrypt-Gossip: addr=b@x.example; keydata=YmFy\r\n";
+    const char *more = "Autocrypt-Gossip: addr=b@x.example; keydata=YmFy\r\n"
+                       "Autocrypt-Gossip: addr=c@x.example; keydata=YmFy\r\n";
+    a = vienghulac_process(lent, sizeof lent, 1000, octets(outer), strlen(outer), octets(more), strlen(more), VIENGHULAC_GOSSIP_TAKE);
+    expect("three new addresses, two slots", a.number == 8 && a.index == 0 && memcmp(lent, kept, sizeof lent) == 0);
+    a = vienghulac_process(lent, sizeof lent, 1000, octets(outer), strlen(outer), octets(payload), strlen(payload), VIENGHULAC_GOSSIP_UNSET);
+    put_entry(kept, "a@x.example", "foo");
+    memcpy(kept + 4392, "A1", 2);
+    kept[4392 + 2] = 11;
+    kept[4392 + 4] = 4;
+    kept[4392 + 24] = 1000 & 255;
+    kept[4392 + 25] = 1000 >> 8;
+    kept[4392 + 34] = 3;
+    memcpy(kept + 4392 + 40, "b@x.example", 11);
+    memcpy(kept + 4392 + 2344, "bar", 3);
+    expect("sender and gossip", a.number == 0 && a.index == 0 && memcmp(lent, kept, sizeof lent) == 0);
+    a = vienghulac_process(lent, sizeof lent, 253402300800, octets(outer), strlen(outer), NULL, 0, VIENGHULAC_GOSSIP_TAKE);
+    expect("receipt time above the limit", a.number == 3);
+    a = vienghulac_process(lent, sizeof lent, 1000, octets(" x"), 2, NULL, 0, VIENGHULAC_GOSSIP_TAKE);
+    expect("no block", a.number == 4);
+    a = vienghulac_process(lent, sizeof lent, 1000, NULL, 0, NULL, 0, VIENGHULAC_GOSSIP_TAKE);
+    expect("no sender", a.number == 5);
+    const char *report = "From: a@x.example\r\nContent-Type: Multipart/Report; x=y\r\n";
+    a = vienghulac_process(lent, sizeof lent, 1000, octets(report), strlen(report), NULL, 0, VIENGHULAC_GOSSIP_TAKE);
+    expect("a report", a.number == 6);
+    a = vienghulac_process(lent, sizeof lent, 1000, octets(outer), strlen(outer), octets(" x"), 2, VIENGHULAC_GOSSIP_TAKE);
+    expect("no payload block", a.number == 7);
+    expect("refusals write nothing", memcmp(lent, kept, sizeof lent) == 0);
+    a = vienghulac_process(lent, sizeof lent, 1000, octets(outer), strlen(outer), octets(" x"), 2, VIENGHULAC_GOSSIP_SKIP);
+    expect("not looked at where it is skipped", a.number == 0 && memcmp(lent, kept, sizeof lent) == 0);
+    a = vienghulac_process(lent, 1, 1000, octets(outer), strlen(outer), NULL, 0, VIENGHULAC_GOSSIP_TAKE);
+    expect("a table first", a.number == 1);
+
     const uint8_t *both = octets("Bob <B@x.example>, group: a@x.example;"), *other = octets("c@x.example");
     memset(table, 0, sizeof table);
     put_entry(table, "a@x.example", "foo");

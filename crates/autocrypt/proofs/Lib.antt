@@ -4,3 +4,5 @@ pub mod Tables
 pub mod Recommending
 pub mod ExactlyRecommending
 pub mod SameEntries
+pub mod Processing
+pub mod ExactlyProcessing

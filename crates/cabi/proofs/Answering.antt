@@ -2,14 +2,23 @@
 --     of-done, of-refused    an answer as the code puts it into numbers
 --     of-same                equal answers have the same numbers: what a call ensures of its answer, said of its numbers
 --     of-sound, of-broken, of-checked    the same for the check of a table
+--     set-take .. set-unset    the gossip setting
+--     of-taken, of-not-taken, of-message, left-by-message    the same for processing a message, with the setting as it came
 --     of-advice .. of-recommended    the same for recommending
 --     of-part, of-target     a part of the table
---     the rulesets           answering, for every function here but those of recommending; advising, for these
+--     the rulesets           processing and advising, for the functions of these; answering, for all others
 -- Assumes nothing.
 use Prim.Native.Nat.{ℕ}
 use mathlib.Core.Path.{_≡_, refl, ap, _∙_}
+use mathlib.Core.List.{List}
 use borrow.Author.Needs.{needs}
+use borrow.Author.Tests.{eq-eqb, ne-eqb}
 use Rattle.autocrypt.specs.Refusals.{numberOf, indexOf}
+use Rattle.autocrypt.specs.Processing.{processed}
+use Rattle.autocrypt.specs.declared.Gossip.{Gossip}
+use Rattle.autocrypt.specs.declared.Gossip.the-variants.{Take, Skip, Unset}
+use Rattle.autocrypt.specs.declared.Processed.{Processed}
+use Rattle.autocrypt.specs.declared.Processed.the-variants.{Done as Taken, Refused as RefusedMessage}
 use Rattle.autocrypt.specs.declared.Checked.{Checked}
 use Rattle.autocrypt.specs.declared.Checked.the-variants.{Sound, Refused as RefusedTable}
 use Rattle.autocrypt.specs.declared.Refusal.{Refusal}
@@ -19,7 +28,7 @@ use Rattle.autocrypt.specs.declared.Recommended.{Recommended}
 use Rattle.autocrypt.specs.declared.Recommended.the-variants.{Done as Advised, Refused as RefusedAdvice}
 use Rattle.autocrypt.specs.declared.Written.{Written as Answer}
 use Rattle.autocrypt.specs.declared.Written.the-variants.{Done, Refused}
-use Rattle.cabi.specs.Numbers.{inNumbers, checkedInNumbers, adviceNumber, adviceInNumbers, partInNumbers}
+use Rattle.cabi.specs.Numbers.{inNumbers, checkedInNumbers, settingOf, processedInNumbers, adviceNumber, adviceInNumbers, partInNumbers}
 use Rattle.cabi.specs.declared.Answer.{Answer as Numbers}
 use Rattle.cabi.specs.declared.Advice.{Advice}
 use Rattle.cabi.specs.declared.Part.{Part}
@@ -52,6 +61,42 @@ pub of-checked : (r : Numbers) (a b : Checked) → r ≡ checkedInNumbers a → 
 of-checked r a b p q = p ∙ ap checkedInNumbers q
 
 pub ruleset answering = (of-done, of-refused, of-same, of-sound, of-broken, of-checked, needs)
+
+-- "take, skip or unset"
+module _ (n : ℕ) where
+  pub set-take : n ≡ 1 → Take ≡ settingOf n
+  unfolding settingOf
+  set-take e = rw (settingOf, eq-eqb n 1 e)
+
+  pub set-skip : (n ≡ 1 → ⊥) → n ≡ 2 → Skip ≡ settingOf n
+  unfolding settingOf
+  set-skip d e = rw (settingOf, ne-eqb n 1 d, eq-eqb n 2 e)
+
+  pub set-unset : (n ≡ 1 → ⊥) → (n ≡ 2 → ⊥) → Unset ≡ settingOf n
+  unfolding settingOf
+  set-unset d e = rw (settingOf, ne-eqb n 1 d, ne-eqb n 2 e)
+
+module _ (a : Processed) where
+  pub of-taken : a ≡ Taken → _≡_ {A = Numbers} (record { number = 0; index = 0 }) (processedInNumbers a)
+  unfolding processedInNumbers
+  of-taken e = rw e
+
+  pub of-not-taken :
+      (n i : ℕ) (r : Refusal) → a ≡ RefusedMessage r → n ≡ numberOf r → i ≡ indexOf r
+      → _≡_ {A = Numbers} (record { number = n; index = i }) (processedInNumbers a)
+  unfolding processedInNumbers
+  of-not-taken n i r e p q = rw (e, p, q)
+
+module _ (t : List ℕ) (receipt : ℕ) (outer payload : List ℕ) (s g : Gossip) (e : s ≡ g) where
+  pub of-message :
+      (r : Numbers) (a : Processed) → r ≡ processedInNumbers a → a ≡ processed t receipt outer payload s .answer
+      → r ≡ processedInNumbers (processed t receipt outer payload g .answer)
+  of-message r a p q = p ∙ ap processedInNumbers (q ∙ ap (λ (x : Gossip). processed t receipt outer payload x .answer) e)
+
+  pub left-by-message : (left : List ℕ) → left ≡ processed t receipt outer payload s .table → left ≡ processed t receipt outer payload g .table
+  left-by-message left q = q ∙ ap (λ (x : Gossip). processed t receipt outer payload x .table) e
+
+pub ruleset processing = (set-take, set-skip, set-unset, of-taken, of-not-taken, of-message, left-by-message, needs)
 
 module _ (r : Recommended) where
   pub of-advice :

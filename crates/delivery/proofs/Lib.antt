@@ -2,3 +2,4 @@ pub mod Spreading
 pub mod Newcomers
 pub mod Updating
 pub mod Delivering
+pub mod Good

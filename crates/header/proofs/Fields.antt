@@ -115,6 +115,11 @@ pub fields-fit : (s : List ℕ) → length s ≤ limit → fieldsOf s ≡ fields
 unfolding fieldsOf fieldsFrom
 fields-fit s h = rw (fieldsOf, le-leb (length s) limit h)
 
+-- "length 0 is readable"
+pub fields-empty : fieldsOf [] ≡ some []
+unfolding fieldsOf fields fieldsWithin
+fields-empty = refl
+
 pub fields-long : (s : List ℕ) → limit < length s → fieldsOf s ≡ none
 unfolding fieldsOf
 fields-long s h = rw (fieldsOf, lt-leb (length s) limit h)

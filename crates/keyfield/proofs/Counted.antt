@@ -4,6 +4,7 @@
 --     valid-skip, valid-next, valid-append           the valid fields, from the front of the list, and of two lists
 --     counted-none, counted-one, counted-two         what counts, by how many are valid
 --     counted-is, counted-sender                     what counts is the one valid field, and names the sender
+--     counted-value                                  and is the field of a value
 --     counted-skip, counted-first                    what counts, from the front of the list
 -- Assumes nothing.
 use Prim.Native.Nat.{ℕ}
@@ -70,17 +71,19 @@ only-is (g ∷ []) f q = cc
 only-is (g ∷ h ∷ rest) f q = let z : _≡_ {A = ℕ} 0 1 = cc in absurd (omega arith)
 
 -- where one is valid, it is that of one of the values
-valid-all : (sender : List ℕ) (values : List (List ℕ)) (f : Field) → validFields sender values ≡ f ∷ [] → f .address ≡ sender
+valid-all : (sender : List ℕ) (values : List (List ℕ)) (f : Field) → validFields sender values ≡ f ∷ []
+    → (v : List ℕ) × ((fieldOf v ≡ some f) × (f .address ≡ sender))
 unfolding validFields
 valid-all sender [] f e = let z : _≡_ {A = ℕ} 0 1 = cc in absurd (omega arith)
 valid-all sender (s ∷ rest) f e = go (validFor sender s) refl (λ q. valid-all sender rest f q)
   where
-    go : (o : Option Field) → validFor sender s ≡ o → (validFields sender rest ≡ f ∷ [] → f .address ≡ sender) → f .address ≡ sender
+    go : (o : Option Field) → validFor sender s ≡ o → (validFields sender rest ≡ f ∷ [] → (v : List ℕ) × ((fieldOf v ≡ some f) × (f .address ≡ sender)))
+        → (v : List ℕ) × ((fieldOf v ≡ some f) × (f .address ≡ sender))
     go none q more = more (sym (valid-skip sender s rest q) ∙ e)
     go (some g) q more =
         let k : g ∷ validFields sender rest ≡ f ∷ [] = sym (valid-next sender s rest g q) ∙ e in
         let h : g ≡ f = cc in
-        ap (λ (x : Field). x .address) (sym h) ∙ valid-is sender s g q .1
+        (s, (valid-is sender s g q .0 ∙ ap some h, ap (λ (x : Field). x .address) (sym h) ∙ valid-is sender s g q .1))
 
 -- what counts
 module _ (sender : List ℕ) (values : List (List ℕ)) where
@@ -103,7 +106,10 @@ module _ (sender : List ℕ) (values : List (List ℕ)) where
 
   -- so it is a field of one of the values, and names the sender
   pub counted-sender : (f : Field) → counted values sender ≡ some f → f .address ≡ sender
-  counted-sender f e = valid-all sender values f (counted-is f e)
+  counted-sender f e = valid-all sender values f (counted-is f e) .1 .1
+
+  pub counted-value : (f : Field) → counted values sender ≡ some f → (v : List ℕ) × (fieldOf v ≡ some f)
+  counted-value f e = let h = valid-all sender values f (counted-is f e) in (h .0, h .1 .0)
 
 module _ (sender s : List ℕ) (rest : List (List ℕ)) where
   pub counted-skip : validFor sender s ≡ none → counted (s ∷ rest) sender ≡ counted rest sender

@@ -2,6 +2,7 @@
 --     kind-as, kind-recipients     the names that are asked for, in each arm of the match
 --     values-in, values-out        the values that are asked for, by the first field of some
 --     values-all                   those of a readable block are those from its first line on
+--     fields-are, fields-read      the fields of a readable block
 --     Seeking kind s at place      no such field stands from `at` up to `place`
 --     seek-begin .. seek-next      the steps of the loop that looks for the first one
 --     named-first .. named-none    what a caller asks of the answer
@@ -57,6 +58,18 @@ module _ (kind : Kind) (s : List ℕ) where
   pub values-all : readable s ≡ true → valuesFrom kind s 0 ≡ valuesOf kind (fieldsIn s)
   unfolding valuesFrom fieldsIn
   values-all c = ap (λ (o : Option (List FieldText)). valuesOf kind (readFields o)) (sym (fields-fit s (clear-fits s true (sym c) refl)))
+
+pub fields-are : (s : List ℕ) (fs : List FieldText) → fieldsOf s ≡ some fs → fieldsIn s ≡ fs
+unfolding fieldsIn readFields
+fields-are s fs e = rw e
+
+pub fields-read : (s : List ℕ) → readable s ≡ true → fieldsOf s ≡ some (fieldsIn s)
+unfolding fieldsIn readFields isSome
+fields-read s c = go (fieldsOf s) refl
+  where
+    go : (o : Option (List FieldText)) → fieldsOf s ≡ o → fieldsOf s ≡ some (readFields (fieldsOf s))
+    go none e = absurd (false≢true (sym (ap isSome e) ∙ c))
+    go (some fs) e = rw e
 
 pub block-begin : (s : List ℕ) → readable s ≡ true → isSome (fieldsFrom s 0) ≡ true
 block-begin s c = clear-begin s true (sym c) refl

@@ -12,3 +12,4 @@ pub mod Counting
 pub mod Accepting
 pub mod Hearing
 pub mod WorkedFields
+pub mod Good

@@ -1,5 +1,6 @@
 -- The sender: by the one From field, the one address in it, and its canonical form.
 --     sender-canonical .. sender-octets     what a sender is: the canonical form of a plain address
+--     values-octets                    the values that are asked for are octets, where all are
 --     sent-..                          the answer, and what is left in the lent memory, by the answers of the code's three calls
 --     answer-some .. left-open         what a caller reads off the answer
 -- Assumes nothing.
@@ -74,7 +75,7 @@ module _ (fs : List FieldText) (a : List ℕ) (e : senderIn fs ≡ some a) where
   sender-most = rw (given .1 .1) (canonical-most (given .0) given-plain)
 
 -- and it is octets, where the block is
-values-octets : (kind : Kind) (fs : List FieldText) → ValuesOctets fs → EachOctets (valuesOf kind fs)
+pub values-octets : (kind : Kind) (fs : List FieldText) → ValuesOctets fs → EachOctets (valuesOf kind fs)
 unfolding valuesOf ValuesOctets EachOctets
 values-octets kind [] h = tt
 values-octets kind (f ∷ fs) h =

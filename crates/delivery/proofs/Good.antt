@@ -1,0 +1,44 @@
+-- A message that is read from blocks of octets is good: what it brings can be written into a table.
+--     direct-good      the direct half that it brings
+--     message-good     the whole message
+-- Assumes nothing.
+use Prim.Native.Nat.{ℕ, _≤_}
+use mathlib.Core.Path.{_≡_, refl, ap, _∙_}
+use mathlib.Core.List.{List}
+use mathlib.Core.Option.{Option, some, none}
+use Rattle.octets.specs.Octets.{AllOctets}
+use Rattle.header.specs.Header.{FieldText, fieldsOf}
+use Rattle.header.proofs.Octetwise.{ValuesOctets}
+use Rattle.keyfield.specs.Field.{Field}
+use Rattle.slots.specs.Slot.{timeLimit}
+use Rattle.slots.specs.Entry.{GoodHalf}
+use Rattle.update.specs.Message.{GoodBrought, GoodMessage}
+use Rattle.message.specs.Message.{fieldsIn, senderIn, dateIn, countedIn, recipientsIn}
+use Rattle.message.proofs.Asking.{fields-are}
+use Rattle.message.proofs.Sending.{sender-canonical, sender-octets}
+use Rattle.message.proofs.Good.{counted-key, gossip-good, date-in-range}
+use Rattle.delivery.specs.Delivery.{directBy, messageBy}
+
+pub direct-good : (date : ℕ) (fs : List FieldText) (sender : List ℕ) → GoodHalf (GoodBrought date) (directBy date (countedIn fs sender))
+unfolding directBy
+direct-good date fs sender = go (countedIn fs sender) refl
+  where
+    go : (o : Option Field) → countedIn fs sender ≡ o → GoodHalf (GoodBrought date) (directBy date (countedIn fs sender))
+    go none e = rw e tt
+    go (some f) e = rw e (record { dated = refl; key = counted-key fs sender f e })
+
+module _ (receipt : ℕ) (h : receipt ≤ timeLimit) (outer : List ℕ) (o : AllOctets outer) (fs : List FieldText) (e : fieldsOf outer ≡ some fs)
+    (sender : List ℕ) (s : senderIn fs ≡ some sender) where
+  sent : senderIn (fieldsIn outer) ≡ some sender
+  sent = ap senderIn (fields-are outer fs e) ∙ s
+
+  pub message-good : (payload : List FieldText) → ValuesOctets payload → GoodMessage (messageBy receipt sender fs payload)
+  unfolding messageBy
+  message-good payload p =
+      record {
+        canonical = sender-canonical fs sender s;
+        octets = sender-octets outer sender o sent;
+        in-range = date-in-range fs receipt h;
+        direct = direct-good (dateIn fs receipt) fs sender;
+        gossip = gossip-good (recipientsIn fs) payload p;
+      }
