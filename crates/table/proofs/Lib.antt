@@ -3,6 +3,7 @@ pub mod Scanning
 pub mod Judging
 pub mod Finding
 pub mod Keeping
+pub mod Replaced
 mod Worked
 pub mod Entries
 pub mod Broken

@@ -1,0 +1,99 @@
+-- What a message brings, apart from how it is read, and what it does to a table: "A message is applied whole or refused whole."
+--     Gossiped, Message     what a message brings
+--     addressesOf           the addresses that it has something about
+--     newcomers, hasRoom    refusal 8
+--     applied               the table afterwards
+--     entryAfter            what that is to the entry of one address
+--     GoodMessage           what holds of every message that is read
+use Prim.Native.Nat.{ℕ, _≤_}
+use mathlib.Core.Path.{_≡_}
+use mathlib.Core.Bool.{Bool, true, false, _||_}
+use mathlib.Core.List.{List, [], _∷_, _++_}
+use mathlib.Core.Option.{Option, some}
+use lib.Dec.{leb}
+use lib.ListN.{length}
+use Rattle.octets.specs.Octets.{sameOctets, AllOctets}
+use Rattle.address.specs.Address.{isCanonical}
+use Rattle.list.specs.List.{among}
+use Rattle.slots.specs.Slot.{timeLimit}
+use Rattle.slots.specs.Entry.{Direct, Entry, orElse, newcomer, GoodKey, GoodHalf}
+use Rattle.table.specs.Table.{found, isAt, freeCount}
+use Rattle.update.specs.Update.{updated, heard, put}
+
+-- an accepted gossip field: "Its preference is ignored."
+pub record Gossiped : Type 0 where
+  pub address : List ℕ
+  pub key : List ℕ
+
+-- The sender's canonical address, the effective date, the direct half of the counted field, if there is one, whose timestamp is the date, and
+-- the accepted gossip in order.
+pub record Message : Type 0 where
+  pub sender : List ℕ
+  pub date : ℕ
+  pub direct : Option Direct
+  pub gossip : List Gossiped
+
+-- "sender first, then gossip addresses as first accepted"
+unfoldable pub gossipAddresses : List Gossiped → List (List ℕ)
+gossipAddresses [] = []
+gossipAddresses (g ∷ rest) = g .address ∷ gossipAddresses rest
+
+unfoldable pub addressesOf : Message → List (List ℕ)
+addressesOf m = m .sender ∷ gossipAddresses (m .gossip)
+
+-- "new addresses .., each distinct address counted once": those without an entry that are not known yet
+unfoldable pub newcomers : List ℕ → List (List ℕ) → List (List ℕ) → List (List ℕ)
+newcomers t known [] = []
+newcomers t known (a ∷ rest) =
+    elim (isAt (found t a) || among a known) [
+      | true ↦ newcomers t known rest
+      | false ↦ a ∷ newcomers t (known ++ (a ∷ [])) rest
+    ]
+
+-- "8: more new addresses than free slots", denied
+unfoldable pub hasRoom : List ℕ → Message → Bool
+hasRoom t m = leb (length (newcomers t [] (addressesOf m))) (freeCount t)
+
+-- "Gossip fields are read in order from the payload." So the last accepted field for an address stands in the end.
+unfoldable pub heardAll : ℕ → List Gossiped → List ℕ → List ℕ
+heardAll date [] t = t
+heardAll date (g ∷ rest) t = heardAll date rest (put t (g .address) (heard date (g .key)))
+
+-- "sender first"
+unfoldable pub applied : List ℕ → Message → List ℕ
+applied t m = heardAll (m .date) (m .gossip) (put t (m .sender) (updated (m .date) (m .direct)))
+
+-- what a change to the entry of address a is to the entry of address b: "A sender or accepted gossip address without an entry takes" one first
+unfoldable pub entryPut : List ℕ → (Entry → Entry) → List ℕ → Option Entry → Option Entry
+entryPut a change b e = elim (sameOctets a b) [ true ↦ some (change (orElse (newcomer a) e)) | false ↦ e ]
+
+-- each gossip about the address, in order
+unfoldable pub entryHeard : ℕ → List Gossiped → List ℕ → Option Entry → Option Entry
+entryHeard date [] b e = e
+entryHeard date (g ∷ rest) b e = entryHeard date rest b (entryPut (g .address) (heard date (g .key)) b e)
+
+-- What a message does to the entry of an address, wherever that stands: the sender's part if it is the sender, then the gossip about it. An
+-- address that the message has nothing about keeps what it has.
+unfoldable pub entryAfter : Message → List ℕ → Option Entry → Option Entry
+entryAfter m b e = entryHeard (m .date) (m .gossip) b (entryPut (m .sender) (updated (m .date) (m .direct)) b e)
+
+-- the direct half of the counted field: "decoding to 1 to 2,048 octets", and the effective date for its timestamp
+pub record GoodBrought (date : ℕ) (d : Direct) : Type 0 where
+  pub dated : d .timestamp ≡ date
+  pub key : GoodKey (d .key)
+
+pub record GoodGossiped (g : Gossiped) : Type 0 where
+  pub canonical : isCanonical (g .address) ≡ true
+  pub octets : AllOctets (g .address)
+  pub key : GoodKey (g .key)
+
+unfoldable pub GoodGossipeds : List Gossiped → Type 0
+GoodGossipeds [] = Unit
+GoodGossipeds (g ∷ rest) = GoodGossiped g × GoodGossipeds rest
+
+pub record GoodMessage (m : Message) : Type 0 where
+  pub canonical : isCanonical (m .sender) ≡ true
+  pub octets : AllOctets (m .sender)
+  pub in-range : m .date ≤ timeLimit
+  pub direct : GoodHalf (GoodBrought (m .date)) (m .direct)
+  pub gossip : GoodGossipeds (m .gossip)

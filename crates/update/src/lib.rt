@@ -1,0 +1,104 @@
+// Where a message is put: the sender's entry and those of the addresses that it has gossip about, each in its own slot
+// or in the lowest free one. What is right is said by specs/Update.antt.
+ghost use Prim.Native.Nat.{_≤_, _<_};
+ghost use mathlib.Core.Path.{_≡_};
+ghost use mathlib.Core.Bool.{true};
+ghost use mathlib.Core.Option.{some, none};
+ghost use lib.ListN.{length};
+ghost use Rattle.address.specs.Address.{isCanonical};
+ghost use Rattle.slots.specs.Slot.{timeLimit, keyLimit, sound};
+ghost use Rattle.slots.specs.Entry.{entryOf, slotOf, seenBy, withDirect};
+ghost use Rattle.table.specs.Table.{slots, slotAt, withSlot, checked, found};
+ghost use Rattle.table.specs.declared.Checked.the-variants.{Sound};
+ghost use Rattle.update.specs.Update.{younger, updated, youngerGossip, heard, begun, put};
+use table::Found;
+
+// The slot of an address, begun in the lowest free one where it has none.
+fn place(table: &mut [u8], address: &[u8]) -> Found
+    requires { ⌜ (checked (now table) ≡ Sound) × (isCanonical (now address) ≡ true) ⌝ }
+    ensures { λ r. ⌜ r ≡ found (begun (now (table .entry)) (now (address .entry))) (now (address .entry)) ⌝ }
+    ensures { λ _. ⌜ now (table .exit) ≡ begun (now (table .entry)) (now (address .entry)) ⌝ }
+{
+    match table::find(table, address) {
+        Found::At(i) => Found::At(i),
+        Found::Nothing => match table::lowest_free(table) {
+            Found::At(i) => {
+                table::begin(table, i, address);
+                Found::At(i)
+            }
+            Found::Nothing => Found::Nothing,
+        },
+    }
+}
+
+// Is there a direct key in the slot that is younger than the date?
+fn has_younger(table: &[u8], i: usize, date: u64) -> bool
+    requires { ⌜ i < slots (now table) ⌝ }
+    ensures { λ r. ⌜ r ≡ younger date (entryOf (slotAt (now (table .entry)) i) .direct) ⌝ }
+{
+    let entry = table::numbers(table, i);
+    entry.direct & (date < entry.timestamp)
+}
+
+// Is there gossip in the slot that is younger than the date?
+fn has_younger_gossip(table: &[u8], i: usize, date: u64) -> bool
+    requires { ⌜ i < slots (now table) ⌝ }
+    ensures { λ r. ⌜ r ≡ youngerGossip date (entryOf (slotAt (now (table .entry)) i) .gossip) ⌝ }
+{
+    let entry = table::numbers(table, i);
+    entry.gossip & (date < entry.gossip_timestamp)
+}
+
+// A message of the sender without a field that counts: it only raises last seen.
+pub fn update_keyless(table: &mut [u8], sender: &[u8], date: u64)
+    requires { ⌜ (checked (now table) ≡ Sound) × (isCanonical (now sender) ≡ true) × (date ≤ timeLimit) ⌝ }
+    ensures { λ _. ⌜ now (table .exit) ≡ put (now (table .entry)) (now (sender .entry)) (updated date none) ⌝ }
+{
+    match place(table, sender) {
+        Found::At(i) => {
+            if !has_younger(table, i, date) {
+                table::raise_seen(table, i, date);
+            }
+        }
+        Found::Nothing => {}
+    }
+}
+
+// Raises last seen to the date and sets the direct half: what a field that counts does to an entry.
+fn set_field(table: &mut [u8], i: usize, date: u64, key: &[u8], mutual: bool)
+    requires { ⌜ (i < slots (now table)) × (sound (slotAt (now table) i) ≡ true) × (date ≤ timeLimit) × (1 ≤ length (now key)) × (length (now key) ≤ keyLimit) ⌝ }
+    ensures { λ _. ⌜ now (table .exit) ≡ withSlot (now (table .entry)) i (slotOf (withDirect (record { timestamp = date; key = now (key .entry); «mutual» = «mutual» }) (seenBy date (entryOf (slotAt (now (table .entry)) i))))) ⌝ }
+{
+    table::raise_seen(table, i, date);
+    table::set_direct(table, i, date, key, mutual);
+}
+
+// A message of the sender with a field that counts.
+pub fn update_with_key(table: &mut [u8], sender: &[u8], date: u64, key: &[u8], mutual: bool)
+    requires { ⌜ (checked (now table) ≡ Sound) × (isCanonical (now sender) ≡ true) × (date ≤ timeLimit) × (1 ≤ length (now key)) × (length (now key) ≤ keyLimit) ⌝ }
+    ensures { λ _. ⌜ now (table .exit) ≡ put (now (table .entry)) (now (sender .entry)) (updated date (some (record { timestamp = date; key = now (key .entry); «mutual» = «mutual» }))) ⌝ }
+{
+    match place(table, sender) {
+        Found::At(i) => {
+            if !has_younger(table, i, date) {
+                set_field(table, i, date, key, mutual);
+            }
+        }
+        Found::Nothing => {}
+    }
+}
+
+// Gossip about an address.
+pub fn hear(table: &mut [u8], address: &[u8], date: u64, key: &[u8])
+    requires { ⌜ (checked (now table) ≡ Sound) × (isCanonical (now address) ≡ true) × (date ≤ timeLimit) × (1 ≤ length (now key)) × (length (now key) ≤ keyLimit) ⌝ }
+    ensures { λ _. ⌜ now (table .exit) ≡ put (now (table .entry)) (now (address .entry)) (heard date (now (key .entry))) ⌝ }
+{
+    match place(table, address) {
+        Found::At(i) => {
+            if !has_younger_gossip(table, i, date) {
+                table::set_gossip(table, i, date, key);
+            }
+        }
+        Found::Nothing => {}
+    }
+}
