@@ -3,6 +3,7 @@ mod Counting
 pub mod Unfolding
 pub mod Stepping
 pub mod Fields
+pub mod Total
 mod Reporting
 pub mod InFront
 pub mod LineEndings

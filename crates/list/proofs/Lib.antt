@@ -8,4 +8,5 @@ pub mod Counting
 pub mod Holding
 pub mod Lone
 pub mod Readable
+pub mod Room
 pub mod Worked

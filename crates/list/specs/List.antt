@@ -4,6 +4,7 @@
 --     afterAddress, after, mayEnd          the grammar
 --     listed, addresses                    the addresses of a list, none where it is unreadable
 --     occurs                               an address occurs in a readable list
+--     given, isGiven                       the addresses of a readable list, and whether it is one
 use Prim.Native.Nat.{ℕ, zero, suc}
 use mathlib.Core.Bool.{Bool, true, false, cond, not, _||_}
 use mathlib.Core.List.{List, [], _∷_}
@@ -192,3 +193,12 @@ among a (b ∷ rest) = sameOctets (canonical b) (canonical a) || among a rest
 unfoldable pub occurs : List ℕ → Option (List (List ℕ)) → Bool
 occurs a none = false
 occurs a (some list) = among a list
+
+-- "a readable To, Cc or Reply-To": the addresses of a list that is readable, and whether it is
+unfoldable pub given : Option (List (List ℕ)) → List (List ℕ)
+given none = []
+given (some list) = list
+
+unfoldable pub isGiven : Option (List (List ℕ)) → Bool
+isGiven none = false
+isGiven (some list) = true

@@ -1,0 +1,6 @@
+pub mod Rolls
+pub mod Room
+pub mod Growing
+mod Adding
+mod Looking
+mod Worked
