@@ -35,16 +35,16 @@ use Rattle.message.specs.declared.Accepted.the-variants.{Gossip, NotAcce
 use Rattle.message.proofs.Keys.{Holds, read-from, read-upto, read-valid}
 
 module _ (recipients : List (List ℕ)) where
-  by-none : acceptedBy recipients none ≡ none
+  pub by-none : acceptedBy recipients none ≡ none
   unfolding acceptedBy
   by-none = refl
 
   module _ (f : Field) where
-    by-listed : among (f .address) recipients ≡ true → acceptedBy recipients (some f) ≡ some (record { address = f .address; key = f .key })
+    pub by-listed : among (f .address) recipients ≡ true → acceptedBy recipients (some f) ≡ some (record { address = f .address; key = f .key })
     unfolding acceptedBy
     by-listed e = rw (acceptedBy, e)
 
-    by-other : among (f .address) recipients ≡ false → acceptedBy recipients (some f) ≡ none
+    pub by-other : among (f .address) recipients ≡ false → acceptedBy recipients (some f) ≡ none
     unfolding acceptedBy
     by-other e = rw (acceptedBy, e)
 

@@ -11,4 +11,5 @@ pub mod Trying
 pub mod Counting
 pub mod Accepting
 pub mod Hearing
+pub mod Bringing
 pub mod WorkedFields
