@@ -1,5 +1,6 @@
 -- The first valid Autocrypt field: the loop over the Autocrypt fields.
 --     Trying sender s at place     no valid field stands from `at` up to `place`
+--     Offered, Naming              the next field is valid in form, its key in lent memory
 --     try-begin .. try-found       the loop's steps
 --     valid-first .. valid-none    what a caller asks of the answer
 -- Assumes nothing.
@@ -7,7 +8,7 @@ use Prim.Native.Nat.{ℕ, _-_, _≤_}
 use mathlib.Core.Path.{_≡_, refl, sym, ap, _∙_}
 use mathlib.Core.Bool.{Bool, true, false}
 use mathlib.Core.List.{List, [], _∷_}
-use mathlib.Core.Option.{none}
+use mathlib.Core.Option.{some, none}
 use native.Mathlib.Omega.{arith}
 use borrow.Author.Needs.{needs}
 use lib.ListN.{length, take, drop}
@@ -21,7 +22,7 @@ use Rattle.header.proofs.Unfolding.{value-within, value-there-from}
 use Rattle.address.specs.Address.{canonical, isCanonical}
 use Rattle.address.proofs.Spelling.{canonical-same}
 use Rattle.slots.specs.Slot.{keyLimit}
-use Rattle.keyfield.specs.Field.{fieldOf, validFor, validFields}
+use Rattle.keyfield.specs.Field.{Field, fieldOf, validFor, validFields}
 use Rattle.keyfield.specs.Answers.{Answered, keyIn}
 use Rattle.keyfield.specs.declared.Read.{Read}
 use Rattle.keyfield.specs.declared.Read.the-variants.{Valid as ValidField, Spoiled, NoRoom}
@@ -40,6 +41,21 @@ use Rattle.message.proofs.Keys.{Holds, read-from, read-upto, read-valid
 pub record Trying (sender s : List ℕ) (at place : ℕ) : Type 0 where
   pub same : validFrom sender s at ≡ validFrom sender s place
   pub clear : isSome (fieldsFrom s place) ≡ true
+
+-- the next Autocrypt field is one of this address, its key in lent memory, and the others stand from e on
+pub record Offered (sender s : List ℕ) (at e : ℕ) (address key : List ℕ) (m : Bool) (l : ℕ) : Type 0 where
+  pub value : List ℕ
+  pub front : validFrom sender s at ≡ validFields sender (value ∷ valuesFrom Autocrypt s e)
+  pub field : Holds value address key m l
+  pub upto : e ≤ length s
+  pub readable : isSome (fieldsFrom s e) ≡ true
+
+-- the same, whatever it says of that address
+pub record Naming (sender s : List ℕ) (at e : ℕ) (address : List ℕ) : Type 0 where
+  pub key : List ℕ
+  pub isMutual : Bool
+  pub long : ℕ
+  pub offer : Offered sender s at e address key isMutual long
 
 module _ (sender s : List ℕ) (at : ℕ) where
   pub try-begin : isSome (fieldsFrom s at) ≡ true → Trying sender s at at
@@ -92,54 +108,55 @@ module _ (sender s : List ℕ) (at place : ℕ) (k : Named) (h : Trying sender s
         pub try-upto : to ≤ length text
         try-upto = part-within (valueAt s v e) d text t from to try-from upto
 
-        module _ (key : List ℕ) (left : key ≡ leftIn (keyIn (fieldOf (take (n - 0) (drop 0 text)))) old) (own : isCanonical sender ≡ true)
-            (b : Bool) (u : b ≡ sameOctets (canonical (take (to - from) (drop from text))) (canonical sender)) where
-          abbrev named : List ℕ
-          named = canonical (take (to - from) (drop from (valueAt s v e)))
+        pub try-read :
+            (key : List ℕ) → key ≡ leftIn (keyIn (fieldOf (take (n - 0) (drop 0 text)))) old
+            → Offered sender s at e (canonical (take (to - from) (drop from text))) key m l
+        try-read key left =
+            record {
+              value = valueAt s v e;
+              front = first;
+              field =
+                rw (part-there (valueAt s v e) d text t from to try-from upto)
+                (read-valid (valueAt s v e) old key r answered (rw there at left) from to m l y);
+              upto = named-upto Autocrypt s place k p v e q;
+              readable = named-readable Autocrypt s place k p v e q;
+            }
 
-          alike : b ≡ sameOctets named sender
-          alike = u ∙ rw (part-there (valueAt s v e) d text t from to try-from upto, canonical-same sender own)
+        pub try-named :
+            (key : List ℕ) → key ≡ leftIn (keyIn (fieldOf (take (n - 0) (drop 0 text)))) old
+            → Naming sender s at e (canonical (take (to - from) (drop from text)))
+        try-named key left = record { key = key; isMutual = m; long = l; offer = try-read key left }
 
-          field : Holds (valueAt s v e) named key m l
-          field = read-valid (valueAt s v e) old key r answered (rw there at left) from to m l y
+-- by the test first
+module _ (sender s : List ℕ) (at e : ℕ) (address : List ℕ) (b : Bool) where
+  alike : b ≡ sameOctets address (canonical sender) → isCanonical sender ≡ true → b ≡ sameOctets address sender
+  alike u c = u ∙ ap (sameOctets address) (canonical-same sender c)
 
-          pub try-other : b ≡ false → Trying sender s at e
-          try-other z =
-              skip
-              (naming-other
-              sender
-              (valueAt s v e)
-              (record { address = named; isMutual = m; key = take l key })
-              (field .is)
-              (sym alike ∙ z))
+  pub try-other : b ≡ false → b ≡ sameOctets address (canonical sender) → isCanonical sender ≡ true → Naming sender s at e address → Trying sender s at e
+  unfolding validFrom
+  try-other z u c g =
+      let o = g .offer in
+      let other : validFor sender (o .value) ≡ none =
+      naming-other sender (o .value) (record { address = address; isMutual = g .isMutual; key = take (g .long) (g .key) }) (o .field .is) (sym (alike u c) ∙ z) in
+      record { same = o .front ∙ valid-skip sender (o .value) (valuesFrom Autocrypt s e) other; clear = o .readable }
 
-          pub try-found : b ≡ true → ValidAs sender s at key (Key m l e)
-          unfolding ValidAs validFrom
-          try-found z =
-              let same : named ≡ sender = same-true named sender (sym alike ∙ z) in
-              record {
-                first =
-                    first
-                    ∙ valid-next
-                    sender
-                    (valueAt s v e)
-                    (valuesFrom Autocrypt s e)
-                    (record { address = sender; isMutual = m; key = take l key })
-                    (naming-sender
-                    sender
-                    (valueAt s v e)
-                    (record { address = sender; isMutual = m; key = take l key })
-                    (rw same at (field .is))
-                    refl);
-                some-octet = field .some-octet;
-                most = field .most;
-                within = field .within;
-                upto = named-upto Autocrypt s place k p v e q;
-                readable = named-readable Autocrypt s place k p v e q;
-              }
+  pub try-found : (key : List ℕ) (m : Bool) (l : ℕ) → b ≡ true → b ≡ sameOctets address (canonical sender) → isCanonical sender ≡ true → Offered sender s at e address key m l → ValidAs sender s at key (Key m l e)
+  unfolding ValidAs validFrom
+  try-found key m l z u c o =
+      let same : address ≡ sender = same-true address sender (sym (alike u c) ∙ z) in
+      let field : Field = record { address = sender; isMutual = m; key = take l key } in
+      let valid : validFor sender (o .value) ≡ some field = naming-sender sender (o .value) field (rw same at (o .field .is)) refl in
+      record {
+        first = o .front ∙ valid-next sender (o .value) (valuesFrom Autocrypt s e) field valid;
+        some-octet = o .field .some-octet;
+        most = o .field .most;
+        within = o .field .within;
+        upto = o .upto;
+        readable = o .readable;
+      }
 
 pub ruleset trying =
-    (try-begin, try-clear, try-end, try-spoiled, try-crowded, try-from, try-upto, try-other, try-found, value-within, finding, needs)
+    (try-begin, try-clear, try-end, try-spoiled, try-crowded, try-from, try-upto, try-read, try-named, try-other, try-found, value-within, finding, needs)
 
 -- as a caller asks it of an answer r
 module _ (sender s : List ℕ) (at : ℕ) (key : List ℕ) (r : Valid) (p : ValidAs sender s at key r) where
