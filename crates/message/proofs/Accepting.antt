@@ -137,9 +137,9 @@ module _ (recipients : List (List ℕ)) (s address : List ℕ) (n : ℕ) (b : Bo
   accept-listed key l t e o =
       record {
         is =
-          ap (acceptedBy recipients) (o .field .is)
-          ∙ by-listed recipients (field s address key n l o) (sym (tested s address key n l o recipients b e) ∙ t)
-          ∙ ap some (λ i. record { address = sym (o .there) i; key = take l key });
+            ap (acceptedBy recipients) (o .field .is)
+            ∙ by-listed recipients (field s address key n l o) (sym (tested s address key n l o recipients b e) ∙ t)
+            ∙ ap some (λ i. record { address = sym (o .there) i; key = take l key });
         canonical = rw (o .there) (o .field .canonical);
         address-within = o .within;
         some-octet = o .field .some-octet;
