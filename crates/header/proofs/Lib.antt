@@ -4,6 +4,7 @@ pub mod Unfolding
 pub mod Stepping
 pub mod Fields
 pub mod Total
+pub mod Octetwise
 mod Reporting
 pub mod InFront
 pub mod LineEndings

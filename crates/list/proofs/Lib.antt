@@ -9,4 +9,5 @@ pub mod Holding
 pub mod Lone
 pub mod Readable
 pub mod Room
+pub mod Octetwise
 pub mod Worked

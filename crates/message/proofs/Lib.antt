@@ -1,0 +1,15 @@
+pub mod Asking
+pub mod Single
+pub mod Dating
+pub mod Reporting
+pub mod Texts
+pub mod Sending
+pub mod Gathering
+pub mod Worked
+pub mod Keys
+pub mod Trying
+pub mod Counting
+pub mod Accepting
+pub mod Hearing
+pub mod Bringing
+pub mod WorkedFields

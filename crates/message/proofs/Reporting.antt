@@ -1,0 +1,50 @@
+-- Reports: the loop over the Content-Type fields.
+--     Looking s at             the answer on the block is that on its Content-Type fields from `at` on
+--     look-begin .. look-next  the loop's steps
+-- Assumes nothing.
+use Prim.Native.Nat.{ℕ, _-_}
+use mathlib.Core.Path.{_≡_, sym, ap, _∙_}
+use mathlib.Core.Bool.{Bool, true, false, _||_}
+use mathlib.Core.List.{List, [], _∷_}
+use borrow.Author.Needs.{needs}
+use lib.ListN.{length, take, drop}
+use Rattle.octets.specs.Written.{onto}
+use Rattle.header.specs.Header.{isSome, readable, isReport}
+use Rattle.header.specs.Answers.{fieldsFrom}
+use Rattle.header.proofs.Unfolding.{value-within, value-there-from}
+use Rattle.message.specs.Message.{fieldsIn, anyReport, isReported}
+use Rattle.message.specs.Answers.{valueAt, valuesFrom, NamedAs}
+use Rattle.message.specs.declared.Kind.the-variants.{ContentType}
+use Rattle.message.specs.declared.Named.{Named}
+use Rattle.message.specs.declared.Named.the-variants.{Field, Nothing}
+use Rattle.message.proofs.Asking.{values-all, block-begin, named-first, named-readable, named-none, finding}
+
+pub record Looking (s : List ℕ) (at : ℕ) : Type 0 where
+  pub same : isReported (fieldsIn s) ≡ anyReport (valuesFrom ContentType s at)
+  pub clear : isSome (fieldsFrom s at) ≡ true
+
+pub look-begin : (s : List ℕ) → readable s ≡ true → Looking s 0
+unfolding isReported
+look-begin s c = record { same = ap anyReport (sym (values-all ContentType s c)); clear = block-begin s c }
+
+pub look-clear : (s : List ℕ) (at : ℕ) → Looking s at → isSome (fieldsFrom s at) ≡ true
+look-clear s at h = h .clear
+
+module _ (s : List ℕ) (at : ℕ) (k : Named) (h : Looking s at) (p : NamedAs ContentType s at k) where
+  pub look-end : k ≡ Nothing → false ≡ isReported (fieldsIn s)
+  unfolding anyReport
+  look-end q = sym (h .same ∙ ap anyReport (named-none ContentType s at k p q))
+
+  module _ (v e : ℕ) (q : k ≡ Field v e) (text d : List ℕ) (n : ℕ) (c : n ≡ length (valueAt s v e)) (t : text ≡ onto (valueAt s v e) d)
+      (b : Bool) (u : b ≡ isReport (take (n - 0) (drop 0 text))) where
+    first : isReported (fieldsIn s) ≡ (b || anyReport (valuesFrom ContentType s e))
+    unfolding anyReport
+    first = h .same ∙ rw (named-first ContentType s at k p v e q, u, value-there-from (valueAt s v e) d text n c t)
+
+    pub look-found : b ≡ true → true ≡ isReported (fieldsIn s)
+    look-found y = sym (rw y at first)
+
+    pub look-next : b ≡ false → Looking s e
+    look-next y = record { same = rw y at first; clear = named-readable ContentType s at k p v e q }
+
+pub ruleset looking = (look-begin, look-clear, look-end, look-found, look-next, value-within, finding, needs)

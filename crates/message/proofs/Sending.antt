@@ -1,0 +1,216 @@
+-- The sender: by the one From field, the one address in it, and its canonical form.
+--     sender-canonical .. sender-octets     what a sender is: the canonical form of a plain address
+--     sent-..                          the answer, and what is left in the lent memory, by the answers of the code's three calls
+--     answer-some .. left-open         what a caller reads off the answer
+-- Assumes nothing.
+use Prim.Native.Nat.{ℕ, _-_, _≤_, _<_}
+use mathlib.Core.Path.{_≡_, refl, sym, ap, _∙_}
+use mathlib.Core.Bool.{true}
+use mathlib.Core.List.{List, [], _∷_}
+use mathlib.Core.Option.{Option, some, none}
+use native.Mathlib.Omega.{arith}
+use borrow.Author.Needs.{needs}
+use lib.ListN.{length, take, drop}
+use Rattle.octets.specs.Octets.{AllOctets}
+use Rattle.octets.specs.Written.{onto}
+use Rattle.address.specs.Address.{plain, canonical, isCanonical}
+use Rattle.address.specs.Answers.{writtenOf, ontoIfFits}
+use Rattle.address.specs.declared.Written.{Written}
+use Rattle.address.specs.declared.Written.the-variants.{Length, NoRoom}
+use Rattle.address.proofs.Room.{written-length, written-no-room, onto-fits}
+use Rattle.address.proofs.Every.{by-test}
+use Rattle.address.proofs.Spelling.{plain-is-canonical, canonical-most, canonical-octets}
+use Rattle.header.specs.Header.{FieldText, fieldsOf}
+use Rattle.header.proofs.Octetwise.{ValuesOctets, block-octets}
+use Rattle.header.proofs.Unfolding.{value-within, value-there, value-there-from}
+use Rattle.list.specs.List.{addresses}
+use Rattle.list.specs.Answers.{onlyOf, onlyIn, Within}
+use Rattle.list.specs.declared.Only.{Only as ListOnly}
+use Rattle.list.specs.declared.Only.the-variants.{One as OneAddress, Other as NoOne}
+use Rattle.list.proofs.Readable.{only-some, readable-at}
+use Rattle.list.proofs.Octetwise.{EachOctets, only-octets}
+use Rattle.slots.specs.Slot.{addressRoom}
+use Rattle.message.specs.Message.{readFields, fieldsIn, isKind, valuesOf, onlyValue, canonicalOf, senderBy, senderIn}
+use Rattle.message.specs.Answers.{valueAt, valueIn, senderOf, leftBySender}
+use Rattle.message.specs.declared.Kind.{Kind}
+use Rattle.message.specs.declared.Kind.the-variants.{From}
+use Rattle.message.specs.declared.Only.{Only}
+use Rattle.message.specs.declared.Only.the-variants.{One, Other}
+use Rattle.message.specs.declared.Sender.{Sender}
+use Rattle.message.specs.declared.Sender.the-variants.{Address, NotOne}
+use Rattle.message.proofs.Texts.{part-there, part-within}
+use Rattle.message.proofs.Single.{value-is, value-none, valued}
+
+-- the one address of a list is plain
+only-plain : (v a : List ℕ) → some a ≡ onlyOf (addresses v) → plain a ≡ true
+only-plain v a e = readable-at v (a ∷ []) (only-some (addresses v) a e) 0 (omega arith)
+
+-- the sender's address is the canonical form of a plain address
+canonical-some : (o : Option (List ℕ)) (a : List ℕ) → canonicalOf o ≡ some a → (b : List ℕ) × ((o ≡ some b) × (a ≡ canonical b))
+unfolding canonicalOf
+canonical-some none a e = let z : _≡_ {A = ℕ} 0 1 = cc in absurd (omega arith)
+canonical-some (some b) a e = (b, (refl, cc))
+
+by-some : (o : Option (List ℕ)) (a : List ℕ) → senderBy o ≡ some a → (v : List ℕ) × ((o ≡ some v) × (canonicalOf (onlyOf (addresses v)) ≡ some a))
+unfolding senderBy
+by-some none a e = let z : _≡_ {A = ℕ} 0 1 = cc in absurd (omega arith)
+by-some (some v) a e = (v, (refl, e))
+
+module _ (fs : List FieldText) (a : List ℕ) (e : senderIn fs ≡ some a) where
+  value : (v : List ℕ) × ((onlyValue (valuesOf From fs) ≡ some v) × (canonicalOf (onlyOf (addresses v)) ≡ some a))
+  unfolding senderIn
+  value = by-some (onlyValue (valuesOf From fs)) a e
+
+  given : (b : List ℕ) × ((onlyOf (addresses (value .0)) ≡ some b) × (a ≡ canonical b))
+  given = canonical-some (onlyOf (addresses (value .0))) a (value .1 .1)
+
+  given-plain : plain (given .0) ≡ true
+  given-plain = only-plain (value .0) (given .0) (sym (given .1 .0))
+
+  pub sender-canonical : isCanonical a ≡ true
+  sender-canonical = rw (given .1 .1) (plain-is-canonical (given .0) given-plain)
+
+  pub sender-most : length a ≤ 254
+  sender-most = rw (given .1 .1) (canonical-most (given .0) given-plain)
+
+-- and it is octets, where the block is
+pub values-octets : (kind : Kind) (fs : List FieldText) → ValuesOctets fs → EachOctets (valuesOf kind fs)
+unfolding valuesOf ValuesOctets EachOctets
+values-octets kind [] h = tt
+values-octets kind (f ∷ fs) h =
+    by-test (isKind kind (f .name)) (λ e. rw (valuesOf, e) (h .0, values-octets kind fs (h .1))) (λ e. rw (valuesOf, e) (values-octets kind fs (h .1)))
+
+value-octets : (vs : List (List ℕ)) (v : List ℕ) → EachOctets vs → onlyValue vs ≡ some v → AllOctets v
+unfolding onlyValue EachOctets
+value-octets [] v h e = let z : _≡_ {A = ℕ} 0 1 = cc in absurd (omega arith)
+value-octets (w ∷ []) v h e = let q : w ≡ v = cc in rw q at (h .0)
+value-octets (w ∷ x ∷ rest) v h e = let z : _≡_ {A = ℕ} 0 1 = cc in absurd (omega arith)
+
+pub fields-octets : (s : List ℕ) → AllOctets s → ValuesOctets (fieldsIn s)
+unfolding fieldsIn readFields ValuesOctets
+fields-octets s o = go (fieldsOf s) refl
+  where
+    go : (found : Option (List FieldText)) → fieldsOf s ≡ found → ValuesOctets (readFields (fieldsOf s))
+    go none e = rw e tt
+    go (some fs) e = rw e (block-octets s o fs e)
+
+pub sender-octets : (s a : List ℕ) → AllOctets s → senderIn (fieldsIn s) ≡ some a → AllOctets a
+sender-octets s a o e =
+    let v : List ℕ = value (fieldsIn s) a e .0 in
+    let b : List ℕ = given (fieldsIn s) a e .0 in
+    let h : AllOctets v =
+    value-octets (valuesOf From (fieldsIn s)) v (values-octets From (fieldsIn s) (fields-octets s o)) (value (fieldsIn s) a e .1 .0) in
+    rw (given (fieldsIn s) a e .1 .1) (canonical-octets b (only-octets v h b (sym (given (fieldsIn s) a e .1 .0))))
+
+module _ (s : List ℕ) (k : Only) (fs : List FieldText) (p : valueIn s k ≡ onlyValue (valuesOf From fs)) where
+  other : k ≡ Other → senderIn fs ≡ none
+  unfolding senderIn senderBy
+  other q = ap senderBy (value-none s k (onlyValue (valuesOf From fs)) p q)
+
+  pub sent-no-field : k ≡ Other → NotOne ≡ senderOf (senderIn fs)
+  unfolding senderOf
+  sent-no-field q = rw (other q)
+
+  pub left-no-field : (out : List ℕ) → k ≡ Other → out ≡ leftBySender (senderIn fs) out
+  unfolding leftBySender
+  left-no-field out q = rw (other q)
+
+  -- the value of the one From field was unfolded to the text, and the list in it was read
+  module _ (v e : ℕ) (q : k ≡ One v e) (text d : List ℕ) (n : ℕ) (c : n ≡ length (valueAt s v e)) (t : text ≡ onto (valueAt s v e) d)
+      (j : ListOnly) (y : onlyIn (take (n - 0) (drop 0 text)) j ≡ onlyOf (addresses (take (n - 0) (drop 0 text)))) where
+    there : take (n - 0) (drop 0 text) ≡ valueAt s v e
+    there = value-there-from (valueAt s v e) d text n c t
+
+    one : onlyIn (valueAt s v e) j ≡ onlyOf (addresses (valueAt s v e))
+    one = rw there at y
+
+    told : senderIn fs ≡ canonicalOf (onlyIn (valueAt s v e) j)
+    unfolding senderIn senderBy
+    told = ap senderBy (value-is s k v e q (onlyValue (valuesOf From fs)) p) ∙ ap canonicalOf (sym one)
+
+    no-one : j ≡ NoOne → senderIn fs ≡ none
+    unfolding onlyIn canonicalOf
+    no-one z = told ∙ ap (λ (i : ListOnly). canonicalOf (onlyIn (valueAt s v e) i)) z
+
+    pub sent-no-one : j ≡ NoOne → NotOne ≡ senderOf (senderIn fs)
+    unfolding senderOf
+    sent-no-one z = rw (no-one z)
+
+    pub left-no-one : (out : List ℕ) → j ≡ NoOne → out ≡ leftBySender (senderIn fs) out
+    unfolding leftBySender
+    left-no-one out z = rw (no-one z)
+
+    module _ (from to : ℕ) (z : j ≡ OneAddress from to) (w : Within (take (n - 0) (drop 0 text)) j) where
+      lies : Within (valueAt s v e) (OneAddress from to)
+      lies = rw (there, z) at w
+
+      pub sent-from : from ≤ to
+      sent-from = omega (arith, lies .0)
+
+      pub sent-upto : to ≤ length text
+      sent-upto = part-within (valueAt s v e) d text t from to sent-from (lies .1)
+
+      part : take (to - from) (drop from text) ≡ take (to - from) (drop from (valueAt s v e))
+      part = part-there (valueAt s v e) d text t from to sent-from (lies .1)
+
+      only : some (take (to - from) (drop from text)) ≡ onlyOf (addresses (valueAt s v e))
+      unfolding onlyIn
+      only = ap some part ∙ sym (ap (onlyIn (valueAt s v e)) z) ∙ one
+
+      is : senderIn fs ≡ some (canonical (take (to - from) (drop from text)))
+      unfolding canonicalOf
+      is = told ∙ ap canonicalOf (one ∙ sym only)
+
+      fits : (room : ℕ) → addressRoom ≤ room → length (canonical (take (to - from) (drop from text))) ≤ room
+      fits room h =
+          omega (arith, canonical-most (take (to - from) (drop from text)) (only-plain (valueAt s v e) (take (to - from) (drop from text)) only))
+
+      module _ (out : List ℕ) (h : addressRoom ≤ length out) where
+        pub left-one : (left : List ℕ) → left ≡ ontoIfFits (canonical (take (to - from) (drop from text))) out → left ≡ leftBySender (senderIn fs) out
+        unfolding leftBySender
+        left-one left r = rw is (r ∙ onto-fits (canonical (take (to - from) (drop from text))) out (fits (length out) h))
+
+        module _ (g : Written) (u : g ≡ writtenOf (canonical (take (to - from) (drop from text))) (length out)) where
+          pub sent-one : (m : ℕ) → g ≡ Length m → Address m ≡ senderOf (senderIn fs)
+          unfolding senderOf
+          sent-one m r =
+              rw is (ap Address (written-length (canonical (take (to - from) (drop from text))) (length out) m (sym r ∙ u) .0))
+
+          -- there is room
+          pub sent-no-room : g ≡ NoRoom → NotOne ≡ senderOf (senderIn fs)
+          sent-no-room r =
+              absurd (omega (arith, written-no-room (canonical (take (to - from) (drop from text))) (length out) (sym r ∙ u), fits (length out) h))
+
+pub ruleset sending =
+    (sent-no-field, left-no-field, sent-no-one, left-no-one, sent-from, sent-upto, left-one, sent-one, sent-no-room, value-within, valued, needs)
+
+-- as a caller asks it of the answer r and of what the lent memory holds
+pub answer-some : (o : Option (List ℕ)) (n : ℕ) → Address n ≡ senderOf o → (a : List ℕ) × ((o ≡ some a) × (n ≡ length a))
+unfolding senderOf
+answer-some none n e = let z : _≡_ {A = ℕ} 0 1 = cc in absurd (omega arith)
+answer-some (some a) n e = (a, (refl, cc))
+
+pub answer-none : (o : Option (List ℕ)) → NotOne ≡ senderOf o → o ≡ none
+unfolding senderOf
+answer-none none e = refl
+answer-none (some a) e = cc
+
+module _ (o : Option (List ℕ)) (r : Sender) (t : r ≡ senderOf o) where
+  pub left-none : (out d : List ℕ) → out ≡ leftBySender o d → r ≡ NotOne → out ≡ d
+  unfolding leftBySender
+  left-none out d l q = l ∙ rw (answer-none o (sym q ∙ t))
+
+  module _ (out d : List ℕ) (l : out ≡ leftBySender o d) (n : ℕ) (q : r ≡ Address n) where
+    address : (a : List ℕ) × ((o ≡ some a) × (n ≡ length a))
+    address = answer-some o n (sym q ∙ t)
+
+    holds : out ≡ onto (address .0) d
+    unfolding leftBySender
+    holds = l ∙ ap (λ (p : Option (List ℕ)). leftBySender p d) (address .1 .0)
+
+    -- the answer's octets of the lent memory are the sender
+    pub left-is : o ≡ some (take n out)
+    left-is = address .1 .0 ∙ ap some (sym (value-there (address .0) d out n (address .1 .1) holds))
+
+    pub left-within : n ≤ length out
+    left-within = value-within (address .0) d out n (address .1 .1) holds
