@@ -13,7 +13,7 @@ use native.Mathlib.Nat.{zero-add}
 use native.Mathlib.Omega.{arith}
 use lib.ListN.{length, take, drop, length-take, length-drop}
 use Rattle.octets.proofs.Lists.{lt-or-le}
-use Rattle.header.specs.Header.{FieldText, unfolded, inFront, fieldsOf, limit}
+use Rattle.header.specs.Header.{FieldText, inFront, fieldsOf, limit}
 use Rattle.header.specs.Answers.{fieldsFrom, stepAt, fieldAt}
 use Rattle.header.specs.declared.Step.{Step}
 use Rattle.header.specs.declared.Step.the-variants.{Over, Broken, Field}

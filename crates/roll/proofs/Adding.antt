@@ -8,12 +8,12 @@
 use Prim.Native.Nat.{ℕ, _+_, _<_, _≤_}
 use mathlib.Core.Path.{_≡_, refl, sym, _∙_}
 use mathlib.Core.Bool.{true, false≢true}
-use mathlib.Core.List.{List, [], _∷_, _++_, append-nil}
+use mathlib.Core.List.{List, [], _++_, append-nil}
 use mathlib.Core.Option.{Option, some, none}
 use native.Mathlib.Nat.{add-zero}
 use native.Mathlib.Omega.{arith}
 use borrow.Author.Needs.{needs}
-use lib.ListN.{length, take, drop, set, length-append, length-take, length-drop, length-set, take-append-drop}
+use lib.ListN.{length, take, set, length-append, length-take, length-drop, length-set, take-append-drop}
 use lib.Seq.{length-take-le}
 use Rattle.octets.specs.Written.{putAt}
 use Rattle.octets.proofs.Writing.{Wrote, begin-at, kept, counted, put, puts, done-at}
@@ -27,7 +27,7 @@ use Rattle.list.specs.declared.Counted.the-variants.{Count, Unreadable as Uncou
 use Rattle.list.proofs.Handing.{left-beginning, hand-gives, hand-plain, hand-from, hand-upto, hand-less, hand-end, hand-unread}
 use Rattle.list.proofs.Readable.{counted-some, counted-none}
 use Rattle.roll.specs.Roll.{entry, rolled, listedIn}
-use Rattle.roll.proofs.Rolls.{entry-length, rolled-none, rolled-one, plain-enters}
+use Rattle.roll.proofs.Rolls.{entry-length, rolled-none, rolled-one, plain-enters, listed-unreadable}
 
 module _ (d a : List ℕ) (at : ℕ) (h : at + length (entry a) ≤ length d) where
   pub add-at : at < length d
@@ -155,8 +155,7 @@ module _ (s : List ℕ) (k : Counted) (t : k ≡ countedOf (addresses s)) where
   list-readable n q = rw (counted-some (addresses s) n (sym q ∙ t) .1 .0)
 
   none-there : k ≡ Uncounted → rolled (listedIn s) ≡ []
-  unfolding listedIn given
-  none-there q = rw (listedIn, counted-none (addresses s) (sym q ∙ t), given) rolled-none
+  none-there q = rw (listed-unreadable s (counted-none (addresses s) (sym q ∙ t))) rolled-none
 
   pub list-end : (at : ℕ) → k ≡ Uncounted → at ≡ at + length (rolled (listedIn s))
   list-end at q = rw (none-there q, add-zero)

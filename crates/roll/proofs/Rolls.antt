@@ -6,18 +6,21 @@
 --     unrolled-entry                  an entry in front
 --     unrolled-rolled, unrolled-taken     a roll gives back what was rolled, and so does a roll at the front of memory
 --     plain-enters                    a plain address may be added
+--     listed-readable, listed-unreadable      what a list adds
 -- Assumes nothing.
 use Prim.Native.Nat.{ℕ, zero, suc, _+_, _<_, _≤_}
-use mathlib.Core.Path.{_≡_, refl, sym, ap, _∙_}
+use mathlib.Core.Path.{_≡_, refl, sym, ap}
 use mathlib.Core.Bool.{true}
 use mathlib.Core.List.{List, [], _∷_, _++_, append-assoc, append-nil}
+use mathlib.Core.Option.{some, none}
 use native.Mathlib.Numerals.{add-one}
 use native.Mathlib.Omega.{arith}
 use lib.ListN.{length, take, drop, length-append, length-drop}
 use lib.Seq.{take-append-seam, drop-append-seam}
 use Rattle.address.specs.Address.{plain}
 use Rattle.address.proofs.Sides.{plain-most}
-use Rattle.roll.specs.Roll.{entry, rolled, unrolledWithin, unrolled}
+use Rattle.list.specs.List.{addresses, given}
+use Rattle.roll.specs.Roll.{entry, rolled, unrolledWithin, unrolled, listedIn}
 
 pub entry-length : (a : List ℕ) → length (entry a) ≡ length a + 1
 unfolding entry
@@ -84,3 +87,12 @@ unrolled-taken n roll list e = rw e (unrolled-rolled list)
 -- a plain address is short enough for the octet in front of it
 pub plain-enters : (a : List ℕ) → plain a ≡ true → length a < 256
 plain-enters a p = omega (arith, plain-most a p)
+
+module _ (s : List ℕ) where
+  pub listed-readable : (list : List (List ℕ)) → addresses s ≡ some list → listedIn s ≡ list
+  unfolding listedIn given
+  listed-readable list e = rw (listedIn, e)
+
+  pub listed-unreadable : addresses s ≡ none → listedIn s ≡ []
+  unfolding listedIn given
+  listed-unreadable e = rw (listedIn, e)

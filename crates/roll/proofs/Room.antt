@@ -9,10 +9,10 @@ use mathlib.Core.List.{List, [], _∷_, _++_}
 use mathlib.Core.Option.{Option, some, none}
 use native.Mathlib.Omega.{arith}
 use lib.ListN.{length}
-use Rattle.list.specs.List.{addresses, given}
+use Rattle.list.specs.List.{addresses}
 use Rattle.list.proofs.Room.{total, total-room}
 use Rattle.roll.specs.Roll.{rolled, listedIn}
-use Rattle.roll.proofs.Rolls.{rolled-none, rolled-length, rolled-append-length}
+use Rattle.roll.proofs.Rolls.{rolled-none, rolled-length, rolled-append-length, listed-readable, listed-unreadable}
 
 pub rolled-total : (list : List (List ℕ)) → length (rolled list) ≡ total list
 unfolding total
@@ -23,12 +23,11 @@ pub rolled-room : (s : List ℕ) (list : List (List ℕ)) → addresses s ≡ so
 rolled-room s list e = omega (arith, rolled-total list, total-room s list e)
 
 pub listed-room : (s : List ℕ) → length (rolled (listedIn s)) ≤ length s + 1
-unfolding listedIn given
 listed-room s = go (addresses s) refl
   where
     go : (o : Option (List (List ℕ))) → addresses s ≡ o → length (rolled (listedIn s)) ≤ length s + 1
-    go none e = rw (listedIn, e) (omega (arith, ap length rolled-none))
-    go (some list) e = rw (listedIn, e) (rolled-room s list e)
+    go none e = rw (listed-unreadable s e) (omega (arith, ap length rolled-none))
+    go (some list) e = rw (listed-readable s list e) (rolled-room s list e)
 
 -- the addresses of a list s in front of others that take n octets
 pub lists-room :

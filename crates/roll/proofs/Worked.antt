@@ -2,7 +2,7 @@
 use Prim.Native.Nat.{ℕ}
 use Prim.Native.String.{String}
 use mathlib.Core.Path.{_≡_, refl}
-use mathlib.Core.Bool.{Bool, true, false}
+use mathlib.Core.Bool.{true, false}
 use mathlib.Core.List.{List, [], _∷_, _++_, map}
 use Rattle.octets.specs.Octets.{ascii, sameOctets, lower, lowered}
 use Rattle.tokens.specs.Tokens.{control, blank, kindOf, past, afterQuote, belongs}
