@@ -3,4 +3,5 @@ pub mod Scanning
 pub mod Judging
 pub mod Finding
 pub mod Keeping
+pub mod Replaced
 mod Worked

@@ -3,14 +3,20 @@
 --     addressesOf           the addresses that it has something about
 --     newcomers, hasRoom    refusal 8
 --     applied               the table afterwards
-use Prim.Native.Nat.{ℕ}
+--     entryAfter            what that is to the entry of one address
+--     GoodMessage           what holds of every message that is read
+use Prim.Native.Nat.{ℕ, _≤_}
+use mathlib.Core.Path.{_≡_}
 use mathlib.Core.Bool.{Bool, true, false, _||_}
-use mathlib.Core.List.{List, [], _∷_, _++_, map}
-use mathlib.Core.Option.{Option}
+use mathlib.Core.List.{List, [], _∷_, _++_}
+use mathlib.Core.Option.{Option, some}
 use lib.Dec.{leb}
 use lib.ListN.{length}
+use Rattle.octets.specs.Octets.{sameOctets, AllOctets}
+use Rattle.address.specs.Address.{isCanonical}
 use Rattle.list.specs.List.{among}
-use Rattle.slots.specs.Entry.{Direct}
+use Rattle.slots.specs.Slot.{timeLimit}
+use Rattle.slots.specs.Entry.{Direct, Entry, orElse, newcomer, GoodKey, GoodHalf}
 use Rattle.table.specs.Table.{found, isAt, freeCount}
 use Rattle.update.specs.Update.{updated, heard, put}
 
@@ -56,3 +62,38 @@ heardAll date (g ∷ rest) t = heardAll date rest (put t (g .address) (heard dat
 -- "sender first"
 unfoldable pub applied : List ℕ → Message → List ℕ
 applied t m = heardAll (m .date) (m .gossip) (put t (m .sender) (updated (m .date) (m .direct)))
+
+-- what a change to the entry of address a is to the entry of address b: "A sender or accepted gossip address without an entry takes" one first
+unfoldable pub entryPut : List ℕ → (Entry → Entry) → List ℕ → Option Entry → Option Entry
+entryPut a change b e = elim (sameOctets a b) [ true ↦ some (change (orElse (newcomer a) e)) | false ↦ e ]
+
+-- each gossip about the address, in order
+unfoldable pub entryHeard : ℕ → List Gossiped → List ℕ → Option Entry → Option Entry
+entryHeard date [] b e = e
+entryHeard date (g ∷ rest) b e = entryHeard date rest b (entryPut (g .address) (heard date (g .key)) b e)
+
+-- What a message does to the entry of an address, wherever that stands: the sender's part if it is the sender, then the gossip about it. An
+-- address that the message has nothing about keeps what it has.
+unfoldable pub entryAfter : Message → List ℕ → Option Entry → Option Entry
+entryAfter m b e = entryHeard (m .date) (m .gossip) b (entryPut (m .sender) (updated (m .date) (m .direct)) b e)
+
+-- the direct half of the counted field: "decoding to 1 to 2,048 octets", and the effective date for its timestamp
+pub record GoodBrought (date : ℕ) (d : Direct) : Type 0 where
+  pub dated : d .timestamp ≡ date
+  pub key : GoodKey (d .key)
+
+pub record GoodGossiped (g : Gossiped) : Type 0 where
+  pub canonical : isCanonical (g .address) ≡ true
+  pub octets : AllOctets (g .address)
+  pub key : GoodKey (g .key)
+
+unfoldable pub GoodGossipeds : List Gossiped → Type 0
+GoodGossipeds [] = Unit
+GoodGossipeds (g ∷ rest) = GoodGossiped g × GoodGossipeds rest
+
+pub record GoodMessage (m : Message) : Type 0 where
+  pub canonical : isCanonical (m .sender) ≡ true
+  pub octets : AllOctets (m .sender)
+  pub in-range : m .date ≤ timeLimit
+  pub direct : GoodHalf (GoodBrought (m .date)) (m .direct)
+  pub gossip : GoodGossipeds (m .gossip)
