@@ -1,7 +1,7 @@
 -- The sender: by the one From field, the one address in it, and its canonical form.
---     sender-canonical .. sender-octets     what a sender is: the canonical form of a plain address
---     sent-..                          the answer, and what is left in the lent memory, by the answers of the code's three calls
---     answer-some .. left-open         what a caller reads off the answer
+--     sender-canonical .. sender-octets    what a sender is: the canonical form of a plain address
+--     sent-.., left-..                 the answer, and what is left in the lent memory, by the answers of the code's three calls
+--     answer-some .. left-within       what a caller reads off the answer and the lent memory
 -- Assumes nothing.
 use Prim.Native.Nat.{ℕ, _-_, _≤_, _<_}
 use mathlib.Core.Path.{_≡_, refl, sym, ap, _∙_}
@@ -24,7 +24,7 @@ use Rattle.header.specs.Header.{FieldText, fieldsOf}
 use Rattle.header.proofs.Octetwise.{ValuesOctets, block-octets}
 use Rattle.header.proofs.Unfolding.{value-within, value-there, value-there-from}
 use Rattle.list.specs.List.{addresses}
-use Rattle.list.specs.Answers.{onlyOf, onlyIn, Within}
+use Rattle.list.specs.Answers.{between, onlyOf, onlyIn, Within}
 use Rattle.list.specs.declared.Only.{Only as ListOnly}
 use Rattle.list.specs.declared.Only.the-variants.{One as OneAddress, Other as NoOne}
 use Rattle.list.proofs.Readable.{only-some, readable-at}
@@ -150,36 +150,36 @@ module _ (s : List ℕ) (k : Only) (fs : List FieldText) (p : valueIn s k ≡ on
       pub sent-upto : to ≤ length text
       sent-upto = part-within (valueAt s v e) d text t from to sent-from (lies .1)
 
-      part : take (to - from) (drop from text) ≡ take (to - from) (drop from (valueAt s v e))
+      part : between text from to ≡ between (valueAt s v e) from to
       part = part-there (valueAt s v e) d text t from to sent-from (lies .1)
 
-      only : some (take (to - from) (drop from text)) ≡ onlyOf (addresses (valueAt s v e))
+      only : some (between text from to) ≡ onlyOf (addresses (valueAt s v e))
       unfolding onlyIn
       only = ap some part ∙ sym (ap (onlyIn (valueAt s v e)) z) ∙ one
 
-      is : senderIn fs ≡ some (canonical (take (to - from) (drop from text)))
+      is : senderIn fs ≡ some (canonical (between text from to))
       unfolding canonicalOf
       is = told ∙ ap canonicalOf (one ∙ sym only)
 
-      fits : (room : ℕ) → addressRoom ≤ room → length (canonical (take (to - from) (drop from text))) ≤ room
+      fits : (room : ℕ) → addressRoom ≤ room → length (canonical (between text from to)) ≤ room
       fits room h =
-          omega (arith, canonical-most (take (to - from) (drop from text)) (only-plain (valueAt s v e) (take (to - from) (drop from text)) only))
+          omega (arith, canonical-most (between text from to) (only-plain (valueAt s v e) (between text from to) only))
 
       module _ (out : List ℕ) (h : addressRoom ≤ length out) where
-        pub left-one : (left : List ℕ) → left ≡ ontoIfFits (canonical (take (to - from) (drop from text))) out → left ≡ leftBySender (senderIn fs) out
+        pub left-one : (left : List ℕ) → left ≡ ontoIfFits (canonical (between text from to)) out → left ≡ leftBySender (senderIn fs) out
         unfolding leftBySender
-        left-one left r = rw is (r ∙ onto-fits (canonical (take (to - from) (drop from text))) out (fits (length out) h))
+        left-one left r = rw is (r ∙ onto-fits (canonical (between text from to)) out (fits (length out) h))
 
-        module _ (g : Written) (u : g ≡ writtenOf (canonical (take (to - from) (drop from text))) (length out)) where
+        module _ (g : Written) (u : g ≡ writtenOf (canonical (between text from to)) (length out)) where
           pub sent-one : (m : ℕ) → g ≡ Length m → Address m ≡ senderOf (senderIn fs)
           unfolding senderOf
           sent-one m r =
-              rw is (ap Address (written-length (canonical (take (to - from) (drop from text))) (length out) m (sym r ∙ u) .0))
+              rw is (ap Address (written-length (canonical (between text from to)) (length out) m (sym r ∙ u) .0))
 
           -- there is room
           pub sent-no-room : g ≡ NoRoom → NotOne ≡ senderOf (senderIn fs)
           sent-no-room r =
-              absurd (omega (arith, written-no-room (canonical (take (to - from) (drop from text))) (length out) (sym r ∙ u), fits (length out) h))
+              absurd (omega (arith, written-no-room (canonical (between text from to)) (length out) (sym r ∙ u), fits (length out) h))
 
 pub ruleset sending =
     (sent-no-field, left-no-field, sent-no-one, left-no-one, sent-from, sent-upto, left-one, sent-one, sent-no-room, value-within, valued, needs)
