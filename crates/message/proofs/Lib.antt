@@ -6,3 +6,10 @@ pub mod Texts
 pub mod Sending
 pub mod Gathering
 pub mod Worked
+pub mod Keys
+pub mod Trying
+pub mod Counting
+pub mod Accepting
+pub mod Hearing
+pub mod Bringing
+pub mod WorkedFields

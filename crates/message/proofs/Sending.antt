@@ -74,7 +74,7 @@ module _ (fs : List FieldText) (a : List ℕ) (e : senderIn fs ≡ some a) where
   sender-most = rw (given .1 .1) (canonical-most (given .0) given-plain)
 
 -- and it is octets, where the block is
-values-octets : (kind : Kind) (fs : List FieldText) → ValuesOctets fs → EachOctets (valuesOf kind fs)
+pub values-octets : (kind : Kind) (fs : List FieldText) → ValuesOctets fs → EachOctets (valuesOf kind fs)
 unfolding valuesOf ValuesOctets EachOctets
 values-octets kind [] h = tt
 values-octets kind (f ∷ fs) h =
@@ -86,7 +86,7 @@ value-octets [] v h e = let z : _≡_ {A = ℕ} 0 1 = cc in absurd (omega arith)
 value-octets (w ∷ []) v h e = let q : w ≡ v = cc in rw q at (h .0)
 value-octets (w ∷ x ∷ rest) v h e = let z : _≡_ {A = ℕ} 0 1 = cc in absurd (omega arith)
 
-fields-octets : (s : List ℕ) → AllOctets s → ValuesOctets (fieldsIn s)
+pub fields-octets : (s : List ℕ) → AllOctets s → ValuesOctets (fieldsIn s)
 unfolding fieldsIn readFields ValuesOctets
 fields-octets s o = go (fieldsOf s) refl
   where

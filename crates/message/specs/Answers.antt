@@ -16,6 +16,8 @@ use lib.ListN.{length, take, drop}
 use Rattle.octets.specs.Written.{onto}
 use Rattle.header.specs.Header.{unfolded, isSome}
 use Rattle.header.specs.Answers.{fieldsFrom}
+use Rattle.address.specs.Address.{isCanonical}
+use Rattle.slots.specs.Slot.{keyLimit}
 use Rattle.keyfield.specs.Field.{Field, validFields}
 use Rattle.update.specs.Message.{Gossiped}
 use Rattle.message.specs.Message.{readFields, valuesOf, gossipIn}
@@ -78,7 +80,8 @@ validFrom sender s at = validFields sender (valuesFrom Autocrypt s at)
 pub record ValidAt (sender s : List ℕ) (at : ℕ) (key : List ℕ) (m : Bool) (n e : ℕ) : Type 0 where
   pub first : validFrom sender s at ≡ record { address = sender; isMutual = m; key = take n key } ∷ validFrom sender s e
   pub some-octet : 1 ≤ n
-  pub most : n ≤ length key
+  pub most : n ≤ keyLimit
+  pub within : n ≤ length key
   pub upto : e ≤ length s
   pub readable : isSome (fieldsFrom s e) ≡ true
 
@@ -90,7 +93,8 @@ ValidAs sender s at key NoMore = validFrom sender s at ≡ []
 pub record CountedAt (sender : List ℕ) (counted : Option Field) (key : List ℕ) (m : Bool) (n : ℕ) : Type 0 where
   pub is : counted ≡ some (record { address = sender; isMutual = m; key = take n key })
   pub some-octet : 1 ≤ n
-  pub most : n ≤ length key
+  pub most : n ≤ keyLimit
+  pub within : n ≤ length key
 
 unfoldable pub CountedAs : List ℕ → Option Field → List ℕ → Counted → Type 0
 CountedAs sender counted key (Key m n) = CountedAt sender counted key m n
@@ -99,9 +103,11 @@ CountedAs sender counted key NoKey = counted ≡ none
 -- The gossip has this address and key, which open the two lent memories.
 pub record AcceptedAt (gossip : Option Gossiped) (address key : List ℕ) (n k : ℕ) : Type 0 where
   pub is : gossip ≡ some (record { address = take n address; key = take k key })
-  pub address-most : n ≤ length address
+  pub canonical : isCanonical (take n address) ≡ true
+  pub address-within : n ≤ length address
   pub some-octet : 1 ≤ k
-  pub most : k ≤ length key
+  pub most : k ≤ keyLimit
+  pub within : k ≤ length key
 
 unfoldable pub AcceptedAs : Option Gossiped → List ℕ → List ℕ → Accepted → Type 0
 AcceptedAs gossip address key (Gossip n k) = AcceptedAt gossip address key n k
@@ -113,9 +119,11 @@ gossipFrom recipients payload at = gossipIn recipients (readFields (fieldsFrom p
 -- The first accepted gossip has this address and key, which open the two lent memories, and the rest stand from e on.
 pub record HeardAt (recipients : List (List ℕ)) (payload : List ℕ) (at : ℕ) (address key : List ℕ) (e n k : ℕ) : Type 0 where
   pub first : gossipFrom recipients payload at ≡ record { address = take n address; key = take k key } ∷ gossipFrom recipients payload e
-  pub address-most : n ≤ length address
+  pub canonical : isCanonical (take n address) ≡ true
+  pub address-within : n ≤ length address
   pub some-octet : 1 ≤ k
-  pub most : k ≤ length key
+  pub most : k ≤ keyLimit
+  pub within : k ≤ length key
   pub later : at < e
   pub upto : e ≤ length payload
   pub readable : isSome (fieldsFrom payload e) ≡ true

@@ -10,6 +10,7 @@ ghost use lib.ListN.{length};
 ghost use Rattle.octets.specs.Written.{onto};
 ghost use Rattle.header.specs.Header.{readable, isSome};
 ghost use Rattle.header.specs.Answers.{fieldsFrom};
+ghost use Rattle.address.specs.Address.{isCanonical};
 ghost use Rattle.slots.specs.Slot.{addressRoom, keyLimit};
 ghost use Rattle.date.specs.Answers.{datedOf};
 ghost use Rattle.keyfield.specs.Field.{fieldOf};
@@ -196,7 +197,7 @@ pub fn date(block: &[u8], text: &mut [u8]) -> Dated
 
 // The first valid Autocrypt field of the sender from the place `at` on, its key written to the front of `key`.
 fn next_valid(block: &[u8], at: usize, sender: &[u8], text: &mut [u8], key: &mut [u8]) -> Valid
-    requires { ⌜ (isSome (fieldsFrom (now block) at) ≡ true) × (length (now block) ≤ length (now text)) × (keyLimit ≤ length (now key)) ⌝ }
+    requires { ⌜ (isSome (fieldsFrom (now block) at) ≡ true) × (isCanonical (now sender) ≡ true) × (length (now block) ≤ length (now text)) × (keyLimit ≤ length (now key)) ⌝ }
     ensures { λ r. ⌜ ValidAs (now (sender .entry)) (now (block .entry)) at (now (key .exit)) r ⌝ }
 {
     let mut place = at;
@@ -231,7 +232,7 @@ fn next_valid(block: &[u8], at: usize, sender: &[u8], text: &mut [u8], key: &mut
 
 // The Autocrypt field that counts, its key written to the front of `key`: there is a valid one and no second.
 pub fn counted_field(block: &[u8], sender: &[u8], text: &mut [u8], key: &mut [u8]) -> Counted
-    requires { ⌜ (readable (now block) ≡ true) × (length (now block) ≤ length (now text)) × (keyLimit ≤ length (now key)) ⌝ }
+    requires { ⌜ (readable (now block) ≡ true) × (isCanonical (now sender) ≡ true) × (length (now block) ≤ length (now text)) × (keyLimit ≤ length (now key)) ⌝ }
     ensures { λ r. ⌜ CountedAs (now (sender .entry)) (countedIn (fieldsIn (now (block .entry))) (now (sender .entry))) (now (key .exit)) r ⌝ }
 {
     match next_valid(block, 0, sender, text, key) {

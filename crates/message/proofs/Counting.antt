@@ -1,0 +1,89 @@
+-- The field that counts: by the first two answers of `next_valid`.
+--     count-none, count-two, count-one       the answer
+--     counted-is .. counted-nothing          what a caller asks of the answer
+-- Assumes nothing.
+use Prim.Native.Nat.{ℕ, _≤_}
+use mathlib.Core.Path.{_≡_, ap, sym, _∙_}
+use mathlib.Core.Bool.{Bool, true}
+use mathlib.Core.List.{List, [], _∷_}
+use mathlib.Core.Option.{Option, some, none}
+use borrow.Author.Needs.{needs}
+use lib.ListN.{length, take}
+use Rattle.header.specs.Header.{readable}
+use Rattle.slots.specs.Slot.{keyLimit}
+use Rattle.keyfield.specs.Field.{Field, validFields, counted}
+use Rattle.keyfield.proofs.Counted.{counted-none, counted-one, counted-two}
+use Rattle.message.specs.Message.{fieldsIn, valuesOf, countedIn}
+use Rattle.message.specs.Answers.{validFrom, ValidAs, CountedAt, CountedAs}
+use Rattle.message.specs.declared.Kind.the-variants.{Autocrypt}
+use Rattle.message.specs.declared.Valid.{Valid}
+use Rattle.message.specs.declared.Valid.the-variants.{Key as KeyAt, NoMore}
+use Rattle.message.specs.declared.Counted.{Counted}
+use Rattle.message.specs.declared.Counted.the-variants.{Key, NoKey}
+use Rattle.message.proofs.Asking.{values-all, block-begin}
+use Rattle.message.proofs.Trying.{valid-first, valid-some-octet, valid-most, valid-within, valid-readable, valid-none}
+
+module _ (sender s : List ℕ) (c : readable s ≡ true) (key : List ℕ) (k : Valid) (p : ValidAs sender s 0 key k) where
+  abbrev values : List (List ℕ)
+  values = valuesOf Autocrypt (fieldsIn s)
+
+  all : validFields sender values ≡ validFrom sender s 0
+  unfolding validFrom
+  all = ap (validFields sender) (sym (values-all Autocrypt s c))
+
+  pub count-none : k ≡ NoMore → CountedAs sender (countedIn (fieldsIn s) sender) key NoKey
+  unfolding CountedAs countedIn
+  count-none q = counted-none sender values (all ∙ valid-none sender s 0 key k p q)
+
+  module _ (m : Bool) (n e : ℕ) (q : k ≡ KeyAt m n e) (spare : List ℕ) (j : Valid) (r : ValidAs sender s e spare j) where
+    abbrev first : Field
+    first = record { address = sender; isMutual = m; key = take n key }
+
+    front : validFields sender values ≡ first ∷ validFrom sender s e
+    front = all ∙ valid-first sender s 0 key k p m n e q
+
+    pub count-two : (m' : Bool) (n' e' : ℕ) → j ≡ KeyAt m' n' e' → CountedAs sender (countedIn (fieldsIn s) sender) key NoKey
+    unfolding CountedAs countedIn
+    count-two m' n' e' y =
+        counted-two
+        sender
+        values
+        first
+        (record { address = sender; isMutual = m'; key = take n' spare })
+        (validFrom sender s e')
+        (front ∙ ap (λ (fs : List Field). first ∷ fs) (valid-first sender s e spare j r m' n' e' y))
+
+    pub count-one : j ≡ NoMore → CountedAs sender (countedIn (fieldsIn s) sender) key (Key m n)
+    unfolding CountedAs countedIn
+    count-one y =
+        record {
+          is = counted-one sender values first (front ∙ ap (λ (fs : List Field). first ∷ fs) (valid-none sender s e spare j r y));
+          some-octet = valid-some-octet sender s 0 key k p m n e q;
+          most = valid-most sender s 0 key k p m n e q;
+          within = valid-within sender s 0 key k p m n e q;
+        }
+
+pub ruleset counting = (block-begin, valid-readable, count-none, count-two, count-one, needs)
+
+-- as a caller asks it of an answer r
+module _ (sender : List ℕ) (o : Option Field) (key : List ℕ) (r : Counted) (p : CountedAs sender o key r) where
+  module _ (m : Bool) (n : ℕ) (q : r ≡ Key m n) where
+    key-counts : CountedAt sender o key m n
+    unfolding CountedAs
+    key-counts = rw q at p
+
+    pub counted-is : o ≡ some (record { address = sender; isMutual = m; key = take n key })
+    counted-is = key-counts .is
+
+    pub counted-some-octet : 1 ≤ n
+    counted-some-octet = key-counts .some-octet
+
+    pub counted-most : n ≤ keyLimit
+    counted-most = key-counts .most
+
+    pub counted-within : n ≤ length key
+    counted-within = key-counts .within
+
+  pub counted-nothing : r ≡ NoKey → o ≡ none
+  unfolding CountedAs
+  counted-nothing q = rw q at p
