@@ -3,7 +3,7 @@
 --     sent-.., left-..                 the answer, and what is left in the lent memory, by the answers of the code's three calls
 --     answer-some .. left-within       what a caller reads off the answer and the lent memory
 -- Assumes nothing.
-use Prim.Native.Nat.{ℕ, _-_, _≤_, _<_}
+use Prim.Native.Nat.{ℕ, _-_, _≤_}
 use mathlib.Core.Path.{_≡_, refl, sym, ap, _∙_}
 use mathlib.Core.Bool.{true}
 use mathlib.Core.List.{List, [], _∷_}

@@ -24,7 +24,6 @@ use Rattle.message.specs.Message.{
   senderIn,
   anyReport,
   isReported,
-  dateBy,
   addressesIn,
   recipientsIn,
 }
