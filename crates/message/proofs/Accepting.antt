@@ -7,14 +7,14 @@ use Prim.Native.Nat.{ℕ, _-_, _≤_}
 use mathlib.Core.Path.{_≡_, refl, sym, ap, _∙_}
 use mathlib.Core.Bool.{Bool, true, false}
 use mathlib.Core.List.{List}
-use mathlib.Core.Option.{Option, some, none}
+use mathlib.Core.Option.{some, none}
 use native.Mathlib.Omega.{arith}
 use borrow.Author.Needs.{needs}
 use lib.ListN.{length, take, drop}
 use Rattle.octets.specs.Written.{onto}
 use Rattle.base64.specs.Answers.{leftIn}
 use Rattle.header.proofs.Unfolding.{value-within, value-there, value-there-from}
-use Rattle.address.specs.Address.{canonical, isCanonical}
+use Rattle.address.specs.Address.{canonical}
 use Rattle.address.specs.Answers.{writtenOf, ontoIfFits}
 use Rattle.address.specs.declared.Written.{Written}
 use Rattle.address.specs.declared.Written.the-variants.{Length, NoRoom as NoAddressRoom}
@@ -27,10 +27,8 @@ use Rattle.keyfield.specs.Answers.{part, Answered, keyIn}
 use Rattle.keyfield.specs.declared.Read.{Read}
 use Rattle.keyfield.specs.declared.Read.the-variants.{Valid, Spoiled, NoRoom}
 use Rattle.keyfield.proofs.Told.{told-address, told-spoiled, never-crowded}
-use Rattle.update.specs.Message.{Gossiped}
 use Rattle.message.specs.Message.{acceptedBy}
-use Rattle.message.specs.Answers.{AcceptedAt, AcceptedAs}
-use Rattle.message.specs.declared.Accepted.{Accepted}
+use Rattle.message.specs.Answers.{AcceptedAs}
 use Rattle.message.specs.declared.Accepted.the-variants.{Gossip, NotAccepted}
 use Rattle.message.proofs.Keys.{Holds, read-from, read-upto, read-valid}
 

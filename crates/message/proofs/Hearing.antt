@@ -1,6 +1,6 @@
 -- The next accepted gossip: the loop over the gossip fields.
 --     Hearing recipients s at place     no accepted gossip stands from `at` up to `place`
---     hear-begin .. hear-next           the loop's steps
+--     hear-begin .. hear-found          the loop's steps
 --     gossip-all                        all accepted gossip of a readable payload
 --     heard-first .. heard-over         what a caller asks of the answer
 -- Assumes nothing.

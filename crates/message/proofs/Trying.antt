@@ -1,6 +1,6 @@
 -- The first valid Autocrypt field: the loop over the Autocrypt fields.
 --     Trying sender s at place     no valid field stands from `at` up to `place`
---     try-begin .. try-next        the loop's steps
+--     try-begin .. try-found       the loop's steps
 --     valid-first .. valid-none    what a caller asks of the answer
 -- Assumes nothing.
 use Prim.Native.Nat.{ℕ, _-_, _≤_}
@@ -21,7 +21,7 @@ use Rattle.header.proofs.Unfolding.{value-within, value-there-from}
 use Rattle.address.specs.Address.{canonical, isCanonical}
 use Rattle.address.proofs.Spelling.{canonical-same}
 use Rattle.slots.specs.Slot.{keyLimit}
-use Rattle.keyfield.specs.Field.{Field, fieldOf, validFor, validFields}
+use Rattle.keyfield.specs.Field.{fieldOf, validFor, validFields}
 use Rattle.keyfield.specs.Answers.{Answered, keyIn}
 use Rattle.keyfield.specs.declared.Read.{Read}
 use Rattle.keyfield.specs.declared.Read.the-variants.{Valid as ValidField, Spoiled, NoRoom}
