@@ -2,12 +2,14 @@
 --     sender-canonical .. sender-octets    what a sender is: the canonical form of a plain address
 --     sent-.., left-..                 the answer, and what is left in the lent memory, by the answers of the code's three calls
 --     answer-some .. left-within       what a caller reads off the answer and the lent memory
+--     sender-there ..                  the same of a block's sender, lent on
 -- Assumes nothing.
 use Prim.Native.Nat.{ℕ, _-_, _≤_}
 use mathlib.Core.Path.{_≡_, refl, sym, ap, _∙_}
 use mathlib.Core.Bool.{true}
 use mathlib.Core.List.{List, [], _∷_}
 use mathlib.Core.Option.{Option, some, none}
+use native.Mathlib.Nat.{sub-zero}
 use native.Mathlib.Omega.{arith}
 use borrow.Author.Needs.{needs}
 use lib.ListN.{length, take, drop}
@@ -214,3 +216,17 @@ module _ (o : Option (List ℕ)) (r : Sender) (t : r ≡ senderOf o) where
 
     pub left-within : n ≤ length out
     left-within = value-within (address .0) d out n (address .1 .1) holds
+
+-- the sender in the lent memory, lent on as `&out[0..n]`
+module _ (fs : List FieldText) (r : Sender) (t : r ≡ senderOf (senderIn fs)) (out d : List ℕ) (l : out ≡ leftBySender (senderIn fs) d) (n : ℕ)
+    (q : r ≡ Address n) where
+  pub sender-there : senderIn fs ≡ some (take (n - 0) (drop 0 out))
+  sender-there = rw sub-zero (left-is (senderIn fs) r t out d l n q)
+
+  pub sender-there-canonical : isCanonical (take (n - 0) (drop 0 out)) ≡ true
+  sender-there-canonical = sender-canonical fs (take (n - 0) (drop 0 out)) sender-there
+
+  pub sender-there-most : n ≤ 254
+  sender-there-most =
+      let p : (a : List ℕ) × ((senderIn fs ≡ some a) × (n ≡ length a)) = answer-some (senderIn fs) n (sym q ∙ t) in
+      omega (arith, p .1 .1, sender-most fs (p .0) (p .1 .0))
