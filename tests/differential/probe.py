@@ -21,6 +21,10 @@ class FieldPlaces(ctypes.Structure):
     _fields_ = [(name, ctypes.c_uint64) for name in ("kind", "name_end", "value", "end")]
 
 
+class NumberedPlaces(ctypes.Structure):
+    _fields_ = [(name, ctypes.c_uint64) for name in ("kind", "name", "name_end", "value", "end")]
+
+
 class ListPlaces(ctypes.Structure):
     _fields_ = [
         ("kind", ctypes.c_uint64),
@@ -165,6 +169,15 @@ class Probe(Bound):
             kind, value = self.unfold(block[r.value : r.end], bytes(r.end - r.value))
             found.append((block[at : r.name_end], value))
             at = r.end
+
+    def field_number(self, block: bytes, k: int) -> tuple[bytes, bytes] | int:
+        """The field of that number, from 0, with its unfolded value; 0: the block is over before it; 1: it is unreadable before it."""
+        r = self._call("probe_field_number", NumberedPlaces, _read + [_size], block, len(block), k)
+        if r.kind != 2:
+            return r.kind
+        if not r.name < r.name_end < r.value <= r.end <= len(block):
+            raise AssertionError(f"places out of order: {r.name} {r.name_end} {r.value} {r.end}")
+        return block[r.name : r.name_end], self.unfold(block[r.value : r.end], bytes(r.end - r.value))[1]
 
     def readable(self, block: bytes) -> bool:
         return self._call("probe_readable", ctypes.c_bool, _read, block, len(block))

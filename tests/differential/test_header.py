@@ -26,6 +26,17 @@ class Header(unittest.TestCase):
             answers.add(self.same(self.cases.header_block()))
         self.assertEqual(answers, {False, True})
 
+    def test_numbers(self):
+        """The fields by their numbers, up to the first number that has none; all behind it give the same."""
+        for _ in range(5_000):
+            block = self.cases.header_block()[: header.BLOCK_LIMIT]
+            found = []
+            while isinstance(answer := self.probe.field_number(block, len(found)), tuple):
+                found.append(answer)
+            self.assertEqual(found if answer == 0 else None, header.fields(block), block)
+            for k in (len(found) + 1, 2**64 - 1):
+                self.assertEqual(self.probe.field_number(block, k), answer, block)
+
     def test_small_blocks(self):
         """Every text of up to six octets out of those that matter."""
         letters = b"A: \r\n"

@@ -18,6 +18,7 @@ use Rattle.tokens.specs.Tokens.{blank}
 use Rattle.base64.specs.Base64.{decode, withoutBlanks}
 use Rattle.address.specs.Pieces.{pieces, before, behind}
 use Rattle.address.specs.Address.{oneTo, plain, canonical}
+use Rattle.slots.specs.Slot as slot
 use Rattle.keyfield.specs.declared.Name.{Name}
 use Rattle.keyfield.specs.declared.Name.the-variants.{Addr, PreferEncrypt, Keydata, Ignored, Unknown}
 
@@ -128,9 +129,9 @@ saidFrom address preference (p ∷ rest) =
 unfoldable pub saidOf : List ℕ → Option Said
 saidOf s = saidFrom none none (pieces (octet ";") s)
 
--- ".. decoding to 1 to 2,048 octets"
+-- ".. decoding to 1 to 2,048 octets": as much as a slot holds
 abbrev pub keyLimit : ℕ
-keyLimit = 2048
+keyLimit = slot.keyLimit
 
 unfoldable pub limited : Option (List ℕ) → Option (List ℕ)
 limited none = none

@@ -6,9 +6,7 @@ ghost use Rattle.base64.specs.Answers.{leftIn};
 ghost use Rattle.keyfield.specs.Field.{nameOf, attributeOf, withAddress, withPreference, step, mutualBy, keyOf, fieldOf};
 ghost use Rattle.keyfield.specs.Answers.{part, Within, FirstAt, TrimmedFrom, TrimmedTo, Trimmed, Tells, addressAt, Stands, stated, Steps, wholeOf, Scans, keyAnswer, Answered, keyIn};
 use base64::Decoded;
-
-// ".. decoding to 1 to 2,048 octets"
-const KEY_LIMIT: usize = 2048;
+use slots::Slot;
 
 // Where something stands in the value: from the place `from` up to the place `to`.
 struct Part {
@@ -289,13 +287,13 @@ fn scan(s: &[u8]) -> Scanned
     }
 }
 
-// Writes the key that key data stands for to the front of `out`. It is decoded into room of its own, which
-// has just what a key may have, since a text may stand for more than that.
+// Writes the key that key data stands for, ".. decoding to 1 to 2,048 octets", to the front of `out`. It is decoded into
+// room of its own, which has just what a key may have, since a text may stand for more than that.
 fn read_key(text: &[u8], out: &mut [u8]) -> Key
     ensures { λ r. ⌜ r ≡ keyAnswer (keyOf (now (text .entry))) (length (now (out .entry))) ⌝ }
     ensures { λ _. ⌜ now (out .exit) ≡ leftIn (keyOf (now (text .entry))) (now (out .entry)) ⌝ }
 {
-    let mut room = [0u8; KEY_LIMIT];
+    let mut room = [0u8; Slot::KEY_LIMIT];
     match base64::decode(text, &mut room) {
         Decoded::Octets(n) => {
             if n == 0 {

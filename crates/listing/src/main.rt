@@ -7,7 +7,7 @@ use libc::STDIN_FILENO;
 use libc::STDOUT_FILENO;
 
 // 14 slots.
-const LONGEST: usize = 61488;
+const LONGEST: usize = 14 * slots::Slot::LEN;
 
 fn print(text: &[u8]) {
     io::write_all(STDOUT_FILENO, text);

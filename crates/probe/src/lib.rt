@@ -201,6 +201,48 @@ pub extern "C" fn probe_field_at(block: &[u8], at: usize) -> FieldPlaces {
     }
 }
 
+#[repr(C)]
+pub struct NumberedPlaces {
+    pub kind: u64,
+    pub name: u64,
+    pub name_end: u64,
+    pub value: u64,
+    pub end: u64,
+}
+
+// kind 0: the block is over before; 1: it is unreadable before; 2: the field of that number
+#[no_mangle]
+pub extern "C" fn probe_field_number(block: &[u8], k: usize) -> NumberedPlaces {
+    match reader::field_number(block, k) {
+        reader::Handed::Over => NumberedPlaces {
+            kind: 0,
+            name: 0,
+            name_end: 0,
+            value: 0,
+            end: 0,
+        },
+        reader::Handed::Broken => NumberedPlaces {
+            kind: 1,
+            name: 0,
+            name_end: 0,
+            value: 0,
+            end: 0,
+        },
+        reader::Handed::Field {
+            name,
+            name_end,
+            value,
+            end,
+        } => NumberedPlaces {
+            kind: 2,
+            name: name as u64,
+            name_end: name_end as u64,
+            value: value as u64,
+            end: end as u64,
+        },
+    }
+}
+
 #[no_mangle]
 pub extern "C" fn probe_readable(block: &[u8]) -> bool {
     header::readable(block)

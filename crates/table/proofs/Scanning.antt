@@ -2,12 +2,13 @@
 --     lowest-here .. many-same    one slot of a scan
 --     Scan test t n i             the lowest of n slots that passes the test is the lowest of those from i on
 --     scan-begin .. scan-end      the loop's steps
---     searching                   the scan for an address, with the comparison of octets inside
+--     Seek t a n i f              no slot before i holds the address, and f says so
+--     searching                   the scan for it, with the comparison of octets inside
 --     Tally t n many i            of n slots so many before i are free
 --     finding-free, tallying      the scans for free slots
 -- Assumes nothing.
 use Prim.Native.Nat.{ℕ, suc, _+_, _-_, _<_, _≤_}
-use mathlib.Core.Path.{_≡_, sym, _∙_}
+use mathlib.Core.Path.{_≡_, refl, sym, _∙_}
 use mathlib.Core.Bool.{Bool, true, false, not, _&&_, and-false}
 use mathlib.Core.List.{List}
 use native.Mathlib.Nat.{sub-zero}
@@ -105,8 +106,8 @@ module _ (t a : List ℕ) (n i : ℕ) (h : Scan (holds a) t n i) where
         let g : i + 1 - 1 ≡ i = omega arith in
         rw g (scan-yes (holds a) t n i h l (rw (← e .0, u, f)))
 
-  pub nowhere : n ≤ i → Nothing ≡ lowest (holds a) t 0 n
-  nowhere l = scan-end (holds a) t n i h l
+  pub nowhere : (f : Found) → f ≡ Nothing → n ≤ i → f ≡ lowest (holds a) t 0 n
+  nowhere f e l = e ∙ scan-end (holds a) t n i h l
 
 module _ (s a : List ℕ) where
   pub long-enough : (b : Bool) → b ≡ (marked s && eqb (length (addressOf s)) (length a)) → not b ≡ false → Same (addressOf s) a 0
@@ -125,10 +126,17 @@ module _ (s a : List ℕ) where
 pub within-slots : (t : List ℕ) (n i : ℕ) → n ≤ slots t → i < n → i < slots t
 within-slots t n i h l = omega arith
 
-pub search-begin : (t a : List ℕ) (n : ℕ) → Scan (holds a) t n 0
-search-begin t a n = scan-begin (holds a) t n
+pub record Seek (t a : List ℕ) (n i : ℕ) (f : Found) : Type 0 where
+  pub scan : Scan (holds a) t n i
+  pub unfound : f ≡ Nothing
 
-pub ruleset searching = (within-slots, search-begin, pass-by, differs, stands, nowhere, long-enough, within-slot, agrees, needs)
+pub seek-begin : (t a : List ℕ) (n : ℕ) → Seek t a n 0 Nothing
+seek-begin t a n = record { scan = scan-begin (holds a) t n; unfound = refl }
+
+pub seek-on : (t a : List ℕ) (n i : ℕ) (f : Found) → f ≡ Nothing → Scan (holds a) t n i → Seek t a n i f
+seek-on t a n i f e h = record { scan = h; unfound = e }
+
+pub ruleset searching = (within-slots, seek-begin, seek-on, pass-by, differs, stands, nowhere, long-enough, within-slot, agrees, needs)
 
 -- the whole table
 pub found-is : (t a : List ℕ) (n : ℕ) (f : Found) → n ≡ slots t → f ≡ lowest (holds a) t 0 n → f ≡ found t a

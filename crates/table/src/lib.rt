@@ -47,13 +47,14 @@ fn could_hold(slot: &[u8], length: usize) -> bool
     slots::is_marked(slot) & (slots::address_of(slot).len() == length)
 }
 
-// The lowest of the first `n` slots that holds the address: lengths are compared before octets, and the first octet that
-// differs leads on to the next slot.
+// The lowest of the first `n` slots that holds the address: lengths are compared before octets, the first octet that
+// differs leads on to the next slot, and the first equal address out of the scan.
 fn search(table: &[u8], address: &[u8], n: usize) -> Found
     requires { ⌜ n ≤ slotsOf (now table) ⌝ }
     ensures { λ r. ⌜ r ≡ lowest (holds (now (address .entry))) (now (table .entry)) 0 n ⌝ }
 {
     let mut i = 0;
+    let mut found = Found::Nothing;
     'slots: while i < n {
         let slot = slot_at(table, i);
         i += 1;
@@ -67,9 +68,10 @@ fn search(table: &[u8], address: &[u8], n: usize) -> Found
             }
             k += 1;
         }
-        return Found::At(i - 1);
+        found = Found::At(i - 1);
+        break 'slots;
     }
-    Found::Nothing
+    found
 }
 
 // The slot that holds the address.

@@ -3,22 +3,21 @@ use Prim.Native.Nat.{_-_}
 use lib.ListN.{length}
 use Rattle.octets.proofs.Comparing.{Same}
 use Rattle.slots.specs.Slot.{addressOf}
-use Rattle.table.specs.Table.{holds}
-use Rattle.table.proofs.Scanning.{Scan, searching}
+use Rattle.table.proofs.Scanning.{Seek, searching}
 use Rattle.table.proofs.search.Statement.{statement}
 use Rattle.table.proofs.search.Tie as tie
 
 abbrev Inv-loop : tie.InvT-loop
-Inv-loop table address n i slot k₀ k = Same (addressOf slot) address k
+Inv-loop table address n i found slot k₀ k = Same (addressOf slot) address k
 
 abbrev μ-loop : tie.MeasureT-loop
-μ-loop table address n i slot k₀ k = length address - k
+μ-loop table address n i found slot k₀ k = length address - k
 
 abbrev Inv-slots : tie.InvT-slots
-Inv-slots table address n i₀ i = Scan (holds address) table n i
+Inv-slots table address n i₀ found₀ i found = Seek table address n i found
 
 abbrev μ-slots : tie.MeasureT-slots
-μ-slots table address n i₀ i = n - i
+μ-slots table address n i₀ found₀ i found = n - i
 
 slots-holds : tie.Need-slots-holds Inv-loop μ-loop Inv-slots μ-slots
 slots-holds c = search searching
@@ -65,8 +64,8 @@ loop-less c = search searching
 loop-again : tie.Need-loop-again Inv-loop μ-loop Inv-slots μ-slots
 loop-again c = search searching
 
-sub-t8 : tie.Need-sub-t8 Inv-loop μ-loop Inv-slots μ-slots
-sub-t8 c = search searching
+sub-t9 : tie.Need-sub-t9 Inv-loop μ-loop Inv-slots μ-slots
+sub-t9 c = search searching
 
 returns : tie.Need-returns Inv-loop μ-loop Inv-slots μ-slots
 returns c = search searching
@@ -97,6 +96,6 @@ search-spec =
     add-k
     loop-less
     loop-again
-    sub-t8
+    sub-t9
     returns
     returns-2)

@@ -1,0 +1,4 @@
+mod Held
+pub mod Handing
+pub mod Numbering
+mod Worked

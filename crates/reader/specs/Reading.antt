@@ -1,0 +1,57 @@
+-- "A reader holds the block and its place and hands out one field at a time." What stands at a place is `stepAt` of the crate header.
+--     handed, handedAt         what is handed out at a place
+--     placeBehind              where the reader goes on
+--     handedAfter              what is handed out after so many others
+--     opened, movedOn          a reader at the beginning of a block, and behind what it handed out
+--     textOf, fieldOf          the field that is handed out, and the field of a number of a list
+use Prim.Native.Nat.{ℕ, zero, suc}
+use mathlib.Core.List.{List, [], _∷_}
+use mathlib.Core.Option.{Option, some, none}
+use denote.Ref.{RefT, now}
+use Rattle.header.specs.Header.{FieldText}
+use Rattle.header.specs.Answers.{stepAt, fieldAt}
+use Rattle.header.specs.declared.Step.{Step}
+use Rattle.header.specs.declared.Step.the-variants as step
+use Rattle.reader.specs.declared.Handed.{Handed}
+use Rattle.reader.specs.declared.Handed.the-variants.{Over, Broken, Field}
+use Rattle.reader.specs.declared.Reader.{Reader}
+
+-- what is handed out at a place, by what stands there: a field with the place where its name begins
+unfoldable pub handed : ℕ → Step → Handed
+handed at step.Over = Over
+handed at step.Broken = Broken
+handed at (step.Field n v e) = Field at n v e
+
+unfoldable pub handedAt : List ℕ → ℕ → Handed
+handedAt s at = handed at (stepAt s at)
+
+-- "one field at a time": behind a field the reader goes on where the next line begins; else it stays
+unfoldable pub placeBehind : Handed → ℕ → ℕ
+placeBehind Over at = at
+placeBehind Broken at = at
+placeBehind (Field m n v e) at = e
+
+-- what a reader that begins at a place hands out after so many others
+unfoldable pub handedAfter : ℕ → List ℕ → ℕ → Handed
+handedAfter zero s at = handedAt s at
+handedAfter (suc k) s at = handedAfter k s (placeBehind (handedAt s at) at)
+
+-- a reader at the beginning of a block
+abbrev pub opened : RefT (List ℕ) → Reader
+opened block = record { block = block; at = 0 }
+
+-- the same block, and the place behind what is handed out
+abbrev pub movedOn : Reader → Reader
+movedOn r = record { block = r .block; at = placeBehind (handedAt (now (r .block)) (r .at)) (r .at) }
+
+-- the field that is handed out
+unfoldable pub textOf : List ℕ → Handed → Option FieldText
+textOf s Over = none
+textOf s Broken = none
+textOf s (Field m n v e) = some (fieldAt s m n v e)
+
+-- the field of a number, from 0
+unfoldable pub fieldOf : ℕ → List FieldText → Option FieldText
+fieldOf k [] = none
+fieldOf zero (f ∷ fs) = some f
+fieldOf (suc k) (f ∷ fs) = fieldOf k fs
