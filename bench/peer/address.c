@@ -1,0 +1,147 @@
+#include "address.h"
+
+enum { COMMENT_DEPTH = 16 };
+
+bool plain_address(const uint8_t *s, size_t n, unsigned *kinds) {
+    if (n > ADDRESS_LIMIT) return false;
+    const uint8_t *p = s, *end = s + n;
+    unsigned seen = 0;
+    for (;;) {
+        const uint8_t *atom = p;
+        while (p < end && is(*p, ATOM)) seen |= octet_kind[*p++];
+        if (p == atom || p == end) return false;
+        if (*p == '@') break;
+        if (*p++ != '.') return false;
+    }
+    if (p - s > LOCAL_LIMIT) return false;
+    p++;
+    for (;;) {
+        const uint8_t *label = p;
+        while (p < end && is(*p, LABEL)) seen |= octet_kind[*p++];
+        if (p == label || p - label > LABEL_LIMIT || *label == '-' || p[-1] == '-') return false;
+        if (p == end) break;
+        if (*p++ != '.') return false;
+    }
+    *kinds = seen;
+    return true;
+}
+
+/* Behind the comment that opens at `s`; NULL where it is unreadable. */
+static const uint8_t *skip_comment(const uint8_t *s, const uint8_t *end) {
+    int depth = 0;
+    for (; s < end; s++) {
+        if (is(*s, CONTROL)) return NULL;
+        if (*s == '\\') {
+            if (++s == end || is(*s, CONTROL)) return NULL;
+        } else if (*s == '(') {
+            if (++depth > COMMENT_DEPTH) return NULL;
+        } else if (*s == ')') {
+            if (--depth == 0) return s + 1;
+        }
+    }
+    return NULL;
+}
+
+const uint8_t *skip_blanks(const uint8_t *s, const uint8_t *end) {
+    while (s < end) {
+        if (is(*s, BLANK)) {
+            s++;
+        } else if (*s == '(') {
+            s = skip_comment(s, end);
+            if (s == NULL) return NULL;
+        } else {
+            break;
+        }
+    }
+    return s;
+}
+
+/* Behind the quoted string that opens at `s`; NULL where it is unreadable. */
+static const uint8_t *skip_quoted(const uint8_t *s, const uint8_t *end) {
+    for (s++; s < end; s++) {
+        if (is(*s, CONTROL)) return NULL;
+        if (*s == '"') return s + 1;
+        if (*s == '\\' && (++s == end || is(*s, CONTROL))) return NULL;
+    }
+    return NULL;
+}
+
+struct list {
+    const uint8_t *begin, *end;
+    struct span *found;
+    long room, count;
+};
+
+/* The readers take the first octet of what they read, and answer the place behind it and behind the blanks and comments
+ * that follow; NULL where it is unreadable. */
+
+static const uint8_t *read_address(struct list *list, const uint8_t *s) {
+    const uint8_t *from = s;
+    unsigned kinds;
+    while (s < list->end && (is(*s, ATOM) || *s == '.' || *s == '@')) s++;
+    if (!plain_address(from, (size_t)(s - from), &kinds)) return NULL;
+    if (list->count < list->room) {
+        list->found[list->count] = (struct span){(size_t)(from - list->begin), (size_t)(s - from)};
+    }
+    list->count++;
+    return skip_blanks(s, list->end);
+}
+
+static const uint8_t *read_angle(struct list *list, const uint8_t *s) {
+    s = skip_blanks(s + 1, list->end);
+    if (s == NULL) return NULL;
+    s = read_address(list, s);
+    if (s == NULL || s == list->end || *s != '>') return NULL;
+    return skip_blanks(s + 1, list->end);
+}
+
+static const uint8_t *read_places(struct list *list, const uint8_t *s, bool inside);
+
+static const uint8_t *read_group(struct list *list, const uint8_t *s) {
+    s = skip_blanks(s + 1, list->end);
+    if (s == NULL || s == list->end) return NULL;
+    if (*s != ';') s = read_places(list, s, true);
+    if (s == NULL || s == list->end || *s != ';') return NULL;
+    return skip_blanks(s + 1, list->end);
+}
+
+static const uint8_t *read_place(struct list *list, const uint8_t *s, bool inside) {
+    const uint8_t *from = s, *end = list->end;
+    while (s < end && (is(*s, ATOM) || *s == '.')) s++;
+    if (s < end && *s == '@') return read_address(list, from);
+    /* no address: the words of a phrase, and what follows it */
+    for (;;) {
+        s = skip_blanks(s, end);
+        if (s == NULL || s == end) return NULL;
+        if (*s == '"') {
+            s = skip_quoted(s, end);
+            if (s == NULL) return NULL;
+        } else if (is(*s, ATOM) || *s == '.') {
+            do s++;
+            while (s < end && (is(*s, ATOM) || *s == '.'));
+        } else {
+            break;
+        }
+    }
+    if (*s == '<') return read_angle(list, s);
+    if (*s == ':' && s > from && !inside) return read_group(list, s);
+    return NULL;
+}
+
+static const uint8_t *read_places(struct list *list, const uint8_t *s, bool inside) {
+    for (;;) {
+        s = read_place(list, s, inside);
+        if (s == NULL || s == list->end || *s != ',') return s;
+        s = skip_blanks(s + 1, list->end);
+        if (s == NULL) return NULL;
+    }
+}
+
+long read_list(const uint8_t *s, size_t n, struct span *found, long room) {
+    struct list list = {s, s + n, found, room, 0};
+    const uint8_t *end = s + n;
+    s = skip_blanks(s, end);
+    if (s == NULL) return -1;
+    s = read_places(&list, s, false);
+    return s == end ? list.count : -1;
+}
