@@ -1,6 +1,6 @@
 -- Writing a key as lines.
 --     four-one .. of-three     `four_of_one` to `four_at`: the characters that an encoded key goes on with (the ruleset fouring)
---     after-whole .. four-room `takes_after`, `break_line`, `put_four` (breaking)
+--     after-whole .. break-put `takes_after`, `break_line` (breaking)
 --     piece-is .. group-put    `put_group`: a group behind the line break that it may want (placing)
 --     laid-piece               one group of a text is laid out so
 --     Laid s d out at i o k    `lay`: d is the memory as it came and out as it is now, written from the place `at` to the place o with the groups
@@ -20,7 +20,7 @@ use Rattle.octets.proofs.Writing.{Wrote, begin-at, kept, counted, puts, done-at
 use Rattle.base64.specs.Base64.{letter, encode, laid, lines}
 use Rattle.base64.specs.Steps.{characters, lineBreak, piece, after}
 use Rattle.base64.specs.declared.Four.{Four}
-use Rattle.base64.proofs.Putting.{put-two, put-then, put-both, room-second, over-none, over-three, over-four, has-room}
+use Rattle.base64.proofs.Putting.{put-two, put-then, put-both, room-second, over-none, has-room}
 
 module _ (s : List ℕ) (at : ℕ) (f : Four) (h : at < length s) where
   pub four-one : length s - at ≡ 1 → characters f ≡ encode (getD s at 0 ∷ []) → encode (drop at s) ≡ characters f ++ encode (drop (at + 3) s)
@@ -91,20 +91,13 @@ module _ (d : List ℕ) (at k : ℕ) where
     pub next-place : at + 3 ≡ at + length (lineBreak k)
     next-place = rw (line-break k e)
 
-    pub break-room : at + length (lineBreak k) ≤ length d → (j : ℕ) → j < 3 → at + j < length d
-    break-room h j l = let q = next-place in omega arith
+    pub break-room : at + length (lineBreak k) ≤ length d → at + 3 ≤ length d
+    break-room h = let q = next-place in omega arith
 
-    pub break-first : at + length (lineBreak k) ≤ length d → at < length d
-    break-first h = let q = next-place in omega arith
+    pub break-put : (d₁ : List ℕ) → d₁ ≡ putAt d at (13 ∷ 10 ∷ 32 ∷ []) → d₁ ≡ putAt d at (lineBreak k)
+    break-put d₁ q = rw (line-break k e) q
 
-    pub break-put : at + length (lineBreak k) ≤ length d → set (set (set d at 13) (at + 1) 10) (at + 2) 32 ≡ putAt d at (lineBreak k)
-    break-put h = rw (line-break k e) (over-three d at 13 10 32 (let q = next-place in omega arith))
-
--- `put_four`
-pub four-room : (d : List ℕ) (at : ℕ) → at + 4 ≤ length d → (j : ℕ) → j < 4 → at + j < length d
-four-room d at h j l = omega arith
-
-pub ruleset breaking = (after-whole, after-one, same-place, nothing-put, next-place, break-room, break-first, break-put, four-room, over-four, needs)
+pub ruleset breaking = (after-whole, after-one, same-place, nothing-put, next-place, break-room, break-put, needs)
 
 -- the lines of a key that is not empty
 lines-begin : (s : List ℕ) → 0 < length s → lines (encode s) ≡ 32 ∷ laid 76 (encode s)

@@ -1,9 +1,11 @@
 -- What the private functions answer: the steps between the rule of `Base64` and the code's places.
+--     Letters          a table that has the letter of each value
 --     codeOf, Signs    a sign as a number, and a table that has the number of each octet's sign
 --     Low              a sign whose value, if it has one, is below 64
 --     NextLetter       what `next_letter` answers
 --     stepOf           what a text goes on with whose next four characters are a group
 --     NextGroup        what `next_group` answers
+--     WholeGroup       what `whole_group` answers
 --     sizeOf, Room     how many octets a text stands for, and that they have room
 --     characters       the four characters of a group
 --     lineBreak, piece    the line break before a group, and the group behind it
@@ -13,7 +15,7 @@ use mathlib.Core.Path.{_≡_}
 use mathlib.Core.List.{List, [], _∷_, _++_}
 use mathlib.Core.Option.{Option, some, none}
 use lib.ListN.{length, getD, take, drop}
-use Rattle.base64.specs.Base64.{signOf, before, decode, withoutBlanks, encode, cr, lf, space}
+use Rattle.base64.specs.Base64.{letter, signOf, before, decode, withoutBlanks, encode, cr, lf, space}
 use Rattle.base64.specs.declared.Sign.{Sign}
 use Rattle.base64.specs.declared.Sign.the-variants.{Value, Pad, Other}
 use Rattle.base64.specs.declared.Group.{Group}
@@ -23,8 +25,13 @@ use Rattle.base64.specs.declared.Letter.the-variants.{End as Over, At}
 use Rattle.base64.specs.declared.Four.{Four}
 use Rattle.base64.specs.declared.Next.{Next}
 use Rattle.base64.specs.declared.Next.the-variants.{Three, Two, One, End, Broken}
+use Rattle.base64.specs.declared.Whole.{Whole}
+use Rattle.base64.specs.declared.Whole.the-variants.{Three as WThree, Other as WOther}
 use Rattle.base64.specs.declared.Size.{Size}
 use Rattle.base64.specs.declared.Size.the-variants.{Of, Wrong}
+
+pub record Letters (table : List ℕ) : Type 0 where
+  pub at : (v : ℕ) → v < 64 → getD table v 0 ≡ letter v
 
 -- the value, or 64 for a pad and 65 for all else
 unfoldable pub codeOf : Sign → ℕ
@@ -63,6 +70,11 @@ NextGroup s at (Two x y) = decode (withoutBlanks (drop at s)) ≡ some (x ∷ y 
 NextGroup s at (One x) = decode (withoutBlanks (drop at s)) ≡ some (x ∷ [])
 NextGroup s at End = decode (withoutBlanks (drop at s)) ≡ some []
 NextGroup s at Broken = decode (withoutBlanks (drop at s)) ≡ none
+
+-- the next group where it is known to be whole, four letters from the place `at` on; else nothing is said
+unfoldable pub WholeGroup : List ℕ → ℕ → Whole → Type 0
+WholeGroup s at (WThree x y z) = NextGroup s at (Three x y z (at + 4))
+WholeGroup s at WOther = Unit
 
 unfoldable pub sizeOf : Option (List ℕ) → Size
 sizeOf none = Wrong

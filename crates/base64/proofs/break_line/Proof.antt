@@ -6,20 +6,8 @@ use Rattle.base64.proofs.break_line.Tie as tie
 returns : tie.Need-returns
 returns c = search breaking
 
-slice-write-out : tie.Need-slice-write-out
-slice-write-out c = search breaking
-
-add-out : tie.Need-add-out
-add-out c = search breaking
-
-slice-write-out-2 : tie.Need-slice-write-out-2
-slice-write-out-2 c = search breaking
-
-add-out-2 : tie.Need-add-out-2
-add-out-2 c = search breaking
-
-slice-write-out-3 : tie.Need-slice-write-out-3
-slice-write-out-3 c = search breaking
+put-three-requires : tie.Need-put-three-requires
+put-three-requires c κs = search breaking
 
 add-result : tie.Need-add-result
 add-result c = search breaking
@@ -31,15 +19,4 @@ returns-2 : tie.Need-returns-2
 returns-2 c = search breaking
 
 pub break-line-spec : {M : Type 1} → statement M
-break-line-spec =
-    tie.close
-    (tie.spec
-    returns
-    slice-write-out
-    add-out
-    slice-write-out-2
-    add-out-2
-    slice-write-out-3
-    add-result
-    same-length
-    returns-2)
+break-line-spec = tie.close (tie.spec returns put-three-requires add-result same-length returns-2)

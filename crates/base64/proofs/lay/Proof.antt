@@ -6,10 +6,13 @@ use Rattle.base64.proofs.lay.Statement.{statement}
 use Rattle.base64.proofs.lay.Tie as tie
 
 abbrev Inv-loop : tie.InvT-loop
-Inv-loop key out₀ at o₀ i₀ takes₀ out o i takes = Laid key out₀ out at i o takes
+Inv-loop key out₀ at letters o₀ i₀ takes₀ out o i takes = Laid key out₀ out at i o takes
 
 abbrev μ-loop : tie.MeasureT-loop
-μ-loop key out₀ at o₀ i₀ takes₀ out o i takes = length key - i
+μ-loop key out₀ at letters o₀ i₀ takes₀ out o i takes = length key - i
+
+letters-requires : tie.Need-letters-requires Inv-loop μ-loop
+letters-requires c κs = search laying
 
 loop-holds : tie.Need-loop-holds Inv-loop μ-loop
 loop-holds c = search laying
@@ -53,6 +56,7 @@ lay-spec =
     (tie.spec
     Inv-loop
     μ-loop
+    letters-requires
     loop-holds
     put-group-requires
     takes-after-requires
