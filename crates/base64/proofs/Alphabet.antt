@@ -19,7 +19,7 @@ use lib.Dec.{leb, eqb}
 use lib.ListN.{getD, set, replicate}
 use Rattle.octets.specs.Octets.{ascii}
 use Rattle.base64.specs.Base64.{letter, signOf, between, pad}
-use Rattle.base64.specs.Steps.{Letters, codeOf, Signs, Low}
+use Rattle.base64.specs.Steps.{Letters, codeOf, Signs}
 use Rattle.base64.specs.declared.Sign.{Sign}
 use Rattle.base64.specs.declared.Sign.the-variants.{Value, Pad, Other}
 
@@ -158,12 +158,6 @@ module _ (x v : ℕ) (e : v ≡ codeOf (signOf x)) where
 
   pub found-other : 64 ≤ v → (v ≡ 64 → ⊥) → Other ≡ signOf x
   found-other k l = is-other (signOf x) (below x) (λ u. omega arith) (λ u. l (e ∙ u))
-
-pub low-pad : Low Pad
-low-pad = tt
-
-pub low-other : Low Other
-low-other = tt
 
 pub ruleset finding = (code-found, found-value, found-pad, found-other, needs)
 

@@ -4,7 +4,7 @@
 --     the rulesets     stepping for `step`, spacing for `next_group`, nearing for `whole_group`
 -- Assumes nothing.
 use Prim.Native.Nat.{ℕ, _+_, _-_, _*_, _/_, _%_, _<_, _≤_}
-use mathlib.Core.Path.{_≡_, refl, sym, ap, _∙_}
+use mathlib.Core.Path.{_≡_, refl, sym, ap}
 use mathlib.Core.Bool.{Bool, true, false}
 use mathlib.Core.List.{List, [], _∷_}
 use native.Mathlib.Omega.{arith}
@@ -15,8 +15,7 @@ use Rattle.base64.proofs.Alphabet.{found-value}
 use Rattle.base64.proofs.Blanks.{without-other, blank-other}
 use Rattle.base64.specs.Base64.{signOf, closed, grouped, groupOf, atEnd, follow, decode, blank, withoutBlanks}
 use Rattle.base64.specs.Steps.{codeOf, NextLetter, stepOf, NextGroup, WholeGroup}
-use Rattle.base64.specs.declared.Sign.{Sign}
-use Rattle.base64.specs.declared.Sign.the-variants.{Value, Pad, Other}
+use Rattle.base64.specs.declared.Sign.the-variants.{Value}
 use Rattle.base64.specs.declared.Group.{Group}
 use Rattle.base64.specs.declared.Group.the-variants.{Three as GThree, Two as GTwo, One as GOne, Broken as GBroken}
 use Rattle.base64.specs.declared.Whole.the-variants.{Three as WThree, Other as WOther}

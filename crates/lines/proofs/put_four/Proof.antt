@@ -1,7 +1,7 @@
--- `base64::put_four` meets its contract: the laws of `Putting` answer every need. Assumes nothing.
+-- `lines::put_four` meets its contract: the laws of `Putting` answer every need. Assumes nothing.
 use Rattle.base64.proofs.Putting.{storing}
-use Rattle.base64.proofs.put_four.Statement.{statement}
-use Rattle.base64.proofs.put_four.Tie as tie
+use Rattle.lines.proofs.put_four.Statement.{statement}
+use Rattle.lines.proofs.put_four.Tie as tie
 
 slice-write-out : tie.Need-slice-write-out
 slice-write-out c = search storing

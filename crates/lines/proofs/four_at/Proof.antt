@@ -1,7 +1,7 @@
--- `base64::four_at` meets its contract: the laws of `Laying` answer every need. Assumes nothing.
-use Rattle.base64.proofs.Laying.{fouring}
-use Rattle.base64.proofs.four_at.Statement.{statement}
-use Rattle.base64.proofs.four_at.Tie as tie
+-- `lines::four_at` meets its contract: the laws of `Laying` answer every need. Assumes nothing.
+use Rattle.lines.proofs.Laying.{fouring}
+use Rattle.lines.proofs.four_at.Statement.{statement}
+use Rattle.lines.proofs.four_at.Tie as tie
 
 sub-left : tie.Need-sub-left
 sub-left c = search fouring

@@ -1,7 +1,7 @@
--- `base64::four_of_three` meets its contract: the laws of `Laying` answer every need. Assumes nothing.
-use Rattle.base64.proofs.Laying.{fouring}
-use Rattle.base64.proofs.four_of_three.Statement.{statement}
-use Rattle.base64.proofs.four_of_three.Tie as tie
+-- `lines::four_of_three` meets its contract: the laws of `Laying` answer every need. Assumes nothing.
+use Rattle.lines.proofs.Laying.{fouring}
+use Rattle.lines.proofs.four_of_three.Statement.{statement}
+use Rattle.lines.proofs.four_of_three.Tie as tie
 
 letter-of-requires : tie.Need-letter-of-requires
 letter-of-requires c κs = search fouring

@@ -1,9 +1,9 @@
--- `base64::lay` meets its contract: the laws of `Laying` keep the loop's invariant and answer every need. Assumes nothing.
+-- `lines::lay` meets its contract: the laws of `Laying` keep the loop's invariant and answer every need. Assumes nothing.
 use Prim.Native.Nat.{_-_}
 use lib.ListN.{length}
-use Rattle.base64.proofs.Laying.{Laid, laying}
-use Rattle.base64.proofs.lay.Statement.{statement}
-use Rattle.base64.proofs.lay.Tie as tie
+use Rattle.lines.proofs.Laying.{Laid, laying}
+use Rattle.lines.proofs.lay.Statement.{statement}
+use Rattle.lines.proofs.lay.Tie as tie
 
 abbrev Inv-loop : tie.InvT-loop
 Inv-loop key out₀ at letters o₀ i₀ takes₀ out o i takes = Laid key out₀ out at i o takes

@@ -1,7 +1,7 @@
--- `base64::put_group` meets its contract: the laws of `Laying` answer every need. Assumes nothing.
-use Rattle.base64.proofs.Laying.{placing}
-use Rattle.base64.proofs.put_group.Statement.{statement}
-use Rattle.base64.proofs.put_group.Tie as tie
+-- `lines::put_group` meets its contract: the laws of `Laying` answer every need. Assumes nothing.
+use Rattle.lines.proofs.Laying.{placing}
+use Rattle.lines.proofs.put_group.Statement.{statement}
+use Rattle.lines.proofs.put_group.Tie as tie
 
 four-at-requires : tie.Need-four-at-requires
 four-at-requires c κs = search placing

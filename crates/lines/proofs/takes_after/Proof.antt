@@ -1,7 +1,7 @@
--- `base64::takes_after` meets its contract: the laws of `Laying` answer every need. Assumes nothing.
-use Rattle.base64.proofs.Laying.{breaking}
-use Rattle.base64.proofs.takes_after.Statement.{statement}
-use Rattle.base64.proofs.takes_after.Tie as tie
+-- `lines::takes_after` meets its contract: the laws of `Laying` answer every need. Assumes nothing.
+use Rattle.lines.proofs.Laying.{breaking}
+use Rattle.lines.proofs.takes_after.Statement.{statement}
+use Rattle.lines.proofs.takes_after.Tie as tie
 
 sub-result : tie.Need-sub-result
 sub-result c = search breaking

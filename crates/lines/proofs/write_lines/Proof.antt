@@ -1,7 +1,7 @@
--- `base64::write_lines` meets its contract: the laws of `Laying` answer every need. Assumes nothing.
-use Rattle.base64.proofs.Laying.{lining}
-use Rattle.base64.proofs.write_lines.Statement.{statement}
-use Rattle.base64.proofs.write_lines.Tie as tie
+-- `lines::write_lines` meets its contract: the laws of `Laying` answer every need. Assumes nothing.
+use Rattle.lines.proofs.Laying.{lining}
+use Rattle.lines.proofs.write_lines.Statement.{statement}
+use Rattle.lines.proofs.write_lines.Tie as tie
 
 returns : tie.Need-returns
 returns c = search lining

@@ -1,4 +1,5 @@
 -- Writing a key as lines.
+--     counting                 the ruleset for `lines_length`
 --     four-one .. of-three     `four_of_one` to `four_at`: the characters that an encoded key goes on with (the ruleset fouring)
 --     after-whole .. break-put `takes_after`, `break_line` (breaking)
 --     piece-is .. group-put    `put_group`: a group behind the line break that it may want (placing)
@@ -17,10 +18,13 @@ use lib.Seq.{length-take-le, drop-drop}
 use Rattle.octets.specs.Written.{putAt}
 use Rattle.octets.proofs.Lists.{drop-one, drop-done}
 use Rattle.octets.proofs.Writing.{Wrote, begin-at, kept, counted, puts, done-at}
 use Rattle.base64.specs.Base64.{letter, encode, laid, lines}
-use Rattle.base64.specs.Steps.{characters, lineBreak, piece, after}
-use Rattle.base64.specs.declared.Four.{Four}
+use Rattle.lines.specs.Steps.{characters, lineBreak, piece, after}
+use Rattle.lines.specs.declared.Four.{Four}
+use Rattle.base64.proofs.Lengths.{lines-counted}
 use Rattle.base64.proofs.Putting.{put-two, put-then, put-both, room-second, over-none, has-room}
+
+pub ruleset counting = (lines-counted, needs)
 
 module _ (s : List ℕ) (at : ℕ) (f : Four) (h : at < length s) where
   pub four-one : length s - at ≡ 1 → characters f ≡ encode (getD s at 0 ∷ []) → encode (drop at s) ≡ characters f ++ encode (drop (at + 3) s)
@@ -91,7 +95,7 @@ module _ (d : List ℕ) (at k : ℕ) where
     pub next-place : at + 3 ≡ at + length (lineBreak k)
     next-place = rw (line-break k e)
 
-    pub break-room : at + length (lineBreak k) ≤ length d → at + 3 ≤ length d
+    pub break-room : at + length (lineBreak k) ≤ length d → at + length {A = ℕ} (13 ∷ 10 ∷ 32 ∷ []) ≤ length d
     break-room h = let q = next-place in omega arith
 
     pub break-put : (d₁ : List ℕ) → d₁ ≡ putAt d at (13 ∷ 10 ∷ 32 ∷ []) → d₁ ≡ putAt d at (lineBreak k)

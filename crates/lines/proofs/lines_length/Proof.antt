@@ -1,7 +1,7 @@
--- `base64::lines_length` meets its contract: the laws of `Lengths` answer every need. Assumes nothing.
-use Rattle.base64.proofs.Lengths.{counting}
-use Rattle.base64.proofs.lines_length.Statement.{statement}
-use Rattle.base64.proofs.lines_length.Tie as tie
+-- `lines::lines_length` meets its contract: the laws of `Laying` answer every need. Assumes nothing.
+use Rattle.lines.proofs.Laying.{counting}
+use Rattle.lines.proofs.lines_length.Statement.{statement}
+use Rattle.lines.proofs.lines_length.Tie as tie
 
 add-text : tie.Need-add-text
 add-text c = search counting
