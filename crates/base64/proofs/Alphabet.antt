@@ -3,7 +3,7 @@
 --     is-value, is-pad, is-other    a sign by its number
 --     sign-of-letter    the sign of a value's letter is the value
 --     tabled            the table once the first values are in it, with what `signs` asks
---     the rulesets      lettering for `letters` and `letter_of`, tabling for `signs`, finding for `code_of` and `sign_of`
+--     the rulesets      lettering for `letters`, looking for `letter_of`, tabling for `signs`, finding for `code_of` and `sign_of`
 -- Assumes nothing.
 use Prim.Native.Nat.{ℕ, zero, suc, _+_, _-_, _<_, _≤_}
 use mathlib.Core.Path.{_≡_, refl, sym, ap, _∙_}
@@ -140,10 +140,12 @@ alphabet-known v h = passes-at (λ v. eqb (getD alphabet v 0) (letter v)) 64 ref
 pub all-letters : Letters alphabet
 all-letters = record { at = λ v h. eqb-true _ _ (alphabet-known v h) }
 
+pub ruleset lettering = (all-letters, needs)
+
 pub looked-up : (t : List ℕ) (v : ℕ) → Letters t → v < 64 → getD t v 0 ≡ letter v
 looked-up t v h k = h .at v k
 
-pub ruleset lettering = (all-letters, looked-up, needs)
+pub ruleset looking = (looked-up, needs)
 
 -- `code_of`, and `sign_of` by its tests
 pub code-found : (t : List ℕ) (x : ℕ) → Signs t → x < 256 → getD t x 0 ≡ codeOf (signOf x)
