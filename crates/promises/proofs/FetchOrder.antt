@@ -1,0 +1,121 @@
+-- Demand 3: fetch order is immaterial.
+--     step, fetched-well    a run from a sound table: its tables are sound, and each entry goes its own way
+--     same-entries          two orders lead to the same entry of every address
+-- Assumes nothing.
+use Prim.Native.Nat.{ℕ}
+use mathlib.Core.Path.{_≡_, refl, sym, ap, _∙_}
+use mathlib.Core.Bool.{Bool, true, false, _&&_}
+use mathlib.Core.List.{List, [], _∷_, List·Mem, mem-cons-self, mem-cons-of-mem, List·Permᴰ, List·Permᴰ·mem, Permᴰ·symm}
+use mathlib.Core.Option.{Option, some, none}
+use Rattle.octets.specs.Octets.{AllOctets}
+use Rattle.address.proofs.Every.{and-left, and-right}
+use Rattle.slots.specs.Entry.{Direct, Entry, entryOf, isPresent, orElse, GoodDirect, GoodHalf, Good}
+use Rattle.slots.proofs.Sounds.{sound-parts}
+use Rattle.slots.proofs.Goodness.{good-entry}
+use Rattle.table.specs.Table.{slotAt, found, checked}
+use Rattle.table.specs.Entries.{entryIn}
+use Rattle.table.specs.declared.Checked.the-variants.{Sound}
+use Rattle.table.specs.declared.Found.{Found}
+use Rattle.table.specs.declared.Found.the-variants.{At, Nothing}
+use Rattle.table.proofs.Slots.{slot-long, slot-octets}
+use Rattle.table.proofs.Finding.{found-at, found-used}
+use Rattle.table.proofs.Keeping.{table-sound, used-sound}
+use Rattle.update.specs.Message.{Message, hasRoom, applied, entryAfter, GoodBrought, GoodMessage}
+use Rattle.promises.specs.Fetching.{after, fetched, fits, allFit, Agree, Agreeing}
+use Rattle.promises.proofs.Halves.{Seen, Timely, Stamped}
+use Rattle.promises.proofs.Permuting.{folded, Steps, folded-permuted}
+use Rattle.promises.proofs.EntryOrder.{Known, entry-keeps, entry-swap}
+
+-- a good message's counted field has the message's date
+good-stamped : (m : Message) → GoodMessage m → Stamped (m .date) (m .direct)
+unfolding Stamped
+good-stamped m g = go (m .direct) (g .direct)
+  where
+    go : (brought : Option Direct) → GoodHalf (GoodBrought (m .date)) brought → GoodHalf (λ (d : Direct). d .timestamp ≡ m .date) brought
+    go none h = tt
+    go (some d) h = h .dated
+
+-- the entries of a sound table
+good-timely : (e : Entry) → Good e → Timely e
+unfolding Timely
+good-timely e g = go (e .direct) (g .direct)
+  where
+    go : (direct : Option Direct) → GoodHalf (GoodDirect (e .lastSeen)) direct → GoodHalf (Seen (e .lastSeen)) direct
+    go none h = tt
+    go (some d) h = record { was-seen = h .was-seen; not-below = h .not-below }
+
+module _ (t : List ℕ) (octets : AllOctets t) (sound : checked t ≡ Sound) where
+  entry-known : (b : List ℕ) → Known (entryIn t b)
+  unfolding Known entryIn
+  entry-known b = go (found t b) refl
+    where
+      go : (f : Found) → found t b ≡ f → GoodHalf Timely (elim f [ At i ↦ some (entryOf (slotAt t i)) | Nothing ↦ none ])
+      go (At i) q =
+          good-timely (entryOf (slotAt t i))
+          (good-entry (slotAt t i) (slot-long t i (found-at t b i q .0))
+            (sound-parts (slotAt t i) (used-sound t (table-sound t sound) i (found-at t b i q .0) (found-used t b i q) .0))
+            (slot-octets t i octets))
+      go Nothing q = tt
+
+-- what a call does to the entry of an address
+unfoldable pub step : List ℕ → Option Message → Option Entry → Option Entry
+step b none e = e
+step b (some m) e = entryAfter m b e
+
+module _ (list : List (Option Message)) (good : (m : Message) → List·Mem (some m) list → GoodMessage m) (agree : Agreeing list) where
+  call-keeps : (b : List ℕ) (c : Option Message) → List·Mem c list → (e : Option Entry) → Known e → Known (step b c e)
+  unfolding step
+  call-keeps b none i e k = k
+  call-keeps b (some m) i e k = entry-keeps m b e (good-stamped m (good m i)) k
+
+  call-swaps : (b : List ℕ) (c d : Option Message) → List·Mem c list → List·Mem d list → (e : Option Entry) → Known e → step b d (step b c e) ≡ step b c (step b d e)
+  unfolding step Agreeing
+  call-swaps b none d i j e k = refl
+  call-swaps b (some m) none i j e k = refl
+  call-swaps b (some m) (some n) i j e k = entry-swap m n (good-stamped m (good m i)) (good-stamped n (good n j)) (agree m n i j) b e k
+
+  calls-steps : (b : List ℕ) → Steps (step b) Known list
+  calls-steps b = record { keeps = call-keeps b; swaps = call-swaps b }
+
+module _
+    (applied-entry : (t : List ℕ) (m : Message) → AllOctets t → checked t ≡ Sound → GoodMessage m → hasRoom t m ≡ true
+      → (b : List ℕ) → entryIn (applied t m) b ≡ entryAfter m b (entryIn t b))
+    (applied-sound : (t : List ℕ) (m : Message) → AllOctets t → checked t ≡ Sound → GoodMessage m → hasRoom t m ≡ true → checked (applied t m) ≡ Sound)
+    (applied-octets : (t : List ℕ) (m : Message) → AllOctets t → checked t ≡ Sound → GoodMessage m → hasRoom t m ≡ true → AllOctets (applied t m))
+    where
+  -- a run from t to u: u is a sound table, and each address has what its entry in t becomes, message by message
+  pub record Fetched (t u : List ℕ) (list : List (Option Message)) : Type 0 where
+    pub sound : checked u ≡ Sound
+    pub octets : AllOctets u
+    pub entries : (b : List ℕ) → entryIn u b ≡ folded (step b) list (entryIn t b)
+
+  fetched-one : (t : List ℕ) (c : Option Message) → AllOctets t → checked t ≡ Sound → ((m : Message) → c ≡ some m → GoodMessage m) → fits t c ≡ true
+      → Fetched t (after t c) (c ∷ [])
+  unfolding after fits step folded
+  fetched-one t none o s good r = record { sound = s; octets = o; entries = λ b. refl }
+  fetched-one t (some m) o s good r =
+      rw (after, r)
+      (record { sound = applied-sound t m o s (good m refl) r; octets = applied-octets t m o s (good m refl) r; entries = applied-entry t m o s (good m refl) r })
+
+  pub fetched-well : (list : List (Option Message)) (t : List ℕ) → AllOctets t → checked t ≡ Sound
+      → ((m : Message) → List·Mem (some m) list → GoodMessage m) → allFit t list ≡ true → Fetched t (fetched t list) list
+  unfolding fetched allFit folded
+  fetched-well [] t o s good r = record { sound = s; octets = o; entries = λ b. refl }
+  fetched-well (c ∷ rest) t o s good r =
+      let one : Fetched t (after t c) (c ∷ []) =
+        fetched-one t c o s (λ m q. good m (rw (sym q) mem-cons-self)) (and-left (fits t c) (allFit (after t c) rest) r) in
+      let others : Fetched (after t c) (fetched (after t c) rest) rest =
+        fetched-well rest (after t c) (one .octets) (one .sound) (λ m i. good m (mem-cons-of-mem c i)) (and-right (fits t c) (allFit (after t c) rest) r) in
+      record {
+        sound = others .sound;
+        octets = others .octets;
+        entries = λ b. others .entries b ∙ ap (folded (step b) rest) (one .entries b);
+      }
+
+  pub same-entries : (t : List ℕ) (ms ns : List (Option Message)) → AllOctets t → checked t ≡ Sound
+      → ((m : Message) → List·Mem (some m) ms → GoodMessage m) → List·Permᴰ ms ns → allFit t ms ≡ true → allFit t ns ≡ true → Agreeing ms
+      → (b : List ℕ) → entryIn (fetched t ms) b ≡ entryIn (fetched t ns) b
+  same-entries t ms ns o s good p r q agree b =
+      fetched-well ms t o s good r .entries b
+      ∙ folded-permuted (step b) Known ms ns p (calls-steps ms good agree b) (entryIn t b) (entry-known t o s b)
+      ∙ sym (fetched-well ns t o s (λ m i. good m (List·Permᴰ·mem (Permᴰ·symm p) i)) q .entries b)
