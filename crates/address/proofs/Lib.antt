@@ -10,3 +10,4 @@ pub mod Room
 pub mod Forms
 pub mod Spelling
 pub mod Worked
+pub mod Forming

@@ -1,12 +1,13 @@
 -- "Recommending", of paper 01, over entries: which slots they stand in does not matter.
 --     patience, stale          35 days
 --     directOf, gossipOf       the keys of an entry that may be used
---     rated                    one recipient, before reply and preferences
---     raised, adviceFor        one recipient
+--     rated                    the advice for an entry before reply and preferences
+--     raised, adviceFor        the advice for a recipient
 --     targetOf                 the key to encrypt to
---     overall                  the whole list
---     adviceIn, targetIn       the same for an address, by what a table holds of it
---     given, isGiven           the addresses of a readable list
+--     overall                  the advice for a whole list
+--     adviceIn, targetIn       the advice and the key for an address, by what a table holds of it
+--     advised                  the advice for each address of a list
+--     given, isGiven           the addresses of a list, and whether it is readable
 use Prim.Native.Nat.{ℕ, _+_}
 use mathlib.Core.Bool.{Bool, true, false, _&&_, _||_}
 use mathlib.Core.List.{List, [], _∷_, map}
@@ -33,7 +34,8 @@ directOf e = e .direct
 unfoldable pub gossipOf : Entry → Option Gossip
 gossipOf e = e .gossip
 
--- "no key, disable. Only gossip, .. discourage. Else .. discourage if last seen exceeds the timestamp by more than .., otherwise available."
+-- "no key, disable. Only gossip, .. discourage. Else .. discourage if last seen exceeds the timestamp by more than 3,024,000 .., otherwise
+-- available."; a direct key implies that last seen is present
 unfoldable pub ratedBy : ℕ → Option Direct → Option Gossip → Advice
 ratedBy seen none none = Disable
 ratedBy seen none (some g) = Discourage
@@ -42,7 +44,8 @@ ratedBy seen (some d) g = elim (stale seen (d .timestamp)) [ true ↦ Discourage
 unfoldable pub rated : Entry → Advice
 rated e = ratedBy (orElse 0 (e .lastSeen)) (directOf e) (gossipOf e)
 
--- "A reply to an encrypted mail makes either one encrypt; so do available and both sides mutual."
+-- "A reply to an encrypted mail makes either one encrypt; so do available and both sides mutual.": nothing lifts disable, and preferences do
+-- not lift discourage
 unfoldable pub raised : Bool → Bool → Advice → Advice
 raised reply both Disable = Disable
 raised reply both Discourage = elim reply [ true ↦ Encrypt | false ↦ Discourage ]
@@ -59,7 +62,7 @@ unfoldable pub adviceFor : Bool → Bool → Option Entry → Advice
 adviceFor isMutual reply none = Disable
 adviceFor isMutual reply (some e) = raised reply (isMutual && prefersBy (directOf e)) (rated e)
 
--- "Only gossip, target gossip key .. Else the direct key"; an empty one where there is none
+-- "Only gossip, target gossip key .. Else the direct key"; no octets without one
 unfoldable pub targetBy : Option Direct → Option Gossip → List ℕ
 targetBy none none = []
 targetBy none (some g) = g .key
@@ -108,14 +111,16 @@ adviceIn t isMutual reply a = adviceFor isMutual reply (entryIn t (canonical a))
 unfoldable pub targetIn : List ℕ → List ℕ → List ℕ
 targetIn t a = targetOf (entryIn t (canonical a))
 
+-- the same for each address of a list
 unfoldable pub advised : List ℕ → Bool → Bool → List (List ℕ) → List Advice
 advised t isMutual reply list = map (adviceIn t isMutual reply) list
 
--- the addresses of a list that is readable
+-- the addresses of a list, where it is readable
 unfoldable pub given : Option (List (List ℕ)) → List (List ℕ)
 given none = []
 given (some list) = list
 
+-- is it readable?
 unfoldable pub isGiven : Option (List (List ℕ)) → Bool
 isGiven none = false
 isGiven (some list) = true

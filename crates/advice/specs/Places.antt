@@ -1,12 +1,12 @@
 -- From entries to what the code reads and hands out: numbers of a slot, and parts of the table.
---     ratedAs, prefersAs    advice by the numbers of a slot
---     lowerOf               the lesser of two
---     noPart                a part of no octets
---     keyPart, targetPart   where the key to encrypt to lies in the table
+--     ratedAs               the advice by the numbers of a slot
+--     lowerOf               the lower of two
+--     noPart                the empty part
+--     keyPart, targetPart   where the key to encrypt to lies in the table: for a slot, and for an address
 --     targetAt              the same for a place in a list
 --     octetsAt              the octets of a part
 use Prim.Native.Nat.{ℕ, zero, suc, _+_, _*_}
-use mathlib.Core.Bool.{Bool, true, false}
+use mathlib.Core.Bool.{true, false}
 use mathlib.Core.List.{List, [], _∷_}
 use lib.ListN.{take, drop}
 use Rattle.slots.specs.declared.Slot.{Slot}
@@ -28,7 +28,7 @@ ratedAs n =
       | false ↦ elim (n .gossip) [ true ↦ Discourage | false ↦ Disable ]
     ]
 
--- the order of Advice is disable, discourage, available, encrypt
+-- "Whole list: any disable; all encrypt; any discourage; else available": the lowest, from disable up to encrypt
 unfoldable pub lowerOf : Advice → Advice → Advice
 lowerOf Disable b = Disable
 lowerOf Discourage Disable = Disable
@@ -41,6 +41,7 @@ lowerOf Available Available = Available
 lowerOf Available Encrypt = Available
 lowerOf Encrypt b = b
 
+-- "an empty part"
 abbrev pub noPart : Part
 noPart = record { start = 0; length = 0 }
 
@@ -69,5 +70,6 @@ targetAt t [] place = noPart
 targetAt t (a ∷ rest) zero = targetPart t a
 targetAt t (a ∷ rest) (suc place) = targetAt t rest place
 
+-- the octets of a part of the table t
 unfoldable pub octetsAt : List ℕ → Part → List ℕ
 octetsAt t p = take (p .length) (drop (p .start) t)

@@ -4,3 +4,4 @@ pub mod Judging
 pub mod Finding
 pub mod Keeping
 mod Worked
+pub mod Entries

@@ -9,17 +9,15 @@ use mathlib.Core.Path.{_≡_, sym, _∙_}
 use mathlib.Core.Bool.{Bool, true}
 use mathlib.Core.List.{List}
 use native.Mathlib.Omega.{arith}
-use native.Mathlib.Nat.{sub-zero}
 use borrow.Author.Needs.{needs}
-use lib.ListN.{length, take, drop, length-append}
-use lib.Seq.{take-append-seam}
+use lib.ListN.{length, take}
 use Rattle.octets.specs.Written.{onto}
 use Rattle.address.specs.Address.{plain, canonical}
 use Rattle.address.specs.Answers.{writtenOf, ontoIfFits}
 use Rattle.address.specs.declared.Written.{Written}
 use Rattle.address.specs.declared.Written.the-variants.{Length, NoRoom}
-use Rattle.address.proofs.Room.{written-fits, written-none, written-length, written-no-room, onto-fits, onto-none}
-use Rattle.address.proofs.Spelling.{canonical-most}
+use Rattle.address.proofs.Room.{written-fits, written-none, onto-fits, onto-none}
+use Rattle.address.proofs.Forming.{form-fits, form-never, form-there, form-end as buffer-end}
 use Rattle.writer.specs.Writing.{fieldText, written}
 
 -- `fit_field`
@@ -43,43 +41,29 @@ module _ (w d : List ℕ) (n : ℕ) (e : n ≡ length w) where
 
 pub ruleset fitting = (fit-none, none-kept, fit-room, fit-written, fit-kept, needs)
 
--- `write_field`: the canonical form of an address s fits the buffer of 256 octets that is lent for it
+-- `write_field`: the canonical form of an address s stands in the buffer of 256 octets that is lent for it
 module _ (s : List ℕ) (plainly : plain s ≡ true) (g : Written) (e : g ≡ writtenOf (canonical s) 256) where
-  form-fits : length (canonical s) ≤ 256
-  form-fits = omega (arith, canonical-most s plainly)
-
   module _ (r : g ≡ NoRoom) where
-    fits-always : ⊥
-    fits-always = omega (arith, written-no-room (canonical s) 256 (sym r ∙ e), form-fits)
-
     pub never-answered : (w : List ℕ) (room : ℕ) → NoRoom ≡ writtenOf w room
-    never-answered w room = absurd fits-always
+    never-answered w room = absurd (form-never s plainly 256 (omega arith) g e r)
 
     pub never-left : (w d : List ℕ) → d ≡ ontoIfFits w d
-    never-left w d = absurd fits-always
+    never-left w d = absurd (form-never s plainly 256 (omega arith) g e r)
 
   module _ (n : ℕ) (q : g ≡ Length n) (b out : List ℕ) (o : out ≡ ontoIfFits (canonical s) b) (l : length b ≡ 256) where
-    form-long : n ≡ length (canonical s)
-    form-long = written-length (canonical s) 256 n (sym q ∙ e) .0
-
-    form-onto : out ≡ onto (canonical s) b
-    form-onto = o ∙ onto-fits (canonical s) b (omega (arith, form-fits))
-
-    form-there : take (n - 0) out ≡ canonical s
-    unfolding onto
-    form-there = rw (sub-zero, form-onto, form-long) (take-append-seam (canonical s) (drop (length (canonical s)) b))
+    there : take (n - 0) out ≡ canonical s
+    there = form-there s plainly 256 (omega arith) g e n q b out o l
 
     pub form-end : n ≤ length out
-    unfolding onto
-    form-end = rw (form-onto, form-long, length-append) (omega arith)
+    form-end = buffer-end s plainly 256 (omega arith) g e n q b out o l
 
     pub form-most : length (take (n - 0) out) ≤ 256
-    form-most = rw form-there form-fits
+    form-most = rw there (form-fits s plainly 256 (omega arith))
 
     module _ (name key : List ℕ) (m : Bool) where
       same-field : fieldText name (take (n - 0) out) m key ≡ written name s m key
       unfolding written
-      same-field = rw form-there
+      same-field = rw there
 
       pub form-written : (r : Written) (room : ℕ) → r ≡ writtenOf (fieldText name (take (n - 0) out) m key) room → r ≡ writtenOf (written name s m key) room
       form-written r room p = rw same-field at p

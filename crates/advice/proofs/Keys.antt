@@ -1,0 +1,116 @@
+-- The part of the table that is handed back holds the entry's key, and lies within the table.
+--     key-octets, key-within          the key to encrypt to of a slot
+--     target-octets, target-within    of an address
+--     place-octets, place-within      of a place in a list
+--     place-key, place-past           which recipient's key that is; none past the list
+-- Assumes nothing.
+use Prim.Native.Nat.{ℕ, zero, suc, _+_, _*_, _-_, _<_, _≤_, zero-le}
+use mathlib.Core.Path.{_≡_, refl}
+use mathlib.Core.Bool.{true}
+use mathlib.Core.List.{List, [], _∷_}
+use native.Mathlib.Omega.{arith}
+use lib.ListN.{length, getD, take, drop}
+use lib.Seq.{take-take, drop-drop}
+use Rattle.address.specs.Address.{canonical}
+use Rattle.address.proofs.Every.{by-test}
+use Rattle.slots.specs.Slot.{hasDirect, hasGossip, numbersOf, directKeyOf, gossipKeyOf, sound}
+use Rattle.slots.specs.Entry.{entryOf}
+use Rattle.slots.proofs.Parts.{drop-take}
+use Rattle.slots.proofs.Sounds.{Sound, sound-parts}
+use Rattle.table.specs.Table.{slots, slotAt, found, checked}
+use Rattle.table.specs.declared.Checked.the-variants.{Sound as Checked}
+use Rattle.table.specs.declared.Found.{Found}
+use Rattle.table.specs.declared.Found.the-variants.{At, Nothing}
+use Rattle.table.proofs.Slots.{room}
+use Rattle.table.proofs.Finding.{found-at}
+use Rattle.table.proofs.Entries.{entry-at, entry-nothing, entry-sound}
+use Rattle.advice.specs.Advice.{directOf, gossipOf, targetBy, targetOf, targetIn}
+use Rattle.advice.specs.Places.{noPart, keyPart, targetPart, targetAt, octetsAt}
+use Rattle.advice.specs.declared.Part.{Part}
+use Rattle.advice.proofs.Rating.{direct-there, direct-absent, gossip-there, gossip-absent}
+use Rattle.advice.proofs.Targets.{key-direct, key-gossip, key-none, target-nothing, target-there}
+
+-- a part of the table that lies in one of a slot's two areas for keys
+area-octets : (t : List ℕ) (i at n : ℕ) → at + 2048 ≤ 4392 → n ≤ 2048
+    → take n (drop (i * 4392 + at) t) ≡ take n (take 2048 (drop at (slotAt t i)))
+unfolding slotAt
+area-octets t i at n l m =
+    rw (
+      take-take n 2048 (drop at (take 4392 (drop (i * 4392) t))) m,
+      drop-take at 4392 (drop (i * 4392) t),
+      take-take n (4392 - at) (drop at (drop (i * 4392) t)) (omega arith),
+      drop-drop at (i * 4392) t,
+    )
+
+-- a part ends within the table
+abbrev pub Within : List ℕ → Part → Type 0
+Within t p = p .start + p .length ≤ length t
+
+module _ (t : List ℕ) (i : ℕ) (l : i < slots t) (e : sound (slotAt t i) ≡ true) where
+  parts : Sound (slotAt t i)
+  parts = sound-parts (slotAt t i) e
+
+  pub key-octets : octetsAt t (keyPart i (numbersOf (slotAt t i))) ≡ targetBy (directOf (entryOf (slotAt t i))) (gossipOf (entryOf (slotAt t i)))
+  unfolding octetsAt numbersOf targetBy directKeyOf gossipKeyOf
+  key-octets =
+      by-test (hasDirect (slotAt t i))
+      (λ d.
+      rw (← key-direct i (numbersOf (slotAt t i)) d, direct-there (slotAt t i) d)
+      (area-octets t i 296 (numbersOf (slotAt t i) .«direct_length») (omega arith) (parts .direct-length d .1)))
+      (λ d.
+      by-test (hasGossip (slotAt t i))
+      (λ g.
+      rw (← key-gossip i (numbersOf (slotAt t i)) d g, direct-absent (slotAt t i) d, gossip-there (slotAt t i) g)
+      (area-octets t i 2344 (numbersOf (slotAt t i) .«gossip_length») (omega arith) (parts .gossip-length g .1)))
+      (λ g. rw (← key-none i (numbersOf (slotAt t i)) d g, direct-absent (slotAt t i) d, gossip-absent (slotAt t i) g)))
+
+  pub key-within : Within t (keyPart i (numbersOf (slotAt t i)))
+  unfolding numbersOf
+  key-within =
+      by-test (hasDirect (slotAt t i))
+      (λ d. rw (← key-direct i (numbersOf (slotAt t i)) d) (omega (arith, parts .direct-length d .1, room t i l)))
+      (λ d.
+      by-test (hasGossip (slotAt t i))
+      (λ g. rw (← key-gossip i (numbersOf (slotAt t i)) d g) (omega (arith, parts .gossip-length g .1, room t i l)))
+      (λ g. rw (← key-none i (numbersOf (slotAt t i)) d g) zero-le))
+
+module _ (t : List ℕ) (s : checked t ≡ Checked) where
+  -- an address stands in a slot, or nowhere
+  by-place : {P : Type 0} (f : Found) → ((i : ℕ) → f ≡ At i → P) → (f ≡ Nothing → P) → P
+  by-place (At i) a b = a i refl
+  by-place Nothing a b = b refl
+
+  pub target-octets : (a : List ℕ) → octetsAt t (targetPart t a) ≡ targetIn t a
+  unfolding octetsAt targetIn targetOf
+  target-octets a =
+      by-place (found t (canonical a))
+      (λ i q.
+      rw (← target-there t a (found t (canonical a)) refl i q (numbersOf (slotAt t i)) refl (keyPart i (numbersOf (slotAt t i))) refl, targetIn, entry-at t (canonical a) i q)
+      (key-octets t i (found-at t (canonical a) i q .0) (entry-sound t (canonical a) s i q)))
+      (λ q. rw (← target-nothing t a (found t (canonical a)) refl q, targetIn, entry-nothing t (canonical a) q))
+
+  pub target-within : (a : List ℕ) → Within t (targetPart t a)
+  target-within a =
+      by-place (found t (canonical a))
+      (λ i q.
+      rw (← target-there t a (found t (canonical a)) refl i q (numbersOf (slotAt t i)) refl (keyPart i (numbersOf (slotAt t i))) refl)
+      (key-within t i (found-at t (canonical a) i q .0) (entry-sound t (canonical a) s i q)))
+      (λ q. rw (← target-nothing t a (found t (canonical a)) refl q) zero-le)
+
+  pub place-within : (list : List (List ℕ)) (place : ℕ) → Within t (targetAt t list place)
+  unfolding targetAt
+  place-within [] place = zero-le
+  place-within (a ∷ rest) zero = target-within a
+  place-within (a ∷ rest) (suc place) = place-within rest place
+
+  pub place-key : (list : List (List ℕ)) (place : ℕ) → place < length list → octetsAt t (targetAt t list place) ≡ targetIn t (getD list place [])
+  unfolding targetAt
+  place-key [] place l = absurd (omega arith)
+  place-key (a ∷ rest) zero l = target-octets a
+  place-key (a ∷ rest) (suc place) l = place-key rest place (omega arith)
+
+  pub place-past : (list : List (List ℕ)) (place : ℕ) → length list ≤ place → targetAt t list place ≡ noPart
+  unfolding targetAt
+  place-past [] place l = refl
+  place-past (a ∷ rest) zero l = absurd (omega arith)
+  place-past (a ∷ rest) (suc place) l = place-past rest place (omega arith)

@@ -1,0 +1,157 @@
+-- The advice for a whole list is the lowest of its recipients'.
+--     overall-none, overall-more    by `lowerOf` over the list, from its end
+--     overall-one, overall-two      and from its front, as the loop goes
+--     handed-given, handed-rest     an address that is handed out of a readable list stands in front of the rest, which is readable
+--     Lowest t s m reply least here     what the loop of `overall_advice` knows
+--     lowest-begin .. lowest-unread     its steps
+--     the ruleset                   lowering, for `overall_advice`
+-- Assumes nothing.
+use Prim.Native.Nat.{ℕ}
+use mathlib.Core.Path.{_≡_, refl, sym, ap, _∙_}
+use mathlib.Core.Bool.{Bool, true, false, false≢true}
+use mathlib.Core.List.{List, [], _∷_}
+use mathlib.Core.Option.{Option, some, none}
+use borrow.Author.Needs.{needs}
+use Rattle.address.proofs.Every.{by-test}
+use Rattle.list.specs.List.{inFront, addresses}
+use Rattle.list.specs.Answers.{between, beginning, left, Hands}
+use Rattle.list.specs.declared.Cursor.{Cursor}
+use Rattle.list.specs.declared.Handed.{Handed}
+use Rattle.list.specs.declared.Handed.the-variants.{Address, End, Unreadable}
+use Rattle.list.proofs.Handing.{left-beginning, hand-gives, hand-plain, hand-from, hand-upto, hand-less, hand-end, hand-unread}
+use Rattle.advice.specs.Advice.{anyDisable, allEncrypt, anyDiscourage, overall, adviceIn, advised, given, isGiven}
+use Rattle.advice.specs.Places.{lowerOf}
+use Rattle.advice.specs.declared.Advice.{Advice}
+use Rattle.advice.specs.declared.Advice.the-variants.{Disable, Discourage, Available, Encrypt}
+
+pub overall-none : overall [] ≡ Encrypt
+unfolding overall anyDisable allEncrypt
+overall-none = refl
+
+encrypt-only : (list : List Advice) → allEncrypt list ≡ true → anyDiscourage list ≡ false
+unfolding allEncrypt anyDiscourage
+encrypt-only [] e = refl
+encrypt-only (Disable ∷ rest) e = absurd (false≢true e)
+encrypt-only (Discourage ∷ rest) e = absurd (false≢true e)
+encrypt-only (Available ∷ rest) e = absurd (false≢true e)
+encrypt-only (Encrypt ∷ rest) e = encrypt-only rest e
+
+-- each of the four answers for a list, to which one recipient more is added
+by-answer : (P : Advice → Type 0) (rest : List Advice)
+    → (anyDisable rest ≡ true → P Disable) → (anyDisable rest ≡ false → allEncrypt rest ≡ true → P Encrypt)
+    → (anyDisable rest ≡ false → allEncrypt rest ≡ false → anyDiscourage rest ≡ true → P Discourage)
+    → (anyDisable rest ≡ false → allEncrypt rest ≡ false → anyDiscourage rest ≡ false → P Available) → P (overall rest)
+unfolding overall
+by-answer P rest disable encrypt discourage available =
+    by-test (anyDisable rest) (λ d. rw (overall, d) (disable d))
+    (λ d.
+    by-test (allEncrypt rest) (λ e. rw (overall, d, e) (encrypt d e))
+    (λ e. by-test (anyDiscourage rest) (λ g. rw (overall, d, e, g) (discourage d e g)) (λ g. rw (overall, d, e, g) (available d e g))))
+
+pub overall-more : (a : Advice) (rest : List Advice) → overall (a ∷ rest) ≡ lowerOf a (overall rest)
+unfolding overall anyDisable allEncrypt anyDiscourage lowerOf
+overall-more Disable rest = refl
+overall-more Discourage rest =
+    by-answer (λ x. overall (Discourage ∷ rest) ≡ lowerOf Discourage x) rest
+    (λ d. rw (overall, d))
+    (λ d e. rw (overall, d))
+    (λ d e g. rw (overall, d))
+    (λ d e g. rw (overall, d))
+overall-more Available rest =
+    by-answer (λ x. overall (Available ∷ rest) ≡ lowerOf Available x) rest
+    (λ d. rw (overall, d))
+    (λ d e. rw (overall, d, encrypt-only rest e))
+    (λ d e g. rw (overall, d, g))
+    (λ d e g. rw (overall, d, g))
+overall-more Encrypt rest = refl
+
+pub overall-one : (a : Advice) → overall (a ∷ []) ≡ a
+unfolding overall anyDisable allEncrypt anyDiscourage
+overall-one Disable = refl
+overall-one Discourage = refl
+overall-one Available = refl
+overall-one Encrypt = refl
+
+pub overall-two : (a b : Advice) (rest : List Advice) → overall (a ∷ b ∷ rest) ≡ overall (lowerOf a b ∷ rest)
+unfolding overall anyDisable allEncrypt anyDiscourage lowerOf
+overall-two Disable b rest = refl
+overall-two Discourage Disable rest = refl
+overall-two Discourage Discourage rest = refl
+overall-two Discourage Available rest = refl
+overall-two Discourage Encrypt rest = refl
+overall-two Available Disable rest = refl
+overall-two Available Discourage rest = refl
+overall-two Available Available rest = refl
+overall-two Available Encrypt rest = refl
+overall-two Encrypt b rest = refl
+
+-- an address in front of a readable list
+front-given : (a : List ℕ) (o : Option (List (List ℕ))) → isGiven (inFront a o) ≡ true → isGiven o ≡ true
+unfolding inFront isGiven
+front-given a none e = e
+front-given a (some rest) e = refl
+
+front-first : (a : List ℕ) (o : Option (List (List ℕ))) → isGiven o ≡ true → given (inFront a o) ≡ a ∷ given o
+unfolding inFront isGiven given
+front-first a none e = cc
+front-first a (some rest) e = refl
+
+module _ (s : List ℕ) (here : Cursor) (k : Handed) (p : Hands s here k) where
+  module _ (r : isGiven (left s here) ≡ true) (from to : ℕ) (next : Cursor) (q : k ≡ Address from to next) where
+    pub handed-rest : isGiven (left s next) ≡ true
+    handed-rest = front-given (between s from to) (left s next) (rw (hand-gives s here k p from to next q) at r)
+
+    pub handed-given : given (left s here) ≡ between s from to ∷ given (left s next)
+    handed-given =
+        ap given (hand-gives s here k p from to next q)
+        ∙ front-first (between s from to) (left s next) handed-rest
+
+  pub handed-end : k ≡ End → given (left s here) ≡ []
+  unfolding given
+  handed-end q = rw (hand-end s here k p q)
+
+  pub handed-unread : k ≡ Unreadable → given (left s here) ≡ []
+  unfolding given
+  handed-unread q = rw (hand-unread s here k p q)
+
+-- The loop: all of the list comes to what is left of it, behind the lowest so far.
+pub record Lowest (t s : List ℕ) (m reply : Bool) (least : Advice) (here : Cursor) : Type 0 where
+  pub readable : isGiven (left s here) ≡ true
+  pub so-far : overall (advised t m reply (given (addresses s))) ≡ overall (least ∷ advised t m reply (given (left s here)))
+
+module _ (t s : List ℕ) (m reply : Bool) where
+  encrypt-first : (list : List Advice) → overall list ≡ overall (Encrypt ∷ list)
+  unfolding overall anyDisable allEncrypt anyDiscourage
+  encrypt-first list = refl
+
+  pub lowest-begin : (here : Cursor) → here ≡ beginning → isGiven (addresses s) ≡ true → Lowest t s m reply Encrypt here
+  lowest-begin here e g =
+      let b : left s here ≡ addresses s = left-beginning s here e in
+      record {
+        readable = rw b g;
+        so-far = rw b (encrypt-first (advised t m reply (given (addresses s))));
+      }
+
+  module _ (least : Advice) (here : Cursor) (k : Handed) (h : Lowest t s m reply least here) (p : Hands s here k) where
+    pub lowest-on :
+        (from to : ℕ) (next : Cursor) → k ≡ Address from to next → (one low : Advice) → one ≡ adviceIn t m reply (between s from to)
+        → low ≡ lowerOf least one → Lowest t s m reply low next
+    unfolding advised
+    lowest-on from to next q one low e f =
+        record {
+          readable = handed-rest s here k p (h .readable) from to next q;
+          so-far =
+              h .so-far
+              ∙ rw (handed-given s here k p (h .readable) from to next q, f, e)
+              (overall-two least (adviceIn t m reply (between s from to)) (advised t m reply (given (left s next))));
+        }
+
+    pub lowest-end : k ≡ End → least ≡ overall (advised t m reply (given (addresses s)))
+    unfolding advised
+    lowest-end q = sym (h .so-far ∙ rw (handed-end s here k p q) (overall-one least))
+
+    pub lowest-unread : k ≡ Unreadable → least ≡ overall (advised t m reply (given (addresses s)))
+    unfolding advised
+    lowest-unread q = sym (h .so-far ∙ rw (handed-unread s here k p q) (overall-one least))
+
+pub ruleset lowering = (lowest-begin, lowest-on, hand-plain, hand-from, hand-upto, hand-less, lowest-end, lowest-unread, needs)

@@ -1,0 +1,98 @@
+-- Where the key to encrypt to lies, and that it is the entry's.
+--     key-direct .. key-none        each way through `key_part`
+--     target-nothing, target-there  each way through `target`
+--     Reaches t s place left here   what the loop of `target_at` knows
+--     reaches-begin .. reaches-unread     its steps
+--     the rulesets                  keeping, for `key_part`; targeting, for `target`; reaching, for `target_at`
+-- Assumes nothing.
+use Prim.Native.Nat.{ℕ, suc, _+_, _-_, _*_}
+use mathlib.Core.Path.{_≡_, sym, ap, _∙_}
+use mathlib.Core.Bool.{true, false}
+use mathlib.Core.List.{List}
+use native.Mathlib.Omega.{arith}
+use native.Mathlib.Numerals.{add-one}
+use borrow.Author.Needs.{needs}
+use Rattle.address.specs.Address.{canonical}
+use Rattle.slots.specs.declared.Slot.{Slot}
+use Rattle.slots.specs.Slot.{numbersOf}
+use Rattle.list.specs.List.{addresses}
+use Rattle.list.specs.Answers.{between, beginning, left, Hands}
+use Rattle.list.specs.declared.Cursor.{Cursor}
+use Rattle.list.specs.declared.Handed.{Handed}
+use Rattle.list.specs.declared.Handed.the-variants.{Address, End, Unreadable}
+use Rattle.list.proofs.Handing.{left-beginning, hand-plain, hand-from, hand-upto, hand-less}
+use Rattle.table.specs.Table.{slotAt, found}
+use Rattle.table.specs.declared.Found.{Found}
+use Rattle.table.specs.declared.Found.the-variants.{At, Nothing}
+use Rattle.advice.specs.Advice.{given, isGiven}
+use Rattle.advice.specs.Places.{noPart, keyPart, partIn, targetPart, targetAt}
+use Rattle.advice.specs.declared.Part.{Part}
+use Rattle.advice.proofs.Locating.{located-in, located-low}
+use Rattle.advice.proofs.Overall.{handed-rest, handed-given, handed-end, handed-unread}
+
+module _ (i : ℕ) (n : Slot) where
+  pub key-direct : n .direct ≡ true → _≡_ {A = Part} (record { start = i * 4392 + 296; length = n .«direct_length» }) (keyPart i n)
+  unfolding keyPart
+  key-direct d = rw (keyPart, d)
+
+  module _ (d : n .direct ≡ false) where
+    pub key-gossip : n .gossip ≡ true → _≡_ {A = Part} (record { start = i * 4392 + 2344; length = n .«gossip_length» }) (keyPart i n)
+    unfolding keyPart
+    key-gossip g = rw (keyPart, d, g)
+
+    pub key-none : n .gossip ≡ false → noPart ≡ keyPart i n
+    unfolding keyPart
+    key-none g = rw (keyPart, d, g)
+
+pub ruleset keeping = (key-direct, key-gossip, key-none, needs)
+
+module _ (t a : List ℕ) (g : Found) (e : g ≡ found t (canonical a)) where
+  pub target-nothing : g ≡ Nothing → noPart ≡ targetPart t a
+  unfolding targetPart partIn
+  target-nothing q = rw (targetPart, sym e ∙ q)
+
+  pub target-there : (i : ℕ) → g ≡ At i → (n : Slot) → n ≡ numbersOf (slotAt t i) → (r : Part) → r ≡ keyPart i n → r ≡ targetPart t a
+  unfolding targetPart partIn
+  target-there i q n p r h = rw (targetPart, sym e ∙ q) (h ∙ rw p)
+
+pub ruleset targeting = (target-nothing, target-there, located-in, located-low, needs)
+
+-- The loop: the place in the whole list is the place that is left in the rest of it.
+pub record Reaches (t s : List ℕ) (place rest : ℕ) (here : Cursor) : Type 0 where
+  pub readable : isGiven (left s here) ≡ true
+  pub so-far : targetAt t (given (addresses s)) place ≡ targetAt t (given (left s here)) rest
+
+module _ (t s : List ℕ) (place : ℕ) where
+  pub reaches-begin : (here : Cursor) → here ≡ beginning → isGiven (addresses s) ≡ true → Reaches t s place place here
+  reaches-begin here e g =
+      let b : left s here ≡ addresses s = left-beginning s here e in
+      record { readable = rw b g; so-far = rw b }
+
+  module _ (rest : ℕ) (here : Cursor) (k : Handed) (h : Reaches t s place rest here) (p : Hands s here k) where
+    module _ (from to : ℕ) (next : Cursor) (q : k ≡ Address from to next) where
+      pub reaches-here : rest ≡ 0 → (r : Part) → r ≡ targetPart t (between s from to) → r ≡ targetAt t (given (addresses s)) place
+      unfolding targetAt
+      reaches-here z r e =
+          e ∙ sym (h .so-far ∙ rw (handed-given s here k p (h .readable) from to next q, z))
+
+      pub reaches-on : (rest ≡ 0 → ⊥) → Reaches t s place (rest - 1) next
+      unfolding targetAt
+      reaches-on z =
+          let b : rest ≡ suc (rest - 1) = (let c : rest ≡ rest - 1 + 1 = omega arith in c ∙ add-one (rest - 1)) in
+          record {
+            readable = handed-rest s here k p (h .readable) from to next q;
+            so-far =
+                h .so-far
+                ∙ ap (targetAt t (given (left s here))) b
+                ∙ rw (handed-given s here k p (h .readable) from to next q);
+          }
+
+    pub reaches-end : k ≡ End → noPart ≡ targetAt t (given (addresses s)) place
+    unfolding targetAt
+    reaches-end q = sym (h .so-far ∙ rw (handed-end s here k p q))
+
+    pub reaches-unread : k ≡ Unreadable → noPart ≡ targetAt t (given (addresses s)) place
+    unfolding targetAt
+    reaches-unread q = sym (h .so-far ∙ rw (handed-unread s here k p q))
+
+pub ruleset reaching = (reaches-begin, reaches-here, reaches-on, hand-plain, hand-from, hand-upto, hand-less, reaches-end, reaches-unread, needs)

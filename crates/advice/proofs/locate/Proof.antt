@@ -1,0 +1,49 @@
+-- `advice::locate` meets its contract: the laws of `Locating` answer every need. Assumes nothing.
+use Rattle.advice.proofs.locate.Statement.{statement}
+use Rattle.advice.proofs.locate.Tie as tie
+use Rattle.advice.proofs.Locating.{locating}
+
+slice-aggregate-canonical : tie.Need-slice-aggregate-canonical
+slice-aggregate-canonical c = search locating
+
+canonical-requires : tie.Need-canonical-requires
+canonical-requires c κs = search locating
+
+enum-known-n : tie.Need-enum-known-n
+enum-known-n c = search locating
+
+sub-find : tie.Need-sub-find
+sub-find c = search locating
+
+part-find-start : tie.Need-part-find-start
+part-find-start c = search locating
+
+part-find-end : tie.Need-part-find-end
+part-find-end c = search locating
+
+find-requires : tie.Need-find-requires
+find-requires c κs = search locating
+
+enum-told : tie.Need-enum-told
+enum-told c = search locating
+
+returns : tie.Need-returns
+returns c = search locating
+
+returns-2 : tie.Need-returns-2
+returns-2 c = search locating
+
+pub locate-spec : {M : Type 1} → statement M
+locate-spec =
+    tie.close
+    (tie.spec
+    slice-aggregate-canonical
+    canonical-requires
+    enum-known-n
+    sub-find
+    part-find-start
+    part-find-end
+    find-requires
+    enum-told
+    returns
+    returns-2)
