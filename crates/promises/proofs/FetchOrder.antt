@@ -1,13 +1,18 @@
 -- Demand 3: fetch order is immaterial.
 --     step, fetched-well    a run from a sound table: its tables are sound, and each entry goes its own way
 --     same-entries          two orders lead to the same entry of every address
+--     say-the-same          sound tables with the same entries give the same recommendations and target keys
+--     fetch-order           the whole of demand 3
 -- Assumes nothing.
 use Prim.Native.Nat.{ℕ}
 use mathlib.Core.Path.{_≡_, refl, sym, ap, _∙_}
+use mathlib.Core.Logic.{⊎-elim}
 use mathlib.Core.Bool.{Bool, true, false, _&&_}
 use mathlib.Core.List.{List, [], _∷_, List·Mem, mem-cons-self, mem-cons-of-mem, List·Permᴰ, List·Permᴰ·mem, Permᴰ·symm}
 use mathlib.Core.Option.{Option, some, none}
+use lib.ListN.{length, getD}
 use Rattle.octets.specs.Octets.{AllOctets}
+use Rattle.octets.proofs.Lists.{lt-or-le}
 use Rattle.address.proofs.Every.{and-left, and-right}
 use Rattle.slots.specs.Entry.{Direct, Entry, entryOf, isPresent, orElse, GoodDirect, GoodHalf, Good}
 use Rattle.slots.proofs.Sounds.{sound-parts}
@@ -20,8 +25,11 @@ use Rattle.table.specs.declared.Found.the-variants.{At, Nothing}
 use Rattle.table.proofs.Slots.{slot-long, slot-octets}
 use Rattle.table.proofs.Finding.{found-at, found-used}
 use Rattle.table.proofs.Keeping.{table-sound, used-sound}
+use Rattle.advice.specs.Places.{targetAt, octetsAt}
+use Rattle.advice.proofs.Alike.{target-alike, overall-alike}
+use Rattle.advice.proofs.Keys.{place-key, place-past}
 use Rattle.update.specs.Message.{Message, hasRoom, applied, entryAfter, GoodBrought, GoodMessage}
-use Rattle.promises.specs.Fetching.{after, fetched, fits, allFit, Agree, Agreeing}
+use Rattle.promises.specs.Fetching.{after, fetched, fits, allFit, Agreeing, SayTheSame}
 use Rattle.promises.proofs.Halves.{Seen, Timely, Stamped}
 use Rattle.promises.proofs.Permuting.{folded, Steps, folded-permuted}
 use Rattle.promises.proofs.EntryOrder.{Known, entry-keeps, entry-swap}
@@ -56,6 +64,19 @@ module _ (t : List ℕ) (octets : AllOctets t) (sound : checked t ≡ Sound) whe
             (sound-parts (slotAt t i) (used-sound t (table-sound t sound) i (found-at t b i q .0) (found-used t b i q) .0))
             (slot-octets t i octets))
       go Nothing q = tt
+
+-- recommending asks for entries only
+module _ (t u : List ℕ) (s : checked t ≡ Sound) (r : checked u ≡ Sound) (alike : (a : List ℕ) → entryIn t a ≡ entryIn u a) where
+  same-target : (list : List (List ℕ)) (place : ℕ) → octetsAt t (targetAt t list place) ≡ octetsAt u (targetAt u list place)
+  unfolding octetsAt
+  same-target list place =
+      ⊎-elim
+      (λ l. place-key t s list place l ∙ target-alike t u alike (getD list place []) ∙ sym (place-key u r list place l))
+      (λ l. rw (place-past t s list place l, place-past u r list place l))
+      (lt-or-le place (length list))
+
+  pub say-the-same : SayTheSame t u
+  say-the-same = record { entry = alike; advice = overall-alike t u alike; target = same-target }
 
 -- what a call does to the entry of an address
 unfoldable pub step : List ℕ → Option Message → Option Entry → Option Entry
@@ -119,3 +140,14 @@ module _
       fetched-well ms t o s good r .entries b
       ∙ folded-permuted (step b) Known ms ns p (calls-steps ms good agree b) (entryIn t b) (entry-known t o s b)
       ∙ sym (fetched-well ns t o s (λ m i. good m (List·Permᴰ·mem (Permᴰ·symm p) i)) q .entries b)
+
+  -- Demand 3: from one sound table, two orders of the same messages lead to tables that say the same, where neither order refuses one for
+  -- room and any two that bring an address something at the same date bring it the same.
+  pub fetch-order : (t : List ℕ) (ms ns : List (Option Message)) → AllOctets t → checked t ≡ Sound
+      → ((m : Message) → List·Mem (some m) ms → GoodMessage m) → List·Permᴰ ms ns → allFit t ms ≡ true → allFit t ns ≡ true → Agreeing ms
+      → SayTheSame (fetched t ms) (fetched t ns)
+  fetch-order t ms ns o s good p r q agree =
+      say-the-same (fetched t ms) (fetched t ns)
+      (fetched-well ms t o s good r .sound)
+      (fetched-well ns t o s (λ m i. good m (List·Permᴰ·mem (Permᴰ·symm p) i)) q .sound)
+      (same-entries t ms ns o s good p r q agree)
