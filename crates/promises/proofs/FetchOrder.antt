@@ -8,7 +8,7 @@ use Prim.Native.Nat.{ℕ}
 use mathlib.Core.Path.{_≡_, refl, sym, ap, _∙_}
 use mathlib.Core.Logic.{⊎-elim}
 use mathlib.Core.Bool.{Bool, true, false, _&&_}
-use mathlib.Core.List.{List, [], _∷_, List·Mem, mem-cons-self, mem-cons-of-mem, List·Permᴰ, List·Permᴰ·mem, Permᴰ·symm}
+use mathlib.Core.List.{List, [], _∷_, List·Memᴰ, List·Memᴰ·head, List·Memᴰ·tail, List·Permᴰ, Permᴰ·symm}
 use mathlib.Core.Option.{Option, some, none}
 use lib.ListN.{length, getD}
 use Rattle.octets.specs.Octets.{AllOctets}
@@ -31,7 +31,7 @@ use Rattle.advice.proofs.Keys.{place-key, place-past}
 use Rattle.update.specs.Message.{Message, hasRoom, applied, entryAfter, GoodBrought, GoodMessage}
 use Rattle.promises.specs.Fetching.{after, fetched, fits, allFit, Agreeing, SayTheSame}
 use Rattle.promises.proofs.Halves.{Seen, Timely, Stamped}
-use Rattle.promises.proofs.Permuting.{folded, Steps, folded-permuted}
+use Rattle.promises.proofs.Permuting.{permuted-stands, folded, Steps, folded-permuted}
 use Rattle.promises.proofs.EntryOrder.{Known, entry-keeps, entry-swap}
 
 -- a good message's counted field has the message's date
@@ -83,13 +83,13 @@ unfoldable pub step : List ℕ → Option Message → Option Entry → Option En
 step b none e = e
 step b (some m) e = entryAfter m b e
 
-module _ (list : List (Option Message)) (good : (m : Message) → List·Mem (some m) list → GoodMessage m) (agree : Agreeing list) where
-  call-keeps : (b : List ℕ) (c : Option Message) → List·Mem c list → (e : Option Entry) → Known e → Known (step b c e)
+module _ (list : List (Option Message)) (good : (m : Message) → List·Memᴰ (some m) list → GoodMessage m) (agree : Agreeing list) where
+  call-keeps : (b : List ℕ) (c : Option Message) → List·Memᴰ c list → (e : Option Entry) → Known e → Known (step b c e)
   unfolding step
   call-keeps b none i e k = k
   call-keeps b (some m) i e k = entry-keeps m b e (good-stamped m (good m i)) k
 
-  call-swaps : (b : List ℕ) (c d : Option Message) → List·Mem c list → List·Mem d list → (e : Option Entry) → Known e → step b d (step b c e) ≡ step b c (step b d e)
+  call-swaps : (b : List ℕ) (c d : Option Message) → List·Memᴰ c list → List·Memᴰ d list → (e : Option Entry) → Known e → step b d (step b c e) ≡ step b c (step b d e)
   unfolding step Agreeing
   call-swaps b none d i j e k = refl
   call-swaps b (some m) none i j e k = refl
@@ -119,14 +119,14 @@ module _
       (record { sound = applied-sound t m o s (good m refl) r; octets = applied-octets t m o s (good m refl) r; entries = applied-entry t m o s (good m refl) r })
 
   pub fetched-well : (list : List (Option Message)) (t : List ℕ) → AllOctets t → checked t ≡ Sound
-      → ((m : Message) → List·Mem (some m) list → GoodMessage m) → allFit t list ≡ true → Fetched t (fetched t list) list
+      → ((m : Message) → List·Memᴰ (some m) list → GoodMessage m) → allFit t list ≡ true → Fetched t (fetched t list) list
   unfolding fetched allFit folded
   fetched-well [] t o s good r = record { sound = s; octets = o; entries = λ b. refl }
   fetched-well (c ∷ rest) t o s good r =
       let one : Fetched t (after t c) (c ∷ []) =
-        fetched-one t c o s (λ m q. good m (rw (sym q) mem-cons-self)) (and-left (fits t c) (allFit (after t c) rest) r) in
+        fetched-one t c o s (λ m q. good m (List·Memᴰ·head (sym q))) (and-left (fits t c) (allFit (after t c) rest) r) in
       let others : Fetched (after t c) (fetched (after t c) rest) rest =
-        fetched-well rest (after t c) (one .octets) (one .sound) (λ m i. good m (mem-cons-of-mem c i)) (and-right (fits t c) (allFit (after t c) rest) r) in
+        fetched-well rest (after t c) (one .octets) (one .sound) (λ m i. good m (List·Memᴰ·tail i)) (and-right (fits t c) (allFit (after t c) rest) r) in
       record {
         sound = others .sound;
         octets = others .octets;
@@ -134,20 +134,20 @@ module _
       }
 
   pub same-entries : (t : List ℕ) (ms ns : List (Option Message)) → AllOctets t → checked t ≡ Sound
-      → ((m : Message) → List·Mem (some m) ms → GoodMessage m) → List·Permᴰ ms ns → allFit t ms ≡ true → allFit t ns ≡ true → Agreeing ms
+      → ((m : Message) → List·Memᴰ (some m) ms → GoodMessage m) → List·Permᴰ ms ns → allFit t ms ≡ true → allFit t ns ≡ true → Agreeing ms
       → (b : List ℕ) → entryIn (fetched t ms) b ≡ entryIn (fetched t ns) b
   same-entries t ms ns o s good p r q agree b =
       fetched-well ms t o s good r .entries b
       ∙ folded-permuted (step b) Known ms ns p (calls-steps ms good agree b) (entryIn t b) (entry-known t o s b)
-      ∙ sym (fetched-well ns t o s (λ m i. good m (List·Permᴰ·mem (Permᴰ·symm p) i)) q .entries b)
+      ∙ sym (fetched-well ns t o s (λ m i. good m (permuted-stands (some m) (Permᴰ·symm p) i)) q .entries b)
 
   -- Demand 3: from one sound table, two orders of the same messages lead to tables that say the same, where neither order refuses one for
   -- room and any two that bring an address something at the same date bring it the same.
   pub fetch-order : (t : List ℕ) (ms ns : List (Option Message)) → AllOctets t → checked t ≡ Sound
-      → ((m : Message) → List·Mem (some m) ms → GoodMessage m) → List·Permᴰ ms ns → allFit t ms ≡ true → allFit t ns ≡ true → Agreeing ms
+      → ((m : Message) → List·Memᴰ (some m) ms → GoodMessage m) → List·Permᴰ ms ns → allFit t ms ≡ true → allFit t ns ≡ true → Agreeing ms
       → SayTheSame (fetched t ms) (fetched t ns)
   fetch-order t ms ns o s good p r q agree =
       say-the-same (fetched t ms) (fetched t ns)
       (fetched-well ms t o s good r .sound)
-      (fetched-well ns t o s (λ m i. good m (List·Permᴰ·mem (Permᴰ·symm p) i)) q .sound)
+      (fetched-well ns t o s (λ m i. good m (permuted-stands (some m) (Permᴰ·symm p) i)) q .sound)
       (same-entries t ms ns o s good p r q agree)

@@ -7,7 +7,7 @@
 use Prim.Native.Nat.{ℕ}
 use mathlib.Core.Path.{_≡_}
 use mathlib.Core.Bool.{Bool, true, false, _&&_}
-use mathlib.Core.List.{List, [], _∷_, List·Mem}
+use mathlib.Core.List.{List, [], _∷_, List·Memᴰ}
 use mathlib.Core.Option.{Option, some, none}
 use Rattle.slots.specs.Entry.{Direct}
 use Rattle.table.specs.Entries.{entryIn}
@@ -43,7 +43,7 @@ pub record Agree (m n : Message) : Type 0 where
 
 -- "any two messages"
 unfoldable pub Agreeing : List (Option Message) → Type 0
-Agreeing list = (m n : Message) → List·Mem (some m) list → List·Mem (some n) list → Agree m n
+Agreeing list = (m n : Message) → List·Memᴰ (some m) list → List·Memᴰ (some n) list → Agree m n
 
 -- "every address ends with the same entry, and every recipient list gets the same recommendation and each place the same target key octets"
 pub record SayTheSame (t u : List ℕ) : Type 0 where
