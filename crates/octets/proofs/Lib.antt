@@ -5,3 +5,4 @@ pub mod Comparing
 pub mod Zeros
 pub mod Copying
 pub mod Numerals
+pub mod Joined

@@ -3,20 +3,22 @@
 --     entry-back       from a good entry to its slot and back
 --     slot-sound       the slot is sound
 --     slot-long        and has 4,392 octets
+--     slot-octets      all of them octets
 -- Assumes nothing.
 use Prim.Native.Nat.{ℕ, _+_, _-_, _*_, _/_, _%_, _<_, _≤_}
 use mathlib.Core.Path.{_≡_, refl, ap, _∙_}
 use mathlib.Core.Bool.{Bool, true, false, not, cond, _&&_, _||_, or-true}
 use mathlib.Core.Option.{Option, some, none}
-use mathlib.Core.List.{List, _++_}
+use mathlib.Core.List.{List, [], _∷_, _++_}
 use native.Mathlib.Omega.{arith}
 use borrow.Author.Tests.{eq-eqb, le-leb, lt-ltb}
 use lib.Dec.{eqb, leb}
 use lib.ListN.{length, take, drop, replicate, length-append}
 use lib.Seq.{take-at, drop-at, take-all}
-use Rattle.octets.specs.Octets.{allZero}
+use Rattle.octets.specs.Octets.{AllOctets, allZero}
 use Rattle.octets.specs.Numbers.{number, digits}
 use Rattle.octets.proofs.Comparing.{same-refl}
+use Rattle.octets.proofs.Joined.{more-octets, append-octets, replicate-octets, digits-octets}
 use Rattle.octets.proofs.Numerals.{number-digits}
 use Rattle.octets.proofs.Zeros.{zero-replicate}
 use Rattle.slots.specs.declared.Slot.{Slot}
@@ -371,3 +373,55 @@ module _ (e : Entry) (g : Good e) where
   unfolding sound
   slot-sound =
       rw (numbers-kept, made-marked, made-canonical, made-clear, made-range, made-lengths, made-absent, made-past, made-mutual, made-seen)
+
+-- octets 0 to 39, whatever the numbers are
+module _ (n : Slot) where
+  opening-octets : AllOctets (opening n)
+  unfolding opening
+  opening-octets =
+      append-octets mark (digits 2 (n .«address_length») ++ (digits 1 (bitsOf n) ++ digits 3 0))
+      (more-octets 65 (49 ∷ []) (omega arith) (more-octets 49 [] (omega arith) (λ i. omega arith)))
+      (append-octets (digits 2 (n .«address_length»)) (digits 1 (bitsOf n) ++ digits 3 0) (digits-octets 2 (n .«address_length»))
+      (append-octets (digits 1 (bitsOf n)) (digits 3 0) (digits-octets 1 (bitsOf n)) (digits-octets 3 0)))
+
+  times-octets : AllOctets (times n)
+  unfolding times
+  times-octets =
+      append-octets (digits 8 (n .«last_seen»)) (digits 8 (n .timestamp) ++ digits 8 (n .«gossip_timestamp»)) (digits-octets 8 (n .«last_seen»))
+      (append-octets (digits 8 (n .timestamp)) (digits 8 (n .«gossip_timestamp»)) (digits-octets 8 (n .timestamp)) (digits-octets 8 (n .«gossip_timestamp»)))
+
+  lengths-octets : AllOctets (lengths n)
+  unfolding lengths
+  lengths-octets =
+      append-octets (digits 2 (n .«direct_length»)) (digits 2 (n .«gossip_length») ++ digits 4 0) (digits-octets 2 (n .«direct_length»))
+      (append-octets (digits 2 (n .«gossip_length»)) (digits 4 0) (digits-octets 2 (n .«gossip_length»)) (digits-octets 4 0))
+
+  head-octets : AllOctets (head n)
+  unfolding head
+  head-octets = append-octets (opening n) (times n ++ lengths n) opening-octets (append-octets (times n) (lengths n) times-octets lengths-octets)
+
+padded-octets : (room : ℕ) (s : List ℕ) → AllOctets s → AllOctets (padded room s)
+unfolding padded
+padded-octets room s o = append-octets s (replicate (room - length s) 0) o (replicate-octets (room - length s) 0 (omega arith))
+
+module _ (e : Entry) (g : Good e) where
+  direct-octets : AllOctets (orElse noDirect (e .direct) .key)
+  direct-octets =
+      half-holds (GoodDirect (e .lastSeen)) (λ (d : Direct). AllOctets (d .key)) noDirect (λ i. omega arith) (λ d h. h .key .octets) (e .direct) (g .direct)
+
+  gossip-octets : AllOctets (orElse noGossip (e .gossip) .key)
+  gossip-octets =
+      half-holds GoodGossip (λ (d : Gossip). AllOctets (d .key)) noGossip (λ i. omega arith) (λ d h. h .key .octets) (e .gossip) (g .gossip)
+
+  areas-octets : AllOctets (areas e)
+  unfolding areas
+  areas-octets =
+      append-octets (padded addressRoom (e .address)) (padded keyLimit (orElse noDirect (e .direct) .key) ++ padded keyLimit (orElse noGossip (e .gossip) .key))
+      (padded-octets addressRoom (e .address) (g .octets))
+      (append-octets (padded keyLimit (orElse noDirect (e .direct) .key)) (padded keyLimit (orElse noGossip (e .gossip) .key))
+      (padded-octets keyLimit (orElse noDirect (e .direct) .key) direct-octets)
+      (padded-octets keyLimit (orElse noGossip (e .gossip) .key) gossip-octets))
+
+  pub slot-octets : AllOctets (slotOf e)
+  unfolding slotOf
+  slot-octets = append-octets (head (numbersFor e)) (areas e) (head-octets (numbersFor e)) areas-octets

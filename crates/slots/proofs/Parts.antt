@@ -11,6 +11,8 @@
 --     put-length                 writing keeps the length
 --     part-before, part-behind   what was not written over
 --     part-back                  a part that was lent on, back in its place
+--     put-again                  writing twice at one place
+--     put-back                   writing a part over itself
 -- Assumes nothing.
 use Prim.Native.Nat.{ℕ, suc, zero, _+_, _-_, _<_, _≤_, min}
 use mathlib.Core.Path.{_≡_, refl, sym, ap, _∙_}
@@ -18,7 +20,7 @@ use mathlib.Core.Logic.{⊎-elim}
 use mathlib.Core.List.{List, [], _∷_, _++_, append-assoc, append-nil}
 use native.Mathlib.Nat.{min-eq-left, min-eq-right, sub-self, zero-add}
 use native.Mathlib.Omega.{arith}
-use lib.ListN.{length, take, drop, replicate, length-append, length-take, length-drop, drop-of-length-le}
+use lib.ListN.{length, take, drop, replicate, length-append, length-take, length-drop, drop-of-length-le, take-append-drop}
 use lib.Seq.{take-all, take-take, take-add, drop-drop, take-at, drop-at, take-append-le, drop-append-le, take-append-add, drop-append-add, length-take-le, take-nil}
 use Rattle.octets.specs.Written.{putAt}
 use Rattle.octets.proofs.Lists.{lt-or-le}
@@ -126,3 +128,20 @@ part-behind d w at p n h l =
     ∙ drop-append-add w (drop (at + length w) d) (p - at - length w)
     ∙ drop-drop (p - at - length w) (at + length w) d
     ∙ ap (λ (q : ℕ). drop q d) b)
+
+pub put-again : (d x y : List ℕ) (at : ℕ) → length x ≡ length y → at + length x ≤ length d → putAt (putAt d at x) at y ≡ putAt d at y
+unfolding putAt
+put-again d x y at e h =
+    let k : length (take at d) ≡ at = length-take-le at d (omega arith) in
+    rw (
+      take-at (take at d) (x ++ drop (at + length x) d) at k,
+      drop-past (take at d) (x ++ drop (at + length x) d) at (length y) k,
+      drop-at x (drop (at + length x) d) (length y) e,
+      e,
+    )
+
+pub put-back : (d : List ℕ) (at n : ℕ) → at + n ≤ length d → putAt d at (take n (drop at d)) ≡ d
+unfolding putAt
+put-back d at n h =
+    let k : length (take n (drop at d)) ≡ n = simp (length-take, length-drop) (omega arith) in
+    rw (k, ← drop-drop n at d, take-append-drop n (drop at d)) (take-append-drop at d)

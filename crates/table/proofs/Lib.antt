@@ -3,5 +3,6 @@ pub mod Scanning
 pub mod Judging
 pub mod Finding
 pub mod Keeping
+pub mod Replaced
 mod Worked
 pub mod Entries

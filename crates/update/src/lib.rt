@@ -6,9 +6,9 @@ ghost use mathlib.Core.Bool.{true};
 ghost use mathlib.Core.Option.{some, none};
 ghost use lib.ListN.{length};
 ghost use Rattle.address.specs.Address.{isCanonical};
-ghost use Rattle.slots.specs.Slot.{timeLimit, keyLimit};
-ghost use Rattle.slots.specs.Entry.{entryOf};
-ghost use Rattle.table.specs.Table.{slots, slotAt, checked, found};
+ghost use Rattle.slots.specs.Slot.{timeLimit, keyLimit, sound};
+ghost use Rattle.slots.specs.Entry.{entryOf, slotOf, seenBy, withDirect};
+ghost use Rattle.table.specs.Table.{slots, slotAt, withSlot, checked, found};
 ghost use Rattle.table.specs.declared.Checked.the-variants.{Sound};
 ghost use Rattle.update.specs.Update.{younger, updated, youngerGossip, heard, begun, put};
 use table::Found;
@@ -64,6 +64,15 @@ pub fn update_keyless(table: &mut [u8], sender: &[u8], date: u64)
     }
 }
 
+// Raises last seen to the date and sets the direct half: what a field that counts does to an entry.
+fn set_field(table: &mut [u8], i: usize, date: u64, key: &[u8], mutual: bool)
+    requires { ⌜ (i < slots (now table)) × (sound (slotAt (now table) i) ≡ true) × (date ≤ timeLimit) × (1 ≤ length (now key)) × (length (now key) ≤ keyLimit) ⌝ }
+    ensures { λ _. ⌜ now (table .exit) ≡ withSlot (now (table .entry)) i (slotOf (withDirect (record { timestamp = date; key = now (key .entry); «mutual» = «mutual» }) (seenBy date (entryOf (slotAt (now (table .entry)) i))))) ⌝ }
+{
+    table::raise_seen(table, i, date);
+    table::set_direct(table, i, date, key, mutual);
+}
+
 // A message of the sender with a field that counts.
 pub fn update_with_key(table: &mut [u8], sender: &[u8], date: u64, key: &[u8], mutual: bool)
     requires { ⌜ (checked (now table) ≡ Sound) × (isCanonical (now sender) ≡ true) × (date ≤ timeLimit) × (1 ≤ length (now key)) × (length (now key) ≤ keyLimit) ⌝ }
@@ -72,8 +81,7 @@ pub fn update_with_key(table: &mut [u8], sender: &[u8], date: u64, key: &[u8], m
     match place(table, sender) {
         Found::At(i) => {
             if !has_younger(table, i, date) {
-                table::raise_seen(table, i, date);
-                table::set_direct(table, i, date, key, mutual);
+                set_field(table, i, date, key, mutual);
             }
         }
         Found::Nothing => {}
