@@ -7,28 +7,23 @@
 use Prim.Native.Nat.{ℕ}
 use mathlib.Core.Path.{_≡_, refl, sym, ap, _∙_}
 use mathlib.Core.Logic.{⊎-elim}
-use mathlib.Core.Bool.{Bool, true, false, _&&_}
+use mathlib.Core.Bool.{true}
 use mathlib.Core.List.{List, [], _∷_, List·Memᴰ, List·Memᴰ·head, List·Memᴰ·tail, List·Permᴰ, Permᴰ·symm}
 use mathlib.Core.Option.{Option, some, none}
 use lib.ListN.{length, getD}
 use Rattle.octets.specs.Octets.{AllOctets}
 use Rattle.octets.proofs.Lists.{lt-or-le}
 use Rattle.address.proofs.Every.{and-left, and-right}
-use Rattle.slots.specs.Entry.{Direct, Entry, entryOf, isPresent, orElse, GoodDirect, GoodHalf, Good}
-use Rattle.slots.proofs.Sounds.{sound-parts}
-use Rattle.slots.proofs.Goodness.{good-entry}
-use Rattle.table.specs.Table.{slotAt, found, checked}
+use Rattle.slots.specs.Entry.{Direct, Entry, GoodDirect, GoodHalf, Good}
+use Rattle.table.specs.Table.{checked}
 use Rattle.table.specs.Entries.{entryIn}
 use Rattle.table.specs.declared.Checked.the-variants.{Sound}
-use Rattle.table.specs.declared.Found.{Found}
-use Rattle.table.specs.declared.Found.the-variants.{At, Nothing}
-use Rattle.table.proofs.Slots.{slot-long, slot-octets}
-use Rattle.table.proofs.Finding.{found-at, found-used}
-use Rattle.table.proofs.Keeping.{table-sound, used-sound}
+use Rattle.table.proofs.Replaced.{entry-good}
 use Rattle.advice.specs.Places.{targetAt, octetsAt}
 use Rattle.advice.proofs.Alike.{target-alike, overall-alike}
 use Rattle.advice.proofs.Keys.{place-key, place-past}
-use Rattle.update.specs.Message.{Message, hasRoom, applied, entryAfter, GoodBrought, GoodMessage}
+use Rattle.update.specs.Message.{Message, entryAfter, GoodBrought, GoodMessage}
+use Rattle.update.proofs.Applying.{applied-sound, applied-octets, applied-entry}
 use Rattle.promises.specs.Fetching.{after, fetched, fits, allFit, Agreeing, SayTheSame}
 use Rattle.promises.proofs.Halves.{Seen, Timely, Stamped}
 use Rattle.promises.proofs.Permuting.{permuted-stands, folded, Steps, folded-permuted}
@@ -52,18 +47,13 @@ good-timely e g = go (e .direct) (g .direct)
     go none h = tt
     go (some d) h = record { was-seen = h .was-seen; not-below = h .not-below }
 
-module _ (t : List ℕ) (octets : AllOctets t) (sound : checked t ≡ Sound) where
-  entry-known : (b : List ℕ) → Known (entryIn t b)
-  unfolding Known entryIn
-  entry-known b = go (found t b) refl
-    where
-      go : (f : Found) → found t b ≡ f → GoodHalf Timely (elim f [ At i ↦ some (entryOf (slotAt t i)) | Nothing ↦ none ])
-      go (At i) q =
-          good-timely (entryOf (slotAt t i))
-          (good-entry (slotAt t i) (slot-long t i (found-at t b i q .0))
-            (sound-parts (slotAt t i) (used-sound t (table-sound t sound) i (found-at t b i q .0) (found-used t b i q) .0))
-            (slot-octets t i octets))
-      go Nothing q = tt
+entry-known : (t b : List ℕ) → AllOctets t → checked t ≡ Sound → Known (entryIn t b)
+unfolding Known
+entry-known t b o s = go (entryIn t b) refl
+  where
+    go : (e : Option Entry) → entryIn t b ≡ e → GoodHalf Timely e
+    go none q = tt
+    go (some e) q = good-timely e (entry-good t b s o e q .0)
 
 -- recommending asks for entries only
 module _ (t u : List ℕ) (s : checked t ≡ Sound) (r : checked u ≡ Sound) (alike : (a : List ℕ) → entryIn t a ≡ entryIn u a) where
@@ -98,56 +88,50 @@ module _ (list : List (Option Message)) (good : (m : Message) → List·Memᴰ (
   calls-steps : (b : List ℕ) → Steps (step b) Known list
   calls-steps b = record { keeps = call-keeps b; swaps = call-swaps b }
 
-module _
-    (applied-entry : (t : List ℕ) (m : Message) → AllOctets t → checked t ≡ Sound → GoodMessage m → hasRoom t m ≡ true
-      → (b : List ℕ) → entryIn (applied t m) b ≡ entryAfter m b (entryIn t b))
-    (applied-sound : (t : List ℕ) (m : Message) → AllOctets t → checked t ≡ Sound → GoodMessage m → hasRoom t m ≡ true → checked (applied t m) ≡ Sound)
-    (applied-octets : (t : List ℕ) (m : Message) → AllOctets t → checked t ≡ Sound → GoodMessage m → hasRoom t m ≡ true → AllOctets (applied t m))
-    where
-  -- a run from t to u: u is a sound table, and each address has what its entry in t becomes, message by message
-  pub record Fetched (t u : List ℕ) (list : List (Option Message)) : Type 0 where
-    pub sound : checked u ≡ Sound
-    pub octets : AllOctets u
-    pub entries : (b : List ℕ) → entryIn u b ≡ folded (step b) list (entryIn t b)
+-- a run from t to u: u is a sound table, and each address has what its entry in t becomes, message by message
+pub record Fetched (t u : List ℕ) (list : List (Option Message)) : Type 0 where
+  pub sound : checked u ≡ Sound
+  pub octets : AllOctets u
+  pub entries : (b : List ℕ) → entryIn u b ≡ folded (step b) list (entryIn t b)
 
-  fetched-one : (t : List ℕ) (c : Option Message) → AllOctets t → checked t ≡ Sound → ((m : Message) → c ≡ some m → GoodMessage m) → fits t c ≡ true
-      → Fetched t (after t c) (c ∷ [])
-  unfolding after fits step folded
-  fetched-one t none o s good r = record { sound = s; octets = o; entries = λ b. refl }
-  fetched-one t (some m) o s good r =
-      rw (after, r)
-      (record { sound = applied-sound t m o s (good m refl) r; octets = applied-octets t m o s (good m refl) r; entries = applied-entry t m o s (good m refl) r })
+pub fetched-one : (t : List ℕ) (c : Option Message) → AllOctets t → checked t ≡ Sound → ((m : Message) → c ≡ some m → GoodMessage m) → fits t c ≡ true
+    → Fetched t (after t c) (c ∷ [])
+unfolding after fits step folded
+fetched-one t none o s good r = record { sound = s; octets = o; entries = λ b. refl }
+fetched-one t (some m) o s good r =
+    rw (after, r)
+    (record { sound = applied-sound t m (good m refl) s o; octets = applied-octets t m (good m refl) s o; entries = applied-entry t m (good m refl) s o r })
 
-  pub fetched-well : (list : List (Option Message)) (t : List ℕ) → AllOctets t → checked t ≡ Sound
-      → ((m : Message) → List·Memᴰ (some m) list → GoodMessage m) → allFit t list ≡ true → Fetched t (fetched t list) list
-  unfolding fetched allFit folded
-  fetched-well [] t o s good r = record { sound = s; octets = o; entries = λ b. refl }
-  fetched-well (c ∷ rest) t o s good r =
-      let one : Fetched t (after t c) (c ∷ []) =
-        fetched-one t c o s (λ m q. good m (List·Memᴰ·head (sym q))) (and-left (fits t c) (allFit (after t c) rest) r) in
-      let others : Fetched (after t c) (fetched (after t c) rest) rest =
-        fetched-well rest (after t c) (one .octets) (one .sound) (λ m i. good m (List·Memᴰ·tail i)) (and-right (fits t c) (allFit (after t c) rest) r) in
-      record {
-        sound = others .sound;
-        octets = others .octets;
-        entries = λ b. others .entries b ∙ ap (folded (step b) rest) (one .entries b);
-      }
+pub fetched-well : (list : List (Option Message)) (t : List ℕ) → AllOctets t → checked t ≡ Sound
+    → ((m : Message) → List·Memᴰ (some m) list → GoodMessage m) → allFit t list ≡ true → Fetched t (fetched t list) list
+unfolding fetched allFit folded
+fetched-well [] t o s good r = record { sound = s; octets = o; entries = λ b. refl }
+fetched-well (c ∷ rest) t o s good r =
+    let one : Fetched t (after t c) (c ∷ []) =
+    fetched-one t c o s (λ m q. good m (List·Memᴰ·head (sym q))) (and-left (fits t c) (allFit (after t c) rest) r) in
+    let others : Fetched (after t c) (fetched (after t c) rest) rest =
+    fetched-well rest (after t c) (one .octets) (one .sound) (λ m i. good m (List·Memᴰ·tail i)) (and-right (fits t c) (allFit (after t c) rest) r) in
+    record {
+      sound = others .sound;
+      octets = others .octets;
+      entries = λ b. others .entries b ∙ ap (folded (step b) rest) (one .entries b);
+    }
 
-  pub same-entries : (t : List ℕ) (ms ns : List (Option Message)) → AllOctets t → checked t ≡ Sound
-      → ((m : Message) → List·Memᴰ (some m) ms → GoodMessage m) → List·Permᴰ ms ns → allFit t ms ≡ true → allFit t ns ≡ true → Agreeing ms
-      → (b : List ℕ) → entryIn (fetched t ms) b ≡ entryIn (fetched t ns) b
-  same-entries t ms ns o s good p r q agree b =
-      fetched-well ms t o s good r .entries b
-      ∙ folded-permuted (step b) Known ms ns p (calls-steps ms good agree b) (entryIn t b) (entry-known t o s b)
-      ∙ sym (fetched-well ns t o s (λ m i. good m (permuted-stands (some m) (Permᴰ·symm p) i)) q .entries b)
+pub same-entries : (t : List ℕ) (ms ns : List (Option Message)) → AllOctets t → checked t ≡ Sound
+    → ((m : Message) → List·Memᴰ (some m) ms → GoodMessage m) → List·Permᴰ ms ns → allFit t ms ≡ true → allFit t ns ≡ true → Agreeing ms
+    → (b : List ℕ) → entryIn (fetched t ms) b ≡ entryIn (fetched t ns) b
+same-entries t ms ns o s good p r q agree b =
+    fetched-well ms t o s good r .entries b
+    ∙ folded-permuted (step b) Known ms ns p (calls-steps ms good agree b) (entryIn t b) (entry-known t b o s)
+    ∙ sym (fetched-well ns t o s (λ m i. good m (permuted-stands (some m) (Permᴰ·symm p) i)) q .entries b)
 
-  -- Demand 3: from one sound table, two orders of the same messages lead to tables that say the same, where neither order refuses one for
-  -- room and any two that bring an address something at the same date bring it the same.
-  pub fetch-order : (t : List ℕ) (ms ns : List (Option Message)) → AllOctets t → checked t ≡ Sound
-      → ((m : Message) → List·Memᴰ (some m) ms → GoodMessage m) → List·Permᴰ ms ns → allFit t ms ≡ true → allFit t ns ≡ true → Agreeing ms
-      → SayTheSame (fetched t ms) (fetched t ns)
-  fetch-order t ms ns o s good p r q agree =
-      say-the-same (fetched t ms) (fetched t ns)
-      (fetched-well ms t o s good r .sound)
-      (fetched-well ns t o s (λ m i. good m (permuted-stands (some m) (Permᴰ·symm p) i)) q .sound)
-      (same-entries t ms ns o s good p r q agree)
+-- Demand 3: from one sound table, two orders of the same messages lead to tables that say the same, where neither order refuses one for
+-- room and any two that bring an address something at the same date bring it the same.
+pub fetch-order : (t : List ℕ) (ms ns : List (Option Message)) → AllOctets t → checked t ≡ Sound
+    → ((m : Message) → List·Memᴰ (some m) ms → GoodMessage m) → List·Permᴰ ms ns → allFit t ms ≡ true → allFit t ns ≡ true → Agreeing ms
+    → SayTheSame (fetched t ms) (fetched t ns)
+fetch-order t ms ns o s good p r q agree =
+    say-the-same (fetched t ms) (fetched t ns)
+    (fetched-well ms t o s good r .sound)
+    (fetched-well ns t o s (λ m i. good m (permuted-stands (some m) (Permᴰ·symm p) i)) q .sound)
+    (same-entries t ms ns o s good p r q agree)

@@ -39,8 +39,8 @@ module _ {A : Type 0} (time : A → ℕ) where
       by-test (ltb (time x) (time y))
       (λ t. let l : time x < time y = ltb-true (time x) (time y) t in later-stays x y l ∙ sym (later-replaces y x (omega arith)))
       (λ f. by-test (ltb (time y) (time x))
-        (λ t. let l : time y < time x = ltb-true (time y) (time x) t in later-replaces x y (omega arith) ∙ sym (later-stays y x l))
-        (λ g. let e : x ≡ y = agree (omega (arith, ltb-false (time x) (time y) f, ltb-false (time y) (time x) g)) in rw e))
+      (λ t. let l : time y < time x = ltb-true (time y) (time x) t in later-replaces x y (omega arith) ∙ sym (later-stays y x l))
+      (λ g. let e : x ≡ y = agree (omega (arith, ltb-false (time x) (time y) f, ltb-false (time y) (time x) g)) in rw e))
 
   one-swap : (x y old : A) → time x < time old → time old ≤ time y
       → later time (some x) (later time (some y) (some old)) ≡ later time (some y) (later time (some x) (some old))
@@ -51,13 +51,13 @@ module _ {A : Type 0} (time : A → ℕ) where
   three-swap x y old agree =
       by-test (ltb (time x) (time old))
       (λ t. let h : time x < time old = ltb-true (time x) (time old) t in
-        by-test (ltb (time y) (time old))
-        (λ u. let l : time y < time old = ltb-true (time y) (time old) u in rw (later-stays y old l, later-stays x old h) (sym (later-stays y old l)))
-        (λ g. one-swap x y old h (ltb-false (time y) (time old) g)))
+      by-test (ltb (time y) (time old))
+      (λ u. let l : time y < time old = ltb-true (time y) (time old) u in rw (later-stays y old l, later-stays x old h) (sym (later-stays y old l)))
+      (λ g. one-swap x y old h (ltb-false (time y) (time old) g)))
       (λ f. let h : time old ≤ time x = ltb-false (time x) (time old) f in
-        by-test (ltb (time y) (time old))
-        (λ u. sym (one-swap y x old (ltb-true (time y) (time old) u) h))
-        (λ g. rw (later-replaces y old (ltb-false (time y) (time old) g), later-replaces x old h) (both-swap x y agree)))
+      by-test (ltb (time y) (time old))
+      (λ u. sym (one-swap y x old (ltb-true (time y) (time old) u) h))
+      (λ g. rw (later-replaces y old (ltb-false (time y) (time old) g), later-replaces x old h) (both-swap x y agree)))
 
   -- "the same date" means the same half: then they come in in either order
   pub later-swap : (x y old : Option A) → ((u v : A) → x ≡ some u → y ≡ some v → time u ≡ time v → u ≡ v)
@@ -151,7 +151,7 @@ brought-stands date (some x) d e s l q = λ i.
 updated-by : (date : ℕ) (brought : Option Direct) (a : List ℕ) (seen : Option ℕ) (direct : Option Direct) (gossip : Option Gossip)
     → Stamped date brought → GoodHalf (Seen seen) direct
     → updated date brought (record { address = a; lastSeen = seen; direct = direct; gossip = gossip })
-      ≡ updatedParts date brought (record { address = a; lastSeen = seen; direct = direct; gossip = gossip })
+    ≡ updatedParts date brought (record { address = a; lastSeen = seen; direct = direct; gossip = gossip })
 unfolding updatedParts updated younger later withField seenBy withDirect
 updated-by date none a seen none gossip s h = refl
 updated-by date (some x) a seen none gossip s h = refl
@@ -159,8 +159,8 @@ updated-by date brought a seen (some d) gossip s h =
     let e : Entry = record { address = a; lastSeen = seen; direct = some d; gossip = gossip } in
     by-test (ltb date (d .timestamp))
     (λ t. let l : date < d .timestamp = ltb-true date (d .timestamp) t in
-      updated-stays date brought e t
-      ∙ (λ i. record { address = a; lastSeen = sym (raised-not seen d date h l) i; direct = sym (brought-stays date brought d s l) i; gossip = gossip }))
+    updated-stays date brought e t
+    ∙ (λ i. record { address = a; lastSeen = sym (raised-not seen d date h l) i; direct = sym (brought-stays date brought d s l) i; gossip = gossip }))
     (λ f. updated-replaces date brought e f ∙ brought-stands date brought d e s (ltb-false date (d .timestamp) f) refl)
 
 pub updated-parts : (date : ℕ) (brought : Option Direct) (e : Entry) → Stamped date brought → Timely e → updated date brought e ≡ updatedParts date brought e
@@ -194,7 +194,7 @@ heardParts date key e =
 
 heard-by : (date : ℕ) (key a : List ℕ) (seen : Option ℕ) (direct : Option Direct) (gossip : Option Gossip)
     → heard date key (record { address = a; lastSeen = seen; direct = direct; gossip = gossip })
-      ≡ heardParts date key (record { address = a; lastSeen = seen; direct = direct; gossip = gossip })
+    ≡ heardParts date key (record { address = a; lastSeen = seen; direct = direct; gossip = gossip })
 unfolding heardParts heard youngerGossip later withGossip
 heard-by date key a seen direct none = refl
 heard-by date key a seen direct (some g) = by-test (ltb date (g .timestamp)) (λ t. rw (heard, later, t)) (λ f. rw (heard, later, f))
@@ -214,6 +214,7 @@ updated-swap d₁ d₂ b₁ b₂ e s₁ s₂ h agree =
   where
     twice : (d₁ d₂ : ℕ) (b₁ b₂ : Option Direct) → Stamped d₁ b₁ → Stamped d₂ b₂ → updated d₂ b₂ (updated d₁ b₁ e) ≡ updatedParts d₂ b₂ (updatedParts d₁ b₁ e)
     twice d₁ d₂ b₁ b₂ s₁ s₂ = updated-parts d₂ b₂ (updated d₁ b₁ e) s₂ (timely-updated d₁ b₁ e s₁ h) ∙ ap (updatedParts d₂ b₂) (updated-parts d₁ b₁ e s₁ h)
+
     seen : some (max (max (orElse 0 (e .lastSeen)) d₁) d₂) ≡ some (max (max (orElse 0 (e .lastSeen)) d₂) d₁)
     seen = ap some (omega arith)
 
@@ -255,8 +256,8 @@ unfolding heardParts withField seenBy withDirect
 apart-swap d₁ d₂ b k e =
     rw (heard-parts d₂ k e, heard-parts d₂ k (updated d₁ b e))
     (by-test (younger d₁ (e .direct))
-      (λ t. rw (updated-stays d₁ b e t) (sym (updated-stays d₁ b (heardParts d₂ k e) t)))
-      (λ f. rw (updated-replaces d₁ b e f) (with-field b ∙ sym (updated-replaces d₁ b (heardParts d₂ k e) f))))
+    (λ t. rw (updated-stays d₁ b e t) (sym (updated-stays d₁ b (heardParts d₂ k e) t)))
+    (λ f. rw (updated-replaces d₁ b e f) (with-field b ∙ sym (updated-replaces d₁ b (heardParts d₂ k e) f))))
   where
     with-field : (b : Option Direct) → heardParts d₂ k (withField b (seenBy d₁ e)) ≡ withField b (seenBy d₁ (heardParts d₂ k e))
     with-field none = refl
