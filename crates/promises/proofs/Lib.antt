@@ -6,3 +6,5 @@ pub mod Halves
 pub mod Permuting
 pub mod EntryOrder
 pub mod FetchOrder
+pub mod EachPremise
+pub mod Unique
