@@ -3,11 +3,11 @@
 --     gossip-differs    so does the last of two gossip keys
 use Prim.Native.Nat.{ℕ}
 use mathlib.Core.Path.{_≡_, refl}
-use mathlib.Core.Bool.{Bool, true, false}
+use mathlib.Core.Bool.{false}
 use mathlib.Core.List.{List, [], _∷_}
-use mathlib.Core.Option.{Option, some, none}
+use mathlib.Core.Option.{some, none}
 use Rattle.octets.specs.Octets.{ascii, sameOctets}
-use Rattle.slots.specs.Entry.{Entry, newcomer, seenBy, withDirect, withGossip}
+use Rattle.slots.specs.Entry.{newcomer, seenBy, withDirect, withGossip}
 use Rattle.advice.specs.Advice.{directOf, gossipOf, targetBy, targetOf}
 use Rattle.update.specs.Update.{younger, withField, updated, youngerGossip, heard}
 use Rattle.update.specs.Message.{Message, entryPut, entryHeard, entryAfter}

@@ -2,6 +2,7 @@ pub mod Folded
 pub mod Among
 pub mod RoundTrip
 pub mod Worked
+pub mod Later
 pub mod Halves
 pub mod Permuting
 pub mod EntryOrder
