@@ -1,12 +1,15 @@
 -- A message applied whole: the table stays sound, and the entry of every address is what the message makes of it.
+--     gossip-canonical                     the addresses of good gossip are canonical
+--     heard-all-append                     gossip behind gossip
 --     heard-all-sound, heard-all-octets    the gossip of a message
 --     heard-all-entry                      and what it makes of an entry, where there is room
+--     sender-sound, sender-octets          the sender's part
 --     applied-sound, applied-octets, applied-entry    the whole message
 -- Assumes nothing.
 use Prim.Native.Nat.{ℕ, _≤_}
 use mathlib.Core.Path.{_≡_, refl, _∙_}
 use mathlib.Core.Bool.{true}
-use mathlib.Core.List.{List, [], _∷_}
+use mathlib.Core.List.{List, [], _∷_, _++_}
 use borrow.Author.Tests.{leb-true}
 use lib.ListN.{length}
 use Rattle.octets.specs.Octets.{AllOctets}
@@ -25,6 +28,11 @@ pub gossip-canonical : (gs : List Gossiped) → GoodGossipeds gs → every isCan
 unfolding GoodGossipeds gossipAddresses every
 gossip-canonical [] h = refl
 gossip-canonical (g ∷ gs) h = rw (h .0 .canonical) (gossip-canonical gs (h .1))
+
+pub heard-all-append : (date : ℕ) (x y : List Gossiped) (t : List ℕ) → heardAll date (x ++ y) t ≡ heardAll date y (heardAll date x t)
+unfolding heardAll
+heard-all-append date [] y t = refl
+heard-all-append date (g ∷ x) y t = heard-all-append date x y (put t (g .address) (heard date (g .key)))
 
 module _ (date : ℕ) (d : date ≤ timeLimit) where
   -- one accepted field

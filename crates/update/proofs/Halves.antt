@@ -3,9 +3,10 @@
 --     updated-gossip                  the sender's part leaves the gossip half
 --     heard-seen, heard-direct        gossip fills neither last seen nor the direct half
 --     equal-replaces, equal-heard     "An equal date replaces."
+--     heard-again                     "What a message brings an address by gossip is its last accepted field for it."
 -- Assumes nothing.
 use Prim.Native.Nat.{ℕ}
-use mathlib.Core.Path.{_≡_, refl, ap, _∙_}
+use mathlib.Core.Path.{_≡_, refl, sym, ap, _∙_}
 use mathlib.Core.Bool.{false}
 use mathlib.Core.Option.{Option, some, none}
 use mathlib.Core.List.{List}
@@ -51,3 +52,19 @@ equal-replaces d = le-ltb (d .timestamp) (d .timestamp) (omega arith)
 pub equal-heard : (g : Gossip) → youngerGossip (g .timestamp) (some g) ≡ false
 unfolding youngerGossip
 equal-heard g = le-ltb (g .timestamp) (g .timestamp) (omega arith)
+
+-- gossip over gossip of the same date
+over-gossip : (date : ℕ) (k l : List ℕ) (e : Entry)
+    → (youngerGossip date (withGossip (record { timestamp = date; key = k }) e .gossip) ≡ false)
+    × (withGossip (record { timestamp = date; key = l }) (withGossip (record { timestamp = date; key = k }) e) ≡ withGossip (record { timestamp = date; key = l }) e)
+unfolding withGossip
+over-gossip date k l e = (equal-heard (record { timestamp = date; key = k }), refl)
+
+pub heard-again : (date : ℕ) (k l : List ℕ) (e : Entry) → heard date l (heard date k e) ≡ heard date l e
+heard-again date k l e =
+    by-test (youngerGossip date (e .gossip)) (λ y. rw (heard-older date e k y))
+    (λ y.
+    rw (heard-now date e k y)
+    (heard-now date (withGossip (record { timestamp = date; key = k }) e) l (over-gossip date k l e .0)
+    ∙ over-gossip date k l e .1
+    ∙ sym (heard-now date e l y)))

@@ -1,11 +1,12 @@
 -- What a change that is put leaves: a sound table, the entry of its address changed, every other as it was.
 --     Keeps                          a change that keeps an entry good and its address
 --     keeps-updated, keeps-heard     the two changes of a message
---     put-sound, put-octets          the table stays sound, and its octets octets
---     keyless-sound .. heard-octets  the same for the changes of the three writers
 --     hasPlace                       an entry of its own, or a free slot
+--     begun-entry, begun-other       the entries once that of the address is begun
+--     put-sound, put-octets          the table stays sound, and its octets octets
 --     put-own, put-other             the entry of the address, and any other
 --     put-entry                      both in one
+--     keyless-sound .. heard-octets  sound, and octets, behind each of the three writers
 -- Assumes nothing.
 use Prim.Native.Nat.{ℕ, _<_, _≤_}
 use mathlib.Core.Path.{_≡_, refl, sym, ap, _∙_}

@@ -1,7 +1,10 @@
 -- Refusal 8: a message that has room finds a slot for each of its addresses, one after the other.
+--     stands-present                who has an entry
 --     put-free-own, put-free-new    the free slots after a change was put
 --     put-found                     who has an entry then
---     newcomers-same                the newcomers of two tables that have the same addresses, the known ones counted in
+--     canonical-is                  a canonical address is its own canonical form
+--     newcomer-not, newcomer-one    one address of a message
+--     newcomers-same                the newcomers to two tables, where the known ones make up for what differs
 --     room-first, room-rest         the first address has its place, and the others have room behind it
 -- Assumes nothing.
 use Prim.Native.Nat.{ℕ, _+_, _≤_}

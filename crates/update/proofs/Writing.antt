@@ -1,9 +1,11 @@
 -- What the three writers leave is `put` of the change.
---     put-same                        where the entry is left alone, so is the table
---     within, sound-place, good-place what is known of the slot that was placed
---     good-updated                    a direct half that was brought is good
 --     weighing                        what `has_younger` and `has_younger_gossip` ask
---     setting                         what `set_field` asks
+--     updated-older .. heard-now      `updated` and `heard` by their tests
+--     good-updated                    a direct half that was brought is good under last seen raised to its date
+--     setting                         what `set_field` asks: two writes to one slot
+--     entry-over                      an entry written over itself leaves the table
+--     within, sound-place, good-place what is known of the slot that was placed
+--     written, left-alone             the table with the entry changed, and where the change leaves it
 --     seeing, keying, hearing         what `update_keyless`, `update_with_key` and `hear` ask
 -- Assumes nothing.
 use Prim.Native.Nat.{ℕ, _<_, _≤_}
