@@ -6,7 +6,9 @@ from pathlib import Path
 ROOT = Path(__file__).resolve().parents[1]
 sys.path.insert(0, str(ROOT / "tests" / "differential"))
 
+from against import Cases  # noqa: E402,F401
 from library import Library  # noqa: E402
+from paper.table import Entry, table_of  # noqa: E402
 from probe import Probe  # noqa: E402
 
 probe = Probe()
@@ -44,3 +46,10 @@ show("read back", (address, mutual, buffer[:key]), "crates/keyfield/specs/Field.
 table = bytes(2 * 4392)
 show("a new table of two slots", library.check(table), "crates/table/specs/Table.antt: checked")
 show("the same with an octet in its second slot", library.check(table[:-1] + b"x"), "the number, and the slot's index")
+table = table_of([Entry(b"bob@b.example", 1000, 1000, b"direct key", True), Entry(b"carol@c.example", None, None, None, False, 900, b"gossip key")])
+advice = ("refused", "disable", "discourage", "available", "encrypt")
+for recipients in (b"Bob <Bob@B.example>", b"bob@b.example, carol@c.example", b"team: bob@b.example, dave@d.example;"):
+    number, index, kind = library.recommend(table, recipients, True, False)
+    show(f"to {recipients.decode()}", advice[kind], "crates/advice/specs/Advice.antt: overall")
+start, length = library.target_key(table, b"bob@b.example, carol@c.example", True, False, 1)
+show("the second recipient's key, a part of the table", table[start : start + length], "crates/advice/specs/Places.antt: targetAt")

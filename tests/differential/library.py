@@ -8,6 +8,14 @@ class Answer(ctypes.Structure):
     _fields_ = [("number", ctypes.c_uint32), ("index", ctypes.c_uint32)]
 
 
+class Advice(ctypes.Structure):
+    _fields_ = [("number", ctypes.c_uint32), ("index", ctypes.c_uint32), ("advice", ctypes.c_uint32)]
+
+
+class Part(ctypes.Structure):
+    _fields_ = [("start", ctypes.c_uint64), ("length", ctypes.c_uint64)]
+
+
 class Written(ctypes.Structure):
     _fields_ = [("number", ctypes.c_uint64), ("length", ctypes.c_uint64)]
 
@@ -35,3 +43,16 @@ class Library(Bound):
         """As above."""
         words = [address, len(address), key, len(key)]
         return self._write("vienghulac_write_gossip", READ + READ, words, out)
+
+    def recommend(self, table: bytes, recipients: bytes, mutual: bool, reply: bool) -> tuple[int, int, int]:
+        """The number, the index, and the advice."""
+        kinds = READ + READ + [ctypes.c_bool, ctypes.c_bool]
+        r = self._call("vienghulac_recommend", Advice, kinds, table, len(table), recipients, len(recipients), mutual, reply)
+        return r.number, r.index, r.advice
+
+    def target_key(self, table: bytes, recipients: bytes, mutual: bool, reply: bool, place: int) -> tuple[int, int]:
+        """Start and length of the part of the table."""
+        kinds = READ + READ + [ctypes.c_bool, ctypes.c_bool, ctypes.c_uint64]
+        words = [table, len(table), recipients, len(recipients), mutual, reply, place]
+        r = self._call("vienghulac_target_key", Part, kinds, *words)
+        return r.start, r.length

@@ -1,7 +1,7 @@
 -- Recommendations depend on what the tables hold of addresses only, and not on the slots that it stands in.
 --     Alike                       two tables hold the same of every address
 --     advice-alike, target-alike  so they give the same advice for an address, and the same key
---     advised-alike, overall-alike    and the same advice for a list
+--     advised-alike .. targets-alike     and the same advice and keys for a list
 -- Assumes nothing.
 use Prim.Native.Nat.{ℕ}
 use mathlib.Core.Path.{_≡_, refl, ap}
@@ -9,7 +9,7 @@ use mathlib.Core.Bool.{Bool}
 use mathlib.Core.List.{List, [], _∷_}
 use Rattle.address.specs.Address.{canonical}
 use Rattle.table.specs.Entries.{entryIn}
-use Rattle.advice.specs.Advice.{adviceFor, adviceIn, targetOf, targetIn, advised, overall}
+use Rattle.advice.specs.Advice.{adviceFor, adviceIn, targetOf, targetIn, advised, targets, overall}
 
 abbrev pub Alike : List ℕ → List ℕ → Type 0
 Alike t u = (a : List ℕ) → entryIn t a ≡ entryIn u a
@@ -30,3 +30,8 @@ module _ (t u : List ℕ) (h : Alike t u) where
 
   pub overall-alike : (m reply : Bool) (list : List (List ℕ)) → overall (advised t m reply list) ≡ overall (advised u m reply list)
   overall-alike m reply list = ap overall (advised-alike m reply list)
+
+  pub targets-alike : (list : List (List ℕ)) → targets t list ≡ targets u list
+  unfolding targets
+  targets-alike [] = refl
+  targets-alike (a ∷ rest) = cc (target-alike a, targets-alike rest)

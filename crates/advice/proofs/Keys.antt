@@ -2,7 +2,7 @@
 --     key-octets, key-within          the key to encrypt to of a slot
 --     target-octets, target-within    of an address
 --     place-octets, place-within      of a place in a list
---     place-key, place-past           which recipient's key that is; none past the list
+--     place-past                      an empty part past the list
 -- Assumes nothing.
 use Prim.Native.Nat.{ℕ, zero, suc, _+_, _*_, _-_, _<_, _≤_, zero-le}
 use mathlib.Core.Path.{_≡_, refl}
@@ -24,7 +24,7 @@ use Rattle.table.specs.declared.Found.the-variants.{At, Nothing}
 use Rattle.table.proofs.Slots.{room}
 use Rattle.table.proofs.Finding.{found-at}
 use Rattle.table.proofs.Entries.{entry-at, entry-nothing, entry-sound}
-use Rattle.advice.specs.Advice.{directOf, gossipOf, targetBy, targetOf, targetIn}
+use Rattle.advice.specs.Advice.{directOf, gossipOf, targetBy, targetOf, targetIn, targets}
 use Rattle.advice.specs.Places.{noPart, keyPart, targetPart, targetAt, octetsAt}
 use Rattle.advice.specs.declared.Part.{Part}
 use Rattle.advice.proofs.Rating.{direct-there, direct-absent, gossip-there, gossip-absent}
@@ -103,11 +103,11 @@ module _ (t : List ℕ) (s : checked t ≡ Checked) where
   place-within (a ∷ rest) zero = target-within a
   place-within (a ∷ rest) (suc place) = place-within rest place
 
-  pub place-key : (list : List (List ℕ)) (place : ℕ) → place < length list → octetsAt t (targetAt t list place) ≡ targetIn t (getD list place [])
-  unfolding targetAt
-  place-key [] place l = absurd (omega arith)
-  place-key (a ∷ rest) zero l = target-octets a
-  place-key (a ∷ rest) (suc place) l = place-key rest place (omega arith)
+  pub place-octets : (list : List (List ℕ)) (place : ℕ) → octetsAt t (targetAt t list place) ≡ getD (targets t list) place []
+  unfolding targetAt targets octetsAt
+  place-octets [] place = refl
+  place-octets (a ∷ rest) zero = target-octets a
+  place-octets (a ∷ rest) (suc place) = place-octets rest place
 
   pub place-past : (list : List (List ℕ)) (place : ℕ) → length list ≤ place → targetAt t list place ≡ noPart
   unfolding targetAt

@@ -6,7 +6,7 @@
 --     targetOf                 the key to encrypt to
 --     overall                  the advice for a whole list
 --     adviceIn, targetIn       the advice and the key for an address, by what a table holds of it
---     advised                  the advice for each address of a list
+--     advised, targets         the advice and the key for each address of a list
 --     given, isGiven           the addresses of a list, and whether it is readable
 use Prim.Native.Nat.{ℕ, _+_}
 use mathlib.Core.Bool.{Bool, true, false, _&&_, _||_}
@@ -114,6 +114,9 @@ targetIn t a = targetOf (entryIn t (canonical a))
 -- the same for each address of a list
 unfoldable pub advised : List ℕ → Bool → Bool → List (List ℕ) → List Advice
 advised t isMutual reply list = map (adviceIn t isMutual reply) list
+
+unfoldable pub targets : List ℕ → List (List ℕ) → List (List ℕ)
+targets t list = map (targetIn t) list
 
 -- the addresses of a list, where it is readable
 unfoldable pub given : Option (List (List ℕ)) → List (List ℕ)

@@ -1,3 +1,7 @@
+pub mod Refusals
 pub mod Writing
 pub mod Exactly
 pub mod Tables
+pub mod Recommending
+pub mod ExactlyRecommending
+pub mod SameEntries

@@ -8,6 +8,12 @@ ghost use Rattle.autocrypt.specs.Refusals.{numberOf, indexOf};
 ghost use Rattle.table.specs.Table.{checked};
 ghost use Rattle.autocrypt.specs.Checking.{checkedAs};
 ghost use Rattle.autocrypt.specs.Writing.{autocryptField, gossipField, writtenOf, leftByWriting};
+ghost use Rattle.list.specs.List.{addresses};
+ghost use Rattle.advice.specs.Places.{octetsAt};
+ghost use Rattle.autocrypt.specs.Recommending.{recipientList, recommendedOf, targetPartOf, targetKeyOf};
+pub use advice::Advice;
+pub use advice::Part;
+use list::Counted;
 use slots::Slot;
 
 // Why a call refuses, named for the rows of "Refusal numbers", in their order.
@@ -124,4 +130,78 @@ pub fn write_gossip(address: &[u8], key: &[u8], out: &mut [u8]) -> Written
     ensures { λ _. ⌜ now (out .exit) ≡ leftByWriting (now (address .entry)) (now (key .entry)) (gossipField (now (address .entry)) (now (key .entry))) (now (out .entry)) ⌝ }
 {
     write(b"Autocrypt-Gossip", address, false, key, out)
+}
+
+// What is advised for all recipients of a mail; or recommending is refused.
+pub enum Recommended {
+    Done(Advice),
+    Refused(Refusal),
+}
+
+// "1 to 100 addresses"
+const MOST_RECIPIENTS: usize = 100;
+
+// Is the list readable, and are there 1 to 100 addresses in it?
+fn is_recipient_list(list: &[u8]) -> bool
+    ensures { λ r. ⌜ r ≡ recipientList (addresses (now (list .entry))) ⌝ }
+{
+    match list::count(list) {
+        Counted::Count(n) => (1 <= n) & (n <= MOST_RECIPIENTS),
+        Counted::Unreadable => false,
+    }
+}
+
+// What is advised for a mail to these recipients: `mutual` is the sender's own preference, `reply` says that the mail
+// replies to an encrypted one.
+pub fn recommend(table: &[u8], recipients: &[u8], mutual: bool, reply: bool) -> Recommended
+    ensures { λ r. ⌜ r ≡ recommendedOf (now (table .entry)) (now (recipients .entry)) «mutual» reply ⌝ }
+{
+    match check(table) {
+        Checked::Sound => {
+            if !is_recipient_list(recipients) {
+                return Recommended::Refused(Refusal::Recipients);
+            }
+            Recommended::Done(advice::overall_advice(table, recipients, mutual, reply))
+        }
+        Checked::Refused(refusal) => Recommended::Refused(refusal),
+    }
+}
+
+// Where the key of the recipient at a place of the list lies in the table, the first being at 0. The arguments are those of
+// `recommend`; which key it is depends on neither preference nor reply.
+pub fn target_part(table: &[u8], recipients: &[u8], mutual: bool, reply: bool, place: usize) -> Part
+    ensures { λ r. ⌜ r ≡ targetPartOf (now (table .entry)) (now (recipients .entry)) place ⌝ }
+{
+    match check(table) {
+        Checked::Sound => {
+            if !is_recipient_list(recipients) {
+                return Part {
+                    start: 0,
+                    length: 0,
+                };
+            }
+            advice::target_at(table, recipients, place)
+        }
+        Checked::Refused(_) => Part {
+            start: 0,
+            length: 0,
+        },
+    }
+}
+
+// That key as a part of the lent table.
+pub fn target_key<'a>(
+    table: &'a [u8],
+    recipients: &[u8],
+    mutual: bool,
+    reply: bool,
+    place: usize,
+) -> &'a [u8]
+    ensures { λ r. ⌜ now r ≡ targetKeyOf (now (table .entry)) (now (recipients .entry)) place ⌝ }
+    ensures { λ r. ⌜ now r ≡ octetsAt (now (table .entry)) (targetPartOf (now (table .entry)) (now (recipients .entry)) place) ⌝ }
+{
+    let part = target_part(table, recipients, mutual, reply, place);
+    let start = part.start;
+    let end = start + part.length;
+    &table[start..end]
 }

@@ -5,7 +5,8 @@ ghost use lib.ListN.{length};
 ghost use Rattle.table.specs.Table.{checked};
 ghost use Rattle.autocrypt.specs.Checking.{checkedAs};
 ghost use Rattle.autocrypt.specs.Writing.{autocryptField, gossipField, writtenOf, leftByWriting};
-ghost use Rattle.cabi.specs.Numbers.{inNumbers, checkedInNumbers};
+ghost use Rattle.autocrypt.specs.Recommending.{recommendedOf, targetPartOf};
+ghost use Rattle.cabi.specs.Numbers.{inNumbers, checkedInNumbers, adviceNumber, adviceInNumbers, partInNumbers};
 
 // vienghulac_answer
 #[repr(C)]
@@ -77,4 +78,82 @@ pub extern "C" fn vienghulac_write_gossip(address: &[u8], key: &[u8], out: &mut 
     ensures { λ _. ⌜ now (out .exit) ≡ leftByWriting (now (address .entry)) (now (key .entry)) (gossipField (now (address .entry)) (now (key .entry))) (now (out .entry)) ⌝ }
 {
     in_numbers(autocrypt::write_gossip(address, key, out))
+}
+
+// vienghulac_advice
+#[repr(C)]
+pub struct Advice {
+    pub number: u32,
+    pub index: u32,
+    pub advice: u32,
+}
+
+// vienghulac_part
+#[repr(C)]
+pub struct Part {
+    pub start: u64,
+    pub length: u64,
+}
+
+fn advice_number(advice: autocrypt::Advice) -> u32
+    ensures { λ r. ⌜ r ≡ adviceNumber advice ⌝ }
+{
+    match advice {
+        autocrypt::Advice::Disable => 1,
+        autocrypt::Advice::Discourage => 2,
+        autocrypt::Advice::Available => 3,
+        autocrypt::Advice::Encrypt => 4,
+    }
+}
+
+fn advice_in_numbers(answer: autocrypt::Recommended) -> Advice
+    ensures { λ r. ⌜ r ≡ adviceInNumbers answer ⌝ }
+{
+    match answer {
+        autocrypt::Recommended::Done(advice) => Advice {
+            number: 0,
+            index: 0,
+            advice: advice_number(advice),
+        },
+        autocrypt::Recommended::Refused(r) => Advice {
+            number: autocrypt::number(r),
+            index: autocrypt::index(r),
+            advice: 0,
+        },
+    }
+}
+
+fn part_in_numbers(part: autocrypt::Part) -> Part
+    ensures { λ r. ⌜ r ≡ partInNumbers part ⌝ }
+{
+    Part {
+        start: part.start as u64,
+        length: part.length as u64,
+    }
+}
+
+#[no_mangle]
+pub extern "C" fn vienghulac_recommend(
+    table: &[u8],
+    recipients: &[u8],
+    mutual: bool,
+    reply: bool,
+) -> Advice
+    ensures { λ r. ⌜ r ≡ adviceInNumbers (recommendedOf (now (table .entry)) (now (recipients .entry)) «mutual» reply) ⌝ }
+{
+    advice_in_numbers(autocrypt::recommend(table, recipients, mutual, reply))
+}
+
+#[no_mangle]
+pub extern "C" fn vienghulac_target_key(
+    table: &[u8],
+    recipients: &[u8],
+    mutual: bool,
+    reply: bool,
+    place: u64,
+) -> Part
+    ensures { λ r. ⌜ r ≡ partInNumbers (targetPartOf (now (table .entry)) (now (recipients .entry)) place) ⌝ }
+{
+    let at = place as usize;
+    part_in_numbers(autocrypt::target_part(table, recipients, mutual, reply, at))
 }

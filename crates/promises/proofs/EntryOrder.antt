@@ -15,10 +15,11 @@ use Rattle.octets.proofs.Comparing.{same-true}
 use Rattle.address.proofs.Every.{by-test}
 use Rattle.slots.specs.Entry.{Direct, Entry, orElse, newcomer, GoodHalf}
 use Rattle.update.specs.Update.{updated, heard}
+use Rattle.update.proofs.Halves.{heard-again}
 use Rattle.update.specs.Message.{Gossiped, Message, entryPut, entryHeard, entryAfter}
 use Rattle.promises.specs.Brought.{bringsDirect, lastOf, keyAbout, lastKey, bringsGossip}
 use Rattle.promises.specs.Fetching.{Agree}
-use Rattle.promises.proofs.Halves.{Timely, Stamped, timely-updated, timely-heard, updated-swap, heard-swap, heard-again, apart-swap}
+use Rattle.promises.proofs.Halves.{Timely, Stamped, timely-updated, timely-heard, updated-swap, heard-swap, apart-swap}
 
 -- "Update of the sender": b is its address or not
 unfoldable sentBy : List ℕ → Bool → Message → Option Entry → Option Entry

@@ -6,24 +6,19 @@
 -- Assumes nothing.
 use Prim.Native.Nat.{ℕ}
 use mathlib.Core.Path.{_≡_, refl, sym, ap, _∙_}
-use mathlib.Core.Logic.{⊎-elim}
 use mathlib.Core.Bool.{true}
 use mathlib.Core.List.{List, [], _∷_, List·Memᴰ, List·Memᴰ·head, List·Memᴰ·tail, List·Permᴰ, Permᴰ·symm}
 use mathlib.Core.Option.{Option, some, none}
-use lib.ListN.{length, getD}
 use Rattle.octets.specs.Octets.{AllOctets}
-use Rattle.octets.proofs.Lists.{lt-or-le}
 use Rattle.address.proofs.Every.{and-left, and-right}
 use Rattle.slots.specs.Entry.{Direct, Entry, GoodDirect, GoodHalf, Good}
 use Rattle.table.specs.Table.{checked}
 use Rattle.table.specs.Entries.{entryIn}
 use Rattle.table.specs.declared.Checked.the-variants.{Sound}
 use Rattle.table.proofs.Replaced.{entry-good}
-use Rattle.advice.specs.Places.{targetAt, octetsAt}
-use Rattle.advice.proofs.Alike.{target-alike, overall-alike}
-use Rattle.advice.proofs.Keys.{place-key, place-past}
 use Rattle.update.specs.Message.{Message, entryAfter, GoodBrought, GoodMessage}
 use Rattle.update.proofs.Applying.{applied-sound, applied-octets, applied-entry}
+use Rattle.autocrypt.proofs.SameEntries.{recommended-alike, key-alike}
 use Rattle.promises.specs.Fetching.{after, fetched, fits, allFit, Agreeing, SayTheSame}
 use Rattle.promises.proofs.Halves.{Seen, Timely, Stamped}
 use Rattle.promises.proofs.Permuting.{permuted-stands, folded, Steps, folded-permuted}
@@ -56,17 +51,13 @@ entry-known t b o s = go (entryIn t b) refl
     go (some e) q = good-timely e (entry-good t b s o e q .0)
 
 -- recommending asks for entries only
-module _ (t u : List ℕ) (s : checked t ≡ Sound) (r : checked u ≡ Sound) (alike : (a : List ℕ) → entryIn t a ≡ entryIn u a) where
-  same-target : (list : List (List ℕ)) (place : ℕ) → octetsAt t (targetAt t list place) ≡ octetsAt u (targetAt u list place)
-  unfolding octetsAt
-  same-target list place =
-      ⊎-elim
-      (λ l. place-key t s list place l ∙ target-alike t u alike (getD list place []) ∙ sym (place-key u r list place l))
-      (λ l. rw (place-past t s list place l, place-past u r list place l))
-      (lt-or-le place (length list))
-
-  pub say-the-same : SayTheSame t u
-  say-the-same = record { entry = alike; advice = overall-alike t u alike; target = same-target }
+pub say-the-same : (t u : List ℕ) → checked t ≡ Sound → checked u ≡ Sound → ((a : List ℕ) → entryIn t a ≡ entryIn u a) → SayTheSame t u
+say-the-same t u s r alike =
+    record {
+      entry = alike;
+      recommendation = λ recipients. recommended-alike t u s r alike recipients;
+      target-key = λ recipients. key-alike t u s r alike recipients;
+    }
 
 -- what a call does to the entry of an address
 unfoldable pub step : List ℕ → Option Message → Option Entry → Option Entry

@@ -4,7 +4,6 @@
 --     updated-parts, heard-parts              the sender's update and gossip, by the parts
 --     timely-updated, timely-heard            both keep last seen above the Autocrypt timestamp
 --     updated-swap, heard-swap, apart-swap    two changes in either order
---     heard-again                             of two gossip keys at one date the second stands
 -- Assumes nothing.
 use Prim.Native.Nat.{ℕ, _≤_, _<_, max}
 use mathlib.Core.Path.{_≡_, refl, sym, ap, _∙_}
@@ -17,7 +16,7 @@ use lib.Dec.{ltb}
 use Rattle.address.proofs.Every.{by-test}
 use Rattle.slots.specs.Entry.{Direct, Gossip, Entry, orElse, isPresent, GoodHalf, seenBy, withDirect, withGossip}
 use Rattle.update.specs.Update.{younger, withField, updated, youngerGossip, heard}
-use Rattle.promises.proofs.Later.{later, later-stays, later-replaces, later-swap, later-again, later-holds}
+use Rattle.promises.proofs.Later.{later, later-stays, later-replaces, later-swap, later-holds}
 
 -- "a direct key implies last seen present and not below the Autocrypt timestamp"
 pub record Seen (seen : Option ℕ) (d : Direct) : Type 0 where
@@ -169,18 +168,6 @@ heard-swap d₁ d₂ k₁ k₂ e agree =
         let pv : record { timestamp = d₁; key = k₁ } ≡ v = cc in
         let date : d₂ ≡ d₁ = ap gossipTime pu ∙ t ∙ sym (ap gossipTime pv) in
         sym pu ∙ (λ i. record { timestamp = date i; key = agree date i }) ∙ pv
-
--- "What a message brings an address by gossip is its last accepted field for it."
-pub heard-again : (date : ℕ) (k₁ k₂ : List ℕ) (e : Entry) → heard date k₂ (heard date k₁ e) ≡ heard date k₂ e
-unfolding heardParts
-heard-again date k₁ k₂ e =
-    rw (heard-parts date k₁ e, heard-parts date k₂ e, heard-parts date k₂ (heardParts date k₁ e))
-    (λ i. record {
-      address = e .address;
-      lastSeen = e .lastSeen;
-      direct = e .direct;
-      gossip = later-again gossipTime (record { timestamp = date; key = k₁ }) (record { timestamp = date; key = k₂ }) (e .gossip) refl i;
-    })
 
 -- the sender's update leaves gossip alone, and gossip leaves the rest alone
 pub apart-swap : (d₁ d₂ : ℕ) (b : Option Direct) (k : List ℕ) (e : Entry) → heard d₂ k (updated d₁ b e) ≡ updated d₁ b (heard d₂ k e)

@@ -2,7 +2,6 @@
 --     later                          the half that stands
 --     later-stays, later-replaces    the old one stays, or is replaced
 --     later-swap                     two come in in either order
---     later-again                    of two with one date the second stands
 --     later-holds                    what holds of both holds of the one that stands
 -- Assumes nothing.
 use Prim.Native.Nat.{ℕ, _≤_, _<_}
@@ -65,15 +64,6 @@ module _ {A : Type 0} (time : A → ℕ) where
   later-swap (some x) none old agree = refl
   later-swap (some x) (some y) none agree = both-swap x y (agree x y refl refl)
   later-swap (some x) (some y) (some old) agree = three-swap x y old (agree x y refl refl)
-
-  -- of two with one date the second stands
-  pub later-again : (x y : A) (old : Option A) → time x ≡ time y → later time (some y) (later time (some x) old) ≡ later time (some y) old
-  unfolding later
-  later-again x y none q = later-replaces y x (omega arith)
-  later-again x y (some old) q =
-      by-test (ltb (time x) (time old))
-      (λ t. rw (later-stays x old (ltb-true (time x) (time old) t)))
-      (λ f. let l : time old ≤ time x = ltb-false (time x) (time old) f in rw (later-replaces x old l) (later-replaces y x (omega arith) ∙ sym (later-replaces y old (omega arith))))
 
   -- what holds of both holds of the later one
   pub later-holds : (P : A → Type 0) (x old : Option A) → GoodHalf P x → GoodHalf P old → GoodHalf P (later time x old)

@@ -2,7 +2,7 @@
 --     after, fetched    the table after one message, and after all of a list
 --     fits, allFit      none of them is refused for room (8)
 --     Agreeing          "any two messages that bring one address .."
---     SayTheSame        what two tables have in common that cannot be told apart by what they hold of addresses
+--     SayTheSame        two tables that hold the same of every address, and answer the same
 -- What a call brings is a message, or none where the call is refused by 3 to 7: no table is asked for that.
 use Prim.Native.Nat.{ℕ}
 use mathlib.Core.Path.{_≡_}
@@ -11,9 +11,8 @@ use mathlib.Core.List.{List, [], _∷_, List·Memᴰ}
 use mathlib.Core.Option.{Option, some, none}
 use Rattle.slots.specs.Entry.{Direct}
 use Rattle.table.specs.Entries.{entryIn}
-use Rattle.advice.specs.Advice.{overall, advised}
-use Rattle.advice.specs.Places.{targetAt, octetsAt}
 use Rattle.update.specs.Message.{Message, hasRoom, applied}
+use Rattle.autocrypt.specs.Recommending.{recommendedOf, targetKeyOf}
 use Rattle.promises.specs.Brought.{bringsDirect, bringsGossip}
 
 -- "A message is applied whole or refused whole."
@@ -48,5 +47,5 @@ Agreeing list = (m n : Message) → List·Memᴰ (some m) list → List·Memᴰ 
 -- "every address ends with the same entry, and every recipient list gets the same recommendation and each place the same target key octets"
 pub record SayTheSame (t u : List ℕ) : Type 0 where
   pub entry : (a : List ℕ) → entryIn t a ≡ entryIn u a
-  pub advice : (isMutual reply : Bool) (list : List (List ℕ)) → overall (advised t isMutual reply list) ≡ overall (advised u isMutual reply list)
-  pub target : (list : List (List ℕ)) (place : ℕ) → octetsAt t (targetAt t list place) ≡ octetsAt u (targetAt u list place)
+  pub recommendation : (recipients : List ℕ) (isMutual reply : Bool) → recommendedOf t recipients isMutual reply ≡ recommendedOf u recipients isMutual reply
+  pub target-key : (recipients : List ℕ) (place : ℕ) → targetKeyOf t recipients place ≡ targetKeyOf u recipients place

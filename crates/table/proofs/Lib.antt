@@ -6,3 +6,4 @@ pub mod Keeping
 pub mod Replaced
 mod Worked
 pub mod Entries
+pub mod Broken

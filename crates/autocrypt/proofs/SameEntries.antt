@@ -1,0 +1,27 @@
+-- Two sound tables that hold the same of every address give the same answers and the same keys, whichever slots these stand in.
+--     recommended-alike    what the first call answers
+--     key-alike            the key that the second hands back
+-- Assumes nothing.
+use Prim.Native.Nat.{ℕ}
+use mathlib.Core.Path.{_≡_}
+use mathlib.Core.Bool.{Bool}
+use mathlib.Core.List.{List}
+use Rattle.list.specs.List.{addresses}
+use Rattle.table.specs.Table.{checked}
+use Rattle.table.specs.declared.Checked.the-variants.{Sound}
+use Rattle.advice.specs.Advice.{given}
+use Rattle.advice.proofs.Alike.{Alike, overall-alike, targets-alike}
+use Rattle.autocrypt.specs.Recommending.{refusedRecommending, recommendedOf, targetKeyOf}
+
+module _ (t u : List ℕ) (e : checked t ≡ Sound) (f : checked u ≡ Sound) (h : Alike t u) (s : List ℕ) where
+  refused-alike : refusedRecommending t s ≡ refusedRecommending u s
+  unfolding refusedRecommending
+  refused-alike = rw (e, f)
+
+  pub recommended-alike : (m reply : Bool) → recommendedOf t s m reply ≡ recommendedOf u s m reply
+  unfolding recommendedOf
+  recommended-alike m reply = rw (refused-alike, overall-alike t u h m reply (given (addresses s)))
+
+  pub key-alike : (place : ℕ) → targetKeyOf t s place ≡ targetKeyOf u s place
+  unfolding targetKeyOf
+  key-alike place = rw (refused-alike, targets-alike t u h (given (addresses s)))

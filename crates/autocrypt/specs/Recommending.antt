@@ -1,0 +1,71 @@
+-- "Recommending", of paper 01, with its refusals: what the first call answers, and the key that the second hands back. What is advised and
+-- which key is a recipient's target key is said by the crate `advice`.
+--     mostRecipients, recipientList    "1 to 100 addresses"
+--     refusedRecommending              the refusal, or none
+--     recommendedOf                    the answer
+--     targetPartOf, targetKeyOf        the part of the table that is handed back, and the key that it is
+--     numberRecommended                the number of an answer
+use Prim.Native.Nat.{ℕ}
+use mathlib.Core.Bool.{Bool, true, false}
+use mathlib.Core.List.{List, []}
+use mathlib.Core.Option.{Option, some, none}
+use lib.ListN.{length, getD}
+use Rattle.address.specs.Address.{oneTo}
+use Rattle.list.specs.List.{addresses}
+use Rattle.table.specs.Table.{checked}
+use Rattle.advice.specs.Advice.{overall, advised, targets, given}
+use Rattle.advice.specs.Places.{noPart, targetAt}
+use Rattle.advice.specs.declared.Advice.{Advice}
+use Rattle.advice.specs.declared.Part.{Part}
+use Rattle.autocrypt.specs.Refusals.{numberOf}
+use Rattle.autocrypt.specs.Checking.{checkedAs}
+use Rattle.autocrypt.specs.declared.Refusal.{Refusal}
+use Rattle.autocrypt.specs.declared.Refusal.the-variants.{Recipients}
+use Rattle.autocrypt.specs.declared.Checked.{Checked}
+use Rattle.autocrypt.specs.declared.Checked.the-variants.{Sound, Refused as RefusedTable}
+use Rattle.autocrypt.specs.declared.Recommended.{Recommended}
+use Rattle.autocrypt.specs.declared.Recommended.the-variants.{Done, Refused}
+
+-- "1 to 100 addresses"
+abbrev pub mostRecipients : ℕ
+mostRecipients = 100
+
+-- "recipient list unreadable, or not 1 to 100 addresses", denied; equal addresses count as often as they stand
+unfoldable pub recipientList : Option (List (List ℕ)) → Bool
+recipientList none = false
+recipientList (some list) = oneTo mostRecipients (length list)
+
+-- "recommending 1, 2, 10", in this order
+unfoldable pub refusedBy : Checked → Option (List (List ℕ)) → Option Refusal
+refusedBy (RefusedTable r) list = some r
+refusedBy Sound list = elim (recipientList list) [ false ↦ some Recipients | true ↦ none ]
+
+unfoldable pub refusedRecommending : List ℕ → List ℕ → Option Refusal
+refusedRecommending table recipients = refusedBy (checkedAs (checked table)) (addresses recipients)
+
+unfoldable pub recommendedBy : Option Refusal → Advice → Recommended
+recommendedBy (some r) advice = Refused r
+recommendedBy none advice = Done advice
+
+-- what the first call answers
+unfoldable pub recommendedOf : List ℕ → List ℕ → Bool → Bool → Recommended
+recommendedOf table recipients isMutual reply =
+    recommendedBy (refusedRecommending table recipients) (overall (advised table isMutual reply (given (addresses recipients))))
+
+-- "A second call .. hands back that recipient's target key as a part of the lent table, an empty part without one, past the list or where the
+-- first call refuses."
+unfoldable pub unlessRefused : {A : Type 0} → Option Refusal → A → A → A
+unlessRefused (some r) empty x = empty
+unlessRefused none empty x = x
+
+unfoldable pub targetPartOf : List ℕ → List ℕ → ℕ → Part
+targetPartOf table recipients place = unlessRefused (refusedRecommending table recipients) noPart (targetAt table (given (addresses recipients)) place)
+
+-- the key that this part is: that of the entry
+unfoldable pub targetKeyOf : List ℕ → List ℕ → ℕ → List ℕ
+targetKeyOf table recipients place = unlessRefused (refusedRecommending table recipients) [] (getD (targets table (given (addresses recipients))) place [])
+
+-- the number of an answer
+abbrev pub numberRecommended : Recommended → ℕ
+numberRecommended (Done advice) = 0
+numberRecommended (Refused r) = numberOf r
