@@ -13,13 +13,13 @@ use mathlib.Core.List.{List, [], _∷_}
 use mathlib.Core.Option.{Option, some, none}
 use borrow.Author.Needs.{needs}
 use Rattle.address.proofs.Every.{by-test}
-use Rattle.list.specs.List.{inFront, addresses}
+use Rattle.list.specs.List.{inFront, addresses, given, isGiven}
 use Rattle.list.specs.Answers.{between, beginning, left, Hands}
 use Rattle.list.specs.declared.Cursor.{Cursor}
 use Rattle.list.specs.declared.Handed.{Handed}
 use Rattle.list.specs.declared.Handed.the-variants.{Address, End, Unreadable}
 use Rattle.list.proofs.Handing.{left-beginning, hand-gives, hand-plain, hand-from, hand-upto, hand-less, hand-end, hand-unread}
-use Rattle.advice.specs.Advice.{anyDisable, allEncrypt, anyDiscourage, overall, adviceIn, advised, given, isGiven}
+use Rattle.advice.specs.Advice.{anyDisable, allEncrypt, anyDiscourage, overall, adviceIn, advised}
 use Rattle.advice.specs.Places.{lowerOf}
 use Rattle.advice.specs.declared.Advice.{Advice}
 use Rattle.advice.specs.declared.Advice.the-variants.{Disable, Discourage, Available, Encrypt}

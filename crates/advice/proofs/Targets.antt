@@ -15,7 +15,7 @@ use borrow.Author.Needs.{needs}
 use Rattle.address.specs.Address.{canonical}
 use Rattle.slots.specs.declared.Slot.{Slot}
 use Rattle.slots.specs.Slot.{numbersOf}
-use Rattle.list.specs.List.{addresses}
+use Rattle.list.specs.List.{addresses, given, isGiven}
 use Rattle.list.specs.Answers.{between, beginning, left, Hands}
 use Rattle.list.specs.declared.Cursor.{Cursor}
 use Rattle.list.specs.declared.Handed.{Handed}
@@ -24,7 +24,6 @@ use Rattle.list.proofs.Handing.{left-beginning, hand-plain, hand-from, hand-upt
 use Rattle.table.specs.Table.{slotAt, found}
 use Rattle.table.specs.declared.Found.{Found}
 use Rattle.table.specs.declared.Found.the-variants.{At, Nothing}
-use Rattle.advice.specs.Advice.{given, isGiven}
 use Rattle.advice.specs.Places.{noPart, keyPart, partIn, targetPart, targetAt}
 use Rattle.advice.specs.declared.Part.{Part}
 use Rattle.advice.proofs.Locating.{located-in, located-low}

@@ -7,7 +7,6 @@
 --     overall                  the advice for a whole list
 --     adviceIn, targetIn       the advice and the key for an address, by what a table holds of it
 --     advised, targets         the advice and the key for each address of a list
---     given, isGiven           the addresses of a list, and whether it is readable
 use Prim.Native.Nat.{ℕ, _+_}
 use mathlib.Core.Bool.{Bool, true, false, _&&_, _||_}
 use mathlib.Core.List.{List, [], _∷_, map}
@@ -117,13 +116,3 @@ advised t isMutual reply list = map (adviceIn t isMutual reply) list
 
 unfoldable pub targets : List ℕ → List (List ℕ) → List (List ℕ)
 targets t list = map (targetIn t) list
-
--- the addresses of a list, where it is readable
-unfoldable pub given : Option (List (List ℕ)) → List (List ℕ)
-given none = []
-given (some list) = list
-
--- is it readable?
-unfoldable pub isGiven : Option (List (List ℕ)) → Bool
-isGiven none = false
-isGiven (some list) = true

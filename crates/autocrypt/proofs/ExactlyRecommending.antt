@@ -12,12 +12,12 @@ use mathlib.Core.List.{List}
 use mathlib.Core.Option.{some, none}
 use native.Mathlib.Omega.{arith}
 use Rattle.address.proofs.Every.{by-test}
-use Rattle.list.specs.List.{addresses}
+use Rattle.list.specs.List.{addresses, given}
 use Rattle.table.specs.Table.{whole, checked}
 use Rattle.table.proofs.Judging.{checked-length}
 use Rattle.table.proofs.Keeping.{SoundTable, table-sound, sound-table}
 use Rattle.table.proofs.Broken.{Broken, by-check, checked-broken, broken-checked, checked-out}
-use Rattle.advice.specs.Advice.{overall, advised, given}
+use Rattle.advice.specs.Advice.{overall, advised}
 use Rattle.advice.specs.declared.Advice.{Advice}
 use Rattle.autocrypt.specs.Refusals.{numberOf}
 use Rattle.autocrypt.specs.Checking.{checkedAs}

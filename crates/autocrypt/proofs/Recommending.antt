@@ -19,7 +19,7 @@ use lib.Dec.{leb}
 use lib.ListN.{length, take, drop}
 use mir.Syntax.{w64}
 use mir.Val.{Fits}
-use Rattle.list.specs.List.{addresses}
+use Rattle.list.specs.List.{addresses, given, isGiven}
 use Rattle.list.specs.Answers.{countedOf}
 use Rattle.list.specs.declared.Counted.{Counted}
 use Rattle.list.specs.declared.Counted.the-variants.{Count, Unreadable}
@@ -27,7 +27,7 @@ use Rattle.list.proofs.Readable.{counted-some, counted-none}
 use Rattle.table.specs.Table.{checked}
 use Rattle.table.specs.declared.Checked.{Checked as OfTable}
 use Rattle.table.specs.declared.Checked.the-variants.{Sound as Whole, Length, Slot}
-use Rattle.advice.specs.Advice.{overall, advised, given, isGiven}
+use Rattle.advice.specs.Advice.{overall, advised}
 use Rattle.advice.specs.Places.{noPart, targetAt, octetsAt}
 use Rattle.advice.specs.declared.Advice.{Advice}
 use Rattle.advice.specs.declared.Part.{Part}

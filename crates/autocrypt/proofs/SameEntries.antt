@@ -6,10 +6,9 @@ use Prim.Native.Nat.{ℕ}
 use mathlib.Core.Path.{_≡_}
 use mathlib.Core.Bool.{Bool}
 use mathlib.Core.List.{List}
-use Rattle.list.specs.List.{addresses}
+use Rattle.list.specs.List.{addresses, given}
 use Rattle.table.specs.Table.{checked}
 use Rattle.table.specs.declared.Checked.the-variants.{Sound}
-use Rattle.advice.specs.Advice.{given}
 use Rattle.advice.proofs.Alike.{Alike, overall-alike, targets-alike}
 use Rattle.autocrypt.specs.Recommending.{refusedRecommending, recommendedOf, targetKeyOf}
 

@@ -11,9 +11,9 @@ use mathlib.Core.List.{List, []}
 use mathlib.Core.Option.{Option, some, none}
 use lib.ListN.{length, getD}
 use Rattle.address.specs.Address.{oneTo}
-use Rattle.list.specs.List.{addresses}
+use Rattle.list.specs.List.{addresses, given}
 use Rattle.table.specs.Table.{checked}
-use Rattle.advice.specs.Advice.{overall, advised, targets, given}
+use Rattle.advice.specs.Advice.{overall, advised, targets}
 use Rattle.advice.specs.Places.{noPart, targetAt}
 use Rattle.advice.specs.declared.Advice.{Advice}
 use Rattle.advice.specs.declared.Part.{Part}
