@@ -11,5 +11,6 @@ pub mod Trying
 pub mod Counting
 pub mod Accepting
 pub mod Hearing
+pub mod Bringing
 pub mod WorkedFields
 pub mod Good

@@ -2,3 +2,10 @@ pub mod Folded
 pub mod Among
 pub mod RoundTrip
 pub mod Worked
+pub mod Later
+pub mod Halves
+pub mod Permuting
+pub mod EntryOrder
+pub mod FetchOrder
+pub mod EachPremise
+pub mod Unique

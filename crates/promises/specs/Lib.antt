@@ -1,0 +1,3 @@
+pub mod Brought
+pub mod Fetching
+pub mod Contracts
