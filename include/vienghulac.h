@@ -1,10 +1,16 @@
 /* Vienghulac: Autocrypt Level 1 for mail programs. The C interface.
  *
- * The caller owns all memory. A block is lent to one call as a pointer and a length, and the library keeps neither
- * pointers nor anything else behind the call; it allocates nothing. A block that is lent as `const` is read and not
- * changed, and must not be changed by anyone while the call runs. A block that is lent for writing belongs to the call
- * alone while it runs: it overlaps no other block of the call, and no other thread touches it. A null pointer is fine
- * where the length is 0.
+ * Ownership. The caller owns all memory. A block is lent to one call as a pointer and a length; the library keeps
+ * neither pointers nor anything else behind the call, and allocates nothing. The comment on each function says of each
+ * block which of these it is:
+ *
+ *   borrowed   read during the call and not changed; no one may change, move or free it until the call has returned
+ *   lent       read and written during the call, and the call's alone until it has returned: it overlaps no other block
+ *              of the call, and no other thread reads or writes it
+ *   a part     an answer that is a place in a lent table, not a copy; its octets are the caller's own, and they mean
+ *              what they meant until the next call that writes the table
+ *
+ * A null pointer is fine where the length is 0. Calls that share no lent block may run at the same time.
  *
  * Every input has an answer: nothing has to be checked before a call. A refusal has its number, and leaves all lent
  * memory as it was:
@@ -12,11 +18,21 @@
  *      0   done
  *      1   the table's length is not 1 to 256 whole slots
  *      2   a slot of the table is neither free nor sound; the lowest such index is answered with it
+ *      3   the receipt time is above 253,402,300,799
+ *      4   the outer header block is unreadable
+ *      5   there is not exactly one From field, or it is not a readable list of exactly one address
+ *      6   a Content-Type is multipart/report
+ *      7   gossip is taken and the payload block is unreadable
+ *      8   there are more new addresses than free slots
  *      9   the address argument is not one plain address
+ *     10   the recipient list is unreadable, or has not 1 to 100 addresses
  *     11   the key argument is not 1 to 2,048 octets long
  *     12   the output is shorter than the field
  *
  * Where more than one of them holds, the number that stands first in this list is given.
+ *
+ * A table is 1 to 256 slots of VIENGHULAC_SLOT octets, one a correspondent; a new one is all zeros. It holds no pointers
+ * and may be stored, moved and copied as it is.
  */
 #ifndef VIENGHULAC_H
 #define VIENGHULAC_H
@@ -29,22 +45,88 @@
 extern "C" {
 #endif
 
+/* The length of a slot, and the largest number of slots of a table. */
+#define VIENGHULAC_SLOT 4392
+#define VIENGHULAC_SLOTS 256
+
+/* An output of this length has room for every field, so that 12 is never answered. */
+#define VIENGHULAC_FIELD 3200
+
+/* The gossip setting of vienghulac_process; any other value counts as unset, and unset takes. */
+#define VIENGHULAC_GOSSIP_UNSET 0
+#define VIENGHULAC_GOSSIP_TAKE 1
+#define VIENGHULAC_GOSSIP_SKIP 2
+
+/* The advice of vienghulac_recommend. */
+#define VIENGHULAC_REFUSED 0
+#define VIENGHULAC_DISABLE 1
+#define VIENGHULAC_DISCOURAGE 2
+#define VIENGHULAC_AVAILABLE 3
+#define VIENGHULAC_ENCRYPT 4
+
 /* What a call on a table answers: 0, or the number of a refusal; the index of a slot with 2, else 0. */
 typedef struct {
     uint32_t number;
     uint32_t index;
 } vienghulac_answer;
 
-/* Is this a table that the calls take? A new table is zeros: 1 to 256 slots of 4,392 octets each, all free.
- *
- * Borrowed for the call: `table`, which is read and not changed. Answers 0, 1 or 2. */
-vienghulac_answer vienghulac_check(const uint8_t *table, size_t table_length);
+/* The same, and the advice; with a refusal it is VIENGHULAC_REFUSED. */
+typedef struct {
+    uint32_t number;
+    uint32_t index;
+    uint32_t advice;
+} vienghulac_advice;
+
+/* A part of the lent table, the octets table[start] to table[start + length - 1]; 0 and 0 where it is empty. */
+typedef struct {
+    uint64_t start;
+    uint64_t length;
+} vienghulac_part;
 
 /* What a writer answers: 0 and the length of the field, or the number of a refusal and the length 0. */
 typedef struct {
     uint64_t number;
     uint64_t length;
 } vienghulac_written;
+
+/* Is this a table that the other calls take?
+ *
+ * Borrowed: `table`. Answers 0, 1 or 2. */
+vienghulac_answer vienghulac_check(const uint8_t *table, size_t table_length);
+
+/* Reads one received mail and brings the table up to date: the entry of its sender and, from the payload's gossip
+ * fields, those of other recipients.
+ *
+ * `receipt` is when the mail was received, in seconds since 1970-01-01 UTC. `outer` is the mail's header block, its
+ * octets as received, up to its first empty line; what follows that line is not looked at, but counts for the limit of
+ * 65,536 octets. `payload` is the header block of the decrypted payload's root part; length 0 where there is none.
+ * `gossip` is one of VIENGHULAC_GOSSIP_*.
+ *
+ * Lent: `table`. Borrowed: `outer` and `payload`. A mail is applied whole or refused whole: with a refusal the table is
+ * octet by octet as it was. Parts handed out before end with this call where it answers 0.
+ * Answers 0 or 1 to 8. */
+vienghulac_answer vienghulac_process(uint8_t *table, size_t table_length, uint64_t receipt,
+                                     const uint8_t *outer, size_t outer_length,
+                                     const uint8_t *payload, size_t payload_length, uint8_t gossip);
+
+/* Should a new mail to these people be encrypted?
+ *
+ * `recipients` is a list of 1 to 100 addresses as in a To field, unfolded. `mutual` is the sender's own preference.
+ * `reply` says that the mail answers an encrypted one.
+ *
+ * Borrowed: `table` and `recipients`. Answers 0 with an advice from VIENGHULAC_DISABLE to VIENGHULAC_ENCRYPT, or 1, 2
+ * or 10. */
+vienghulac_advice vienghulac_recommend(const uint8_t *table, size_t table_length,
+                                       const uint8_t *recipients, size_t recipients_length, bool mutual, bool reply);
+
+/* The key to encrypt to for one recipient of the list: the arguments of vienghulac_recommend, and the recipient's place
+ * in the list, counted from 0.
+ *
+ * Borrowed: `table` and `recipients`. The answer is a part of `table` until the next call that writes the table. It is
+ * empty where the recipient has no key, past the end of the list, and where vienghulac_recommend refuses. */
+vienghulac_part vienghulac_target_key(const uint8_t *table, size_t table_length,
+                                      const uint8_t *recipients, size_t recipients_length, bool mutual, bool reply,
+                                      uint64_t place);
 
 /* Writes the Autocrypt field of an outgoing mail to the front of `out`:
  *
@@ -54,7 +136,7 @@ typedef struct {
  * with CRLF behind each line. `address` is the sender's, and is written in canonical form; `key` holds the octets of
  * the key, and is written as Base64. Without `mutual` the attribute prefer-encrypt is left out.
  *
- * Borrowed for the call: `address` and `key`. Written: the first `length` octets of `out`, where the number is 0; the
+ * Borrowed: `address` and `key`. Lent: `out`, of which the first `length` octets are written where the number is 0; the
  * octets behind them, and with a refusal all of `out`, stay as they were. No terminating zero is written.
  * Answers 0, 9, 11 or 12. */
 vienghulac_written vienghulac_write_autocrypt(const uint8_t *address, size_t address_length,
@@ -64,7 +146,7 @@ vienghulac_written vienghulac_write_autocrypt(const uint8_t *address, size_t add
 /* Writes an Autocrypt-Gossip field, for the header block of a mail's encrypted payload, to the front of `out`: the
  * same with the name Autocrypt-Gossip and without a preference. `address` and `key` are those of a recipient.
  *
- * Borrowed, written and answered as above. */
+ * Borrowed, lent and answered as above. */
 vienghulac_written vienghulac_write_gossip(const uint8_t *address, size_t address_length,
                                            const uint8_t *key, size_t key_length,
                                            uint8_t *out, size_t out_length);
