@@ -1,0 +1,383 @@
+"""The command line: `vienghulac COMMAND ..`, or `python -m vienghulac COMMAND ..`.
+
+A refusal, or a file that cannot be read or written, is one line on standard error and exit status 1; bad usage is 2.
+"""
+
+from __future__ import annotations
+
+import argparse
+import base64
+import collections
+import io
+import json
+import os
+import sys
+import time
+from datetime import datetime, timezone
+from importlib.metadata import version
+from typing import Any, Callable, Optional, Sequence
+
+from ._fields import FieldValue, autocrypt_field, gossip_field
+from ._files import read_file, replace_file
+from ._mailbox import Mailbox, NoMailbox, open_mailbox
+from ._refusals import REFUSALS, Refused
+from ._table import SLOTS, Entry, Table, entries, process, recommend, target_key
+
+_KEY_LIMIT = 2_048
+
+
+class _Failure(Exception):
+    """A failure that is one line on standard error."""
+
+
+def main(arguments: Optional[Sequence[str]] = None) -> int:
+    """Run one command and answer its exit status."""
+    if isinstance(sys.stdout, io.TextIOWrapper):
+        sys.stdout.reconfigure(errors="backslashreplace")  # a letter that the terminal lacks is no failure
+    options = _parser().parse_args(arguments)
+    run: Callable[[argparse.Namespace], int] = options.run
+    try:
+        status = run(options)
+        sys.stdout.flush()
+        return status
+    except BrokenPipeError:
+        # whoever read the output has left; the interpreter must not try to flush it once more
+        os.dup2(os.open(os.devnull, os.O_WRONLY), sys.stdout.fileno())
+        return 1
+    except (_Failure, NoMailbox, Refused, OSError) as failure:
+        print(f"vienghulac: {failure}", file=sys.stderr)
+        return 1
+    except KeyboardInterrupt:
+        print("vienghulac: interrupted", file=sys.stderr)
+        return 130
+
+
+# import
+
+
+def _import(options: argparse.Namespace) -> int:
+    table = _load(options.table) if os.path.exists(options.table) else Table.new(options.slots)
+    mailboxes = [(name, open_mailbox(name)) for name in options.mailbox]
+    answers: collections.Counter[int] = collections.Counter()
+    for name, mailbox in mailboxes:
+        answers += _taken_in(table, name, mailbox, options.receipt)
+    table.save(options.table)
+    if options.json:
+        _print_json(
+            {
+                "messages": sum(answers.values()),
+                "answers": {str(number): answers[number] for number in sorted(answers)},
+                "slots": table.slots,
+                "used": len(entries(table)),
+            }
+        )
+        return 0
+    print(f"{sum(answers.values())} messages")
+    for number in sorted(answers):
+        print(f"{answers[number]:>8}  {number:>2}  {REFUSALS.get(number, 'done')}")
+    print(f"{options.table}: {_use(table)}")
+    return 0
+
+
+def _taken_in(table: Table, name: str, mailbox: Mailbox, receipt: Optional[int]) -> collections.Counter[int]:
+    """The answers to the messages of a mailbox, counted by number."""
+    answers: collections.Counter[int] = collections.Counter()
+    progress = _Progress(name, mailbox.size)
+    for message in mailbox.messages():
+        answers[_answer(table, message.receipt if receipt is None else receipt, message.block)] += 1
+        progress.show(message.read)
+    progress.end()
+    return answers
+
+
+def _answer(table: Table, receipt: int, block: bytes) -> int:
+    try:
+        process(table, receipt, block)
+    except Refused as refused:
+        return refused.number
+    return 0
+
+
+class _Progress:
+    """A bar on standard error, where that is a terminal; nothing elsewhere."""
+
+    _WIDTH = 40
+
+    def __init__(self, name: str, total: int) -> None:
+        self._name = name
+        self._total = max(total, 1)
+        self._shown = sys.stderr.isatty()
+        self._next = 0.0
+
+    def show(self, done: int) -> None:
+        if self._shown and time.monotonic() >= self._next:
+            self._next = time.monotonic() + 0.1
+            self._draw(done)
+
+    def end(self) -> None:
+        if self._shown:
+            self._draw(self._total)
+            print(file=sys.stderr)
+
+    def _draw(self, done: int) -> None:
+        full = self._WIDTH * done // self._total
+        bar = "#" * full + "." * (self._WIDTH - full)
+        print(f"\r[{bar}] {100 * done // self._total:>3}% {self._name}", end="", file=sys.stderr, flush=True)
+
+
+# list, check
+
+
+def _list(options: argparse.Namespace) -> int:
+    found = entries(_load(options.table))
+    if options.json:
+        _print_json([_described(entry) for entry in found])
+        return 0
+    rows = [("address", "last seen", "key of", "octets", "preference", "gossip of", "octets")]
+    rows += [_row(entry) for entry in found]
+    widths = [max(len(row[column]) for row in rows) for column in range(len(rows[0]))]
+    for row in rows:
+        print("  ".join(word.ljust(width) for word, width in zip(row, widths)).rstrip())
+    return 0
+
+
+def _row(entry: Entry) -> tuple[str, str, str, str, str, str, str]:
+    return (
+        _printable(entry.address),
+        _moment(entry.last_seen),
+        _moment(entry.autocrypt_timestamp),
+        str(_length(entry.direct_key)),
+        _preference(entry),
+        _moment(entry.gossip_timestamp),
+        str(_length(entry.gossip_key)),
+    )
+
+
+def _described(entry: Entry) -> dict[str, Any]:
+    return {
+        "slot": entry.slot,
+        "address": entry.address.decode("utf-8", "surrogateescape"),
+        "last_seen": entry.last_seen,
+        "autocrypt_timestamp": entry.autocrypt_timestamp,
+        "direct_key_length": _length(entry.direct_key),
+        "preference": _preference(entry),
+        "gossip_timestamp": entry.gossip_timestamp,
+        "gossip_key_length": _length(entry.gossip_key),
+    }
+
+
+def _preference(entry: Entry) -> str:
+    return "mutual" if entry.mutual else "none"
+
+
+def _length(key: Optional[memoryview]) -> int:
+    return 0 if key is None else len(key)
+
+
+def _moment(seconds: Optional[int]) -> str:
+    return "-" if seconds is None else datetime.fromtimestamp(seconds, timezone.utc).strftime("%Y-%m-%d %H:%M:%S")
+
+
+def _printable(address: bytes) -> str:
+    """An address for a terminal: a stranger chose it, so nothing in it may steer the terminal."""
+    text = address.decode("utf-8", "backslashreplace")
+    return "".join(letter if letter.isprintable() else ascii(letter)[1:-1] for letter in text)
+
+
+def _check(options: argparse.Namespace) -> int:
+    status = 0
+    judged = []
+    for name in options.file:
+        number, slot, table = 0, None, None
+        try:
+            table = Table.load(name)
+        except Refused as refused:
+            number, slot, status = refused.number, refused.slot, 1
+            print(f"vienghulac: {name}: {refused}", file=sys.stderr)
+        judged.append({"file": name, "number": number, "slot": slot})
+        if table is not None and not options.json:
+            print(f"{name}: {_use(table)}")
+    if options.json:
+        _print_json(judged)
+    return status
+
+
+def _use(table: Table) -> str:
+    return f"{len(entries(table))} of {table.slots} slots used"
+
+
+# recommend, key
+
+
+def _recommend(options: argparse.Namespace) -> int:
+    advice = recommend(_load(options.table), os.fsencode(options.recipients), options.mutual, options.reply)
+    if options.json:
+        _print_json({"advice": advice.name.lower(), "number": advice.value})
+    else:
+        print(advice.name.lower())
+    return 0
+
+
+def _key(options: argparse.Namespace) -> int:
+    table, recipients = _load(options.table), os.fsencode(options.recipients)
+    recommend(table, recipients)  # a list that is refused has no keys, and its number says why
+    key = target_key(table, recipients, place=options.place)
+    if key is None:
+        raise _Failure(f"no key for the recipient at place {options.place}")
+    if options.json:
+        _print_json({"length": len(key), "key": base64.b64encode(key).decode("ascii")})
+    elif options.output is not None:
+        replace_file(options.output, bytes(key))
+    else:
+        sys.stdout.buffer.write(key)
+    return 0
+
+
+# field
+
+
+def _field(options: argparse.Namespace) -> int:
+    address, key = os.fsencode(options.address), _read_key(options.key)
+    field = gossip_field(address, key) if options.gossip else autocrypt_field(address, key, options.mutual)
+    if options.json:
+        value = FieldValue(field)
+        _print_json({"name": value.name, "value": str(value)})
+    else:
+        sys.stdout.buffer.write(field)
+    return 0
+
+
+def _read_key(name: str) -> bytes:
+    return sys.stdin.buffer.read(_KEY_LIMIT + 1) if name == "-" else read_file(name, _KEY_LIMIT)
+
+
+# what the commands share
+
+
+def _load(name: str) -> Table:
+    try:
+        return Table.load(name)
+    except Refused as refused:
+        raise _Failure(f"{name}: {refused}") from None
+
+
+def _print_json(value: object) -> None:
+    print(json.dumps(value))
+
+
+def _natural(text: str) -> int:
+    if text.isascii() and text.isdigit():
+        return int(text)
+    raise argparse.ArgumentTypeError(f"{text!r} is not a whole number from 0")
+
+
+# the words on the command line
+
+_ABOUT = """\
+Autocrypt Level 1: keys and preferences of correspondents, read from the mail
+they send. They are kept in a table, a file of 1 to 256 slots of 4,392 octets,
+one a correspondent.
+
+A refusal, or a file that cannot be read or written, is one line on standard
+error and exit status 1; bad usage is 2."""
+
+_IMPORT = """\
+Read the messages of mailboxes, in their order, and bring a table up to date.
+
+A MAILBOX is an mbox file or a Maildir. A message's header block is taken from
+the file as it stands, octet by octet, up to and including the first empty line.
+In an mbox file a message follows a line that opens with 'From ' and begins the
+file or follows an empty line. In a Maildir it is a file of cur or new; older
+ones come first.
+
+The receipt time of a message is the date of its 'From ' line (UTC, unless the
+line names a zone) or, where that has none, the mbox file's time; in a Maildir it
+is the file's time of change. --receipt sets one time for all. Encrypted
+payloads are not read, so no gossip is taken.
+
+The table is written once, when all is read: a failure leaves the file as it was.
+Only one import into a table may run at a time. The messages are counted by
+answer, 0 for those taken and the number of the refusal for the others; a message
+that is refused changes nothing, and is no failure of the import."""
+
+_LIST = """\
+List the correspondents of a table: address, when last seen, date and length of
+the key from their own mail, preference, date and length of the key that others
+sent (gossip). Times are UTC. With --json times are seconds since 1970, and
+octets of an address that are not UTF-8 are lone surrogates."""
+
+_RECOMMEND = """\
+Say whether a new mail to the RECIPIENTS (one argument, a list as in a To field,
+of 1 to 100 addresses) should be encrypted:
+
+  disable      it cannot be, since someone has no key
+  discourage   it can be, but someone may not be able to read it
+  available    it can be, if the user asks for it
+  encrypt      it should be"""
+
+_KEY = """\
+Write the key to encrypt to, for one of the RECIPIENTS (one argument, a list as
+in a To field), to standard output or to a file. The octets are those that came
+in the mail; whether they are a good OpenPGP key, nobody has looked. Where that
+recipient has no key, the exit status is 1."""
+
+_FIELD = """\
+Write the Autocrypt field for a mail from ADDRESS, or with --gossip the
+Autocrypt-Gossip field for a recipient, to standard output, with CRLF at the end
+of each line. The key file holds 1 to 2,048 octets, an OpenPGP key without armor."""
+
+_CHECK = """\
+Say of each FILE whether it is a table. The exit status is 1 where one is not;
+the line on standard error then has the number of the refusal and, for number 2,
+the lowest slot that is neither free nor sound. No file is changed."""
+
+
+def _parser() -> argparse.ArgumentParser:
+    parser = argparse.ArgumentParser(
+        prog="vienghulac", description=_ABOUT, formatter_class=argparse.RawDescriptionHelpFormatter
+    )
+    parser.add_argument("--version", action="version", version=f"vienghulac {version('vienghulac')}")
+    commands = parser.add_subparsers(title="commands", metavar="COMMAND", required=True)
+
+    def command(name: str, run: Callable[[argparse.Namespace], int], about: str, short: str) -> argparse.ArgumentParser:
+        made = commands.add_parser(
+            name, description=about, help=short, formatter_class=argparse.RawDescriptionHelpFormatter
+        )
+        made.set_defaults(run=run)
+        made.add_argument("--json", action="store_true", help="answer in JSON, for programs")
+        return made
+
+    def with_table(made: argparse.ArgumentParser) -> argparse.ArgumentParser:
+        made.add_argument("--table", metavar="FILE", required=True, help="the file that holds the table")
+        return made
+
+    made = with_table(command("import", _import, _IMPORT, "read mailboxes and bring a table up to date"))
+    made.add_argument("mailbox", metavar="MAILBOX", nargs="+", help="an mbox file or a Maildir")
+    made.add_argument("--receipt", metavar="SECONDS", type=_natural, help="one receipt time for all messages, since 1970 UTC")
+    made.add_argument(
+        "--slots", metavar="N", type=_natural, default=SLOTS,
+        help="slots of the table where FILE does not exist yet, 1 to 256 (default: 256)",
+    )  # fmt: skip
+
+    with_table(command("list", _list, _LIST, "list the correspondents of a table"))
+
+    made = with_table(command("recommend", _recommend, _RECOMMEND, "say whether a new mail should be encrypted"))
+    made.add_argument("recipients", metavar="RECIPIENTS", help="a list of addresses, as in a To field")
+    made.add_argument("--mutual", action="store_true", help="the sender prefers encryption too")
+    made.add_argument("--reply", action="store_true", help="the mail answers an encrypted one")
+
+    made = command("field", _field, _FIELD, "write a field to send")
+    made.add_argument("address", metavar="ADDRESS", help="the sender's address; with --gossip the recipient's")
+    made.add_argument("--key", metavar="FILE", required=True, help="the file that holds the key; - for standard input")
+    kind = made.add_mutually_exclusive_group()
+    kind.add_argument("--mutual", action="store_true", help="with prefer-encrypt=mutual")
+    kind.add_argument("--gossip", action="store_true", help="an Autocrypt-Gossip field")
+
+    made = with_table(command("key", _key, _KEY, "write the key to encrypt to"))
+    made.add_argument("recipients", metavar="RECIPIENTS", help="a list of addresses, as in a To field")
+    made.add_argument("--place", metavar="N", type=_natural, default=0, help="which recipient, counted from 0 (default: 0)")
+    made.add_argument("--output", metavar="FILE", help="write the key to this file")
+
+    made = command("check", _check, _CHECK, "say whether files are tables")
+    made.add_argument("file", metavar="FILE", nargs="+", help="a file")
+    return parser
