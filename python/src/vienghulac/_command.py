@@ -291,14 +291,14 @@ file or follows an empty line. In a Maildir it is a file of cur or new; older
 ones come first.
 
 The receipt time of a message is the date of its 'From ' line (UTC, unless the
-line names a zone) or, where that has none, the mbox file's time; in a Maildir it
-is the file's time of change. --receipt sets one time for all. Encrypted
+line names a zone) or, where that has none, the mbox file's time; in a Maildir
+it is the file's time of change. --receipt sets one time for all. Encrypted
 payloads are not read, so no gossip is taken.
 
-The table is written once, when all is read: a failure leaves the file as it was.
-Only one import into a table may run at a time. The messages are counted by
-answer, 0 for those taken and the number of the refusal for the others; a message
-that is refused changes nothing, and is no failure of the import."""
+The table is written once, when all is read: a failure leaves the file as it
+was. Only one import into a table may run at a time. The messages are counted by
+answer, 0 for those taken and the number of the refusal for the others; a
+message that is refused changes nothing, and is no failure of the import."""
 
 _LIST = """\
 List the correspondents of a table: address, when last seen, date and length of
@@ -324,7 +324,8 @@ recipient has no key, the exit status is 1."""
 _FIELD = """\
 Write the Autocrypt field for a mail from ADDRESS, or with --gossip the
 Autocrypt-Gossip field for a recipient, to standard output, with CRLF at the end
-of each line. The key file holds 1 to 2,048 octets, an OpenPGP key without armor."""
+of each line. The key file holds 1 to 2,048 octets, an OpenPGP key without
+armor."""
 
 _CHECK = """\
 Say of each FILE whether it is a table. The exit status is 1 where one is not;

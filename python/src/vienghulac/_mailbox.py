@@ -42,11 +42,11 @@ class Mbox:
 
     def messages(self) -> Iterator[Message]:
         with open(self._path, "rb") as file:
-            opening = _next_opening(file, b"\n")
+            opening = _next_opening(file)
             while opening:
                 receipt = _opening_time(opening)
                 block = _header_block(file)
-                opening = _next_opening(file, block)
+                opening = _next_opening(file)
                 yield Message(block, self._modified if receipt is None else receipt, file.tell())
 
 
@@ -106,9 +106,9 @@ def _header_block(file: BinaryIO) -> bytes:
     return b"".join(kept)
 
 
-def _next_opening(file: BinaryIO, before: bytes) -> bytes:
-    """The next line that opens a message, or nothing at the end of the file; `before` is what was read last."""
-    empty = before.endswith(b"\n")
+def _next_opening(file: BinaryIO) -> bytes:
+    """The next line that opens a message, from the file's beginning or an empty line on; nothing at the file's end."""
+    empty, before = True, b"\n"
     for line in _lines(file):
         if empty and line.startswith(b"From "):
             return _whole_line(file, line)
