@@ -7,6 +7,7 @@ import gc
 import itertools
 import pickle
 import random
+import sys
 import threading
 from concurrent.futures import ThreadPoolExecutor
 from contextlib import contextmanager
@@ -99,28 +100,34 @@ def test_freed_blocks_in_asyncio():
 # Blocks: mutable ones are copied, so a change during the call changes nothing.
 
 
-def flipping(lent):
-    """A buffer, and an action that puts one and the other of two blocks of one length into it by turns."""
-    key_a, key_b = b"A" * 1_500, b"B" * 1_500
-    filler = b"".join(b"X-Filler: %d\r\n" % number for number in range(2_000))
-    blocks = itertools.cycle([letter(b"s@x", key, more=filler) for key in (key_a, key_b)])
-    buffer = bytearray(next(blocks))
-
-    def flip():
-        buffer[:] = next(blocks)
-
-    return lent(buffer), flip, {key_a, key_b}
+def two_mails():
+    """Two header blocks of one length: sender first, key last, and so much between them that a call takes its time."""
+    filler = b"".join(b"X-Filler: %08d\r\n" % number for number in range(3_000))
+    return [letter(sender, key, more=filler) for sender, key in ((b"a@x", b"A" * 300), (b"b@x", b"B" * 300))]
 
 
 @pytest.mark.parametrize("lent", [lambda buffer: buffer, memoryview, lambda buffer: memoryview(buffer).toreadonly()])
 def test_a_buffer_that_changes_during_the_call(lent):
-    """The key that arrives is one of the two that were in the buffer, never a mixture."""
-    block, flip, keys = flipping(lent)
-    table = Table.new(1)
-    with meanwhile(flip):
-        for _ in range(1_500):
-            process(table, RECEIPT, block)
-            assert bytes(target_key(table, b"s@x")) in keys
+    """What arrives is one of the two mails that were in the buffer by turns, never one's sender with the other's key."""
+    mails = two_mails()
+    by_turns = itertools.cycle(mails)
+    buffer = bytearray(mails[0])
+    block = lent(buffer)
+
+    def change():
+        buffer[:] = next(by_turns)
+
+    interval = sys.getswitchinterval()
+    sys.setswitchinterval(1e-6)  # so that the other thread runs as soon as a call lets it
+    try:
+        with meanwhile(change):
+            for _ in range(3_000):
+                table = Table.new(1)
+                process(table, RECEIPT, block)
+                (entry,) = entries(table)
+                assert (entry.address, entry.direct_key) in ((b"a@x", b"A" * 300), (b"b@x", b"B" * 300))
+    finally:
+        sys.setswitchinterval(interval)
 
 
 def test_a_table_takes_a_copy_of_its_octets():
