@@ -227,11 +227,13 @@ def test_check(imported, tmp_path):
         f"vienghulac: {broken}: refused 2: a slot is neither free nor sound (slot 1)",
         f"vienghulac: {INBOX}: refused 1: table length isn't 1 to 256 whole slots",
     ]
-    done = run("check", "--json", broken, imported)
-    assert done.returncode == 1
+    done = run("check", "--json", broken, tmp_path / "none", imported)
+    assert done.returncode == 1 and done.stderr.count(b"\n") == 2
     assert json.loads(done.stdout) == [
-        {"file": str(broken), "number": 2, "slot": 1}, {"file": str(imported), "number": 0, "slot": None}
-    ]  # fmt: skip
+        {"file": str(broken), "number": 2, "slot": 1},
+        {"file": str(tmp_path / "none"), "number": None, "slot": None},
+        {"file": str(imported), "number": 0, "slot": None},
+    ]
     failure(1, "check", tmp_path / "none")
 
 

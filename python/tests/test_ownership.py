@@ -15,7 +15,7 @@ from contextlib import contextmanager
 import pytest
 from letters import RECEIPT, gossip, letter, table_with
 
-from vienghulac import Refused, Table, entries, process, recommend, target_key
+from vienghulac import Refused, Table, _library, entries, process, recommend, target_key
 
 THREADS = 4
 
@@ -47,6 +47,19 @@ def allocate_over(sizes=(200, 400, 1_000, 3_000)):
 def in_threads(work, count=THREADS):
     with ThreadPoolExecutor(count) as pool:
         return [future.result() for future in [pool.submit(work, number) for number in range(count)]]
+
+
+@pytest.fixture
+def eager():
+    """Another thread runs as soon as a call lets it."""
+    interval = sys.getswitchinterval()
+    sys.setswitchinterval(1e-6)
+    yield
+    sys.setswitchinterval(interval)
+
+
+# So much in a block that a call takes its time.
+FILLER = b"".join(b"X-Filler: %08d\r\n" % number for number in range(3_000))
 
 
 # Blocks: made, handed down and freed at once.
@@ -100,16 +113,11 @@ def test_freed_blocks_in_asyncio():
 # Blocks: mutable ones are copied, so a change during the call changes nothing.
 
 
-def two_mails():
-    """Two header blocks of one length: sender first, key last, and so much between them that a call takes its time."""
-    filler = b"".join(b"X-Filler: %08d\r\n" % number for number in range(3_000))
-    return [letter(sender, key, more=filler) for sender, key in ((b"a@x", b"A" * 300), (b"b@x", b"B" * 300))]
-
-
 @pytest.mark.parametrize("lent", [lambda buffer: buffer, memoryview, lambda buffer: memoryview(buffer).toreadonly()])
-def test_a_buffer_that_changes_during_the_call(lent):
+def test_a_buffer_that_changes_during_the_call(lent, eager):
     """What arrives is one of the two mails that were in the buffer by turns, never one's sender with the other's key."""
-    mails = two_mails()
+    senders = [(b"a@x", b"A" * 300), (b"b@x", b"B" * 300)]
+    mails = [letter(sender, key, more=FILLER) for sender, key in senders]
     by_turns = itertools.cycle(mails)
     buffer = bytearray(mails[0])
     block = lent(buffer)
@@ -117,17 +125,12 @@ def test_a_buffer_that_changes_during_the_call(lent):
     def change():
         buffer[:] = next(by_turns)
 
-    interval = sys.getswitchinterval()
-    sys.setswitchinterval(1e-6)  # so that the other thread runs as soon as a call lets it
-    try:
-        with meanwhile(change):
-            for _ in range(3_000):
-                table = Table.new(1)
-                process(table, RECEIPT, block)
-                (entry,) = entries(table)
-                assert (entry.address, entry.direct_key) in ((b"a@x", b"A" * 300), (b"b@x", b"B" * 300))
-    finally:
-        sys.setswitchinterval(interval)
+    with meanwhile(change):
+        for _ in range(1_000):
+            table = Table.new(1)
+            process(table, RECEIPT, block)
+            (entry,) = entries(table)
+            assert (entry.address, entry.direct_key) in senders
 
 
 def test_a_table_takes_a_copy_of_its_octets():
@@ -193,6 +196,27 @@ def test_a_refused_write_ends_no_key():
     assert view == key
 
 
+def test_an_interrupt_behind_the_call_leaves_no_old_image(monkeypatch):
+    """The table is written, and the call is broken off before it has come back."""
+    table, (key,) = table_with(b"a@x")
+    view = target_key(table, b"a@x")
+    really = _library.process
+
+    def broken_off(*arguments):
+        really(*arguments)
+        raise KeyboardInterrupt
+
+    monkeypatch.setattr(_library, "process", broken_off)
+    with pytest.raises(KeyboardInterrupt):
+        process(table, RECEIPT, letter(b"a@x", b"new"))
+    monkeypatch.undo()
+    assert view == key
+    assert target_key(table, b"a@x") == b"new"
+    process(table, RECEIPT, letter(b"a@x", b"newer"))
+    with pytest.raises(ValueError):
+        bytes(view)
+
+
 def test_what_was_made_out_of_a_view_keeps_the_old_key():
     table, (key,) = table_with(b"a@x")
     view = target_key(table, b"a@x")
@@ -249,17 +273,14 @@ def test_readers_and_a_writer_at_once():
     for sender in senders:
         process(table, RECEIPT, letter(sender, min(sent[sender])))
     letters = itertools.cycle([letter(sender, key) for sender in senders for key in sorted(sent[sender])])
-    late = 0
 
-    def read(number):
-        nonlocal late
+    def read(_):
         for count in range(3_000):
             sender = senders[count % 4]
             view = target_key(table, sender)
             try:
                 octets = bytes(view)
             except ValueError:
-                late += 1
                 continue
             assert octets in sent[sender]
 
@@ -270,18 +291,14 @@ def test_readers_and_a_writer_at_once():
 # Tables.
 
 
-def test_two_threads_lose_nothing():
-    table = Table.new(256)
+def test_two_threads_lose_nothing(eager):
+    """Newcomers from both sides: two calls at once would take the same free slot."""
     keys = {b"s%d@t%d" % (number, thread): b"%d-%d" % (thread, number) * 40 for thread in range(2) for number in range(128)}
-
-    def work(thread):
-        for turn in (b"early ", b""):
-            for number in range(128):
-                sender = b"s%d@t%d" % (number, thread)
-                process(table, RECEIPT, letter(sender, turn + keys[sender]))
-
-    in_threads(work, 2)
-    assert {entry.address: bytes(entry.direct_key) for entry in entries(table)} == keys
+    mails = [[letter(sender, keys[sender], more=FILLER) for sender in keys if sender.endswith(b"t%d" % thread)] for thread in range(2)]
+    for _ in range(4):
+        table = Table.new(256)
+        in_threads(lambda thread: [process(table, RECEIPT, mail) for mail in mails[thread]], 2)
+        assert {entry.address: bytes(entry.direct_key) for entry in entries(table)} == keys
 
 
 @pytest.mark.parametrize(
@@ -311,10 +328,11 @@ def test_a_dropped_table_leaves_its_views():
 
 
 def test_tables_pickled_and_dropped_while_written():
-    table, _ = table_with(b"a@x")
-    letters = itertools.cycle([letter(b"a@x", key * 200) for key in (b"one", b"two")])
+    table, keys = table_with(b"a@x")
+    keys += [b"one" * 200, b"two" * 200]
+    letters = itertools.cycle([letter(b"a@x", key) for key in keys])
     with meanwhile(lambda: process(table, RECEIPT, next(letters))):
         for _ in range(500):
             other = pickle.loads(pickle.dumps(table))
-            assert bytes(target_key(other, b"a@x"))[:3] in (b"one", b"two") or len(target_key(other, b"a@x")) == 100
+            assert bytes(target_key(other, b"a@x")) in keys
             del other

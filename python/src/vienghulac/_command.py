@@ -185,21 +185,25 @@ def _printable(address: bytes) -> str:
 
 
 def _check(options: argparse.Namespace) -> int:
-    status = 0
-    judged = []
-    for name in options.file:
-        number, slot, table = 0, None, None
-        try:
-            table = Table.load(name)
-        except Refused as refused:
-            number, slot, status = refused.number, refused.slot, 1
-            print(f"vienghulac: {name}: {refused}", file=sys.stderr)
-        judged.append({"file": name, "number": number, "slot": slot})
-        if table is not None and not options.json:
-            print(f"{name}: {_use(table)}")
+    judged = [_judged(name, options.json) for name in options.file]
     if options.json:
         _print_json(judged)
-    return status
+    return 0 if all(one["number"] == 0 for one in judged) else 1
+
+
+def _judged(name: str, quiet: bool) -> dict[str, Any]:
+    """What a file is, printed unless in JSON; the number is None where it cannot be read."""
+    try:
+        table = Table.load(name)
+    except Refused as refused:
+        print(f"vienghulac: {name}: {refused}", file=sys.stderr)
+        return {"file": name, "number": refused.number, "slot": refused.slot}
+    except OSError as failure:
+        print(f"vienghulac: {failure}", file=sys.stderr)
+        return {"file": name, "number": None, "slot": None}
+    if not quiet:
+        print(f"{name}: {_use(table)}")
+    return {"file": name, "number": 0, "slot": None}
 
 
 def _use(table: Table) -> str:

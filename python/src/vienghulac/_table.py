@@ -123,9 +123,8 @@ class Table:
         self._views[id(view)] = view
         return view
 
-    def _written(self) -> None:
-        """The table was written: let go of its image, and release the views of it."""
-        self._image = None
+    def _release(self) -> None:
+        """The table was written: release the views of its old image."""
         for place, view in list(self._views.items()):
             try:
                 view.release()
@@ -157,11 +156,15 @@ def process(
     if not isinstance(gossip, Gossip):
         raise TypeError(f"gossip must be a Gossip, not {type(gossip).__name__}")
     with table._guard:
+        # The image goes first: an interrupt behind the call must not leave an old one.
+        image, table._image = table._image, None
         answer: _library.Answer = _library.process(
             table._memory, len(table._memory), seconds, lent, len(lent), lent_payload, len(lent_payload), gossip
         )
         if answer.number == 0:
-            table._written()
+            table._release()
+        else:
+            table._image = image
     unless_refused(answer.number, answer.index)
 
 
