@@ -93,6 +93,23 @@ def test_a_view_with_gaps_lends_the_octets_it_shows():
     assert b"addr=a@x.example;" in autocrypt_field(memoryview(spread)[::2], b"foo")
 
 
+@pytest.mark.parametrize("base", [bytes, bytearray])
+def test_a_class_that_lies_about_its_length(base):
+    """What is lent is what the memory holds, not what the object says of itself."""
+
+    class Liar(base):
+        def __len__(self):
+            return 1_000_000
+
+        def __bytes__(self):
+            return b"mallory@m.example"
+
+        def copy(self):
+            return bytearray(b"mallory@m.example")
+
+    assert autocrypt_field(Liar(b"a@x"), Liar(b"foo")) == autocrypt_field(b"a@x", b"foo")
+
+
 def test_a_released_view_is_no_octets():
     view = memoryview(b"a@x")
     view.release()

@@ -133,11 +133,14 @@ def test_a_kill_during_a_save_leaves_the_old_file_or_the_new_one(table_file):
         table.save(source)
     whole = [source.read_bytes() for source in sources]
     table_file.write_bytes(whole[0])
+    began = time.monotonic()
+    table.save(table_file)
+    some_saves = max(0.03, 5 * (time.monotonic() - began))
     met, halves = set(), 0
     for _ in range(25):
         saver = subprocess.Popen([sys.executable, "-c", SAVE_FOREVER, table_file, *sources], stdout=subprocess.PIPE)
         saver.stdout.readline()
-        time.sleep(chance.uniform(0, 0.03))
+        time.sleep(chance.uniform(0, some_saves))
         saver.send_signal(signal.SIGKILL)
         saver.wait()
         saver.stdout.close()

@@ -16,11 +16,16 @@ _LARGEST = 2**64 - 1
 
 
 def octets(value: Octets, name: str) -> bytes:
-    """The octets to lend for one call: `bytes` as they are, anything mutable as a copy."""
-    if isinstance(value, bytes):
+    """The octets to lend for one call: `bytes` as they are, anything mutable as a copy.
+
+    A subclass may say another length than its memory has, so its octets are copied, by the methods of the class itself.
+    """
+    if type(value) is bytes:
         return value
-    if isinstance(value, (bytearray, memoryview)):
-        return bytes(value)
+    if isinstance(value, (bytes, memoryview)):
+        return memoryview(value).tobytes()
+    if isinstance(value, bytearray):
+        return bytes(bytearray.copy(value))
     raise TypeError(f"{name} must be bytes, bytearray or memoryview, not {type(value).__name__}")
 
 
