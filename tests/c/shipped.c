@@ -19,7 +19,8 @@ static void talk(void) {
 
     vienghulac_advice advice = vienghulac_recommend(table, sizeof table, bob, one, true, false);
     expect("no entry", advice.number == 0 && advice.index == 0 && advice.advice == VIENGHULAC_DISABLE);
-    vienghulac_answer a = vienghulac_process(table, sizeof table, 1000, octets(from_bob), sizeof from_bob - 1, NULL, 0, VIENGHULAC_GOSSIP_UNSET);
+    vienghulac_answer a = vienghulac_process(table, sizeof table, 1000, octets(from_bob), sizeof from_bob - 1, NULL, 0,
+                                             VIENGHULAC_GOSSIP_UNSET);
     expect("Bob's mail", a.number == 0 && a.index == 0);
     advice = vienghulac_recommend(table, sizeof table, bob, one, true, false);
     expect("both mutual", advice.number == 0 && advice.advice == VIENGHULAC_ENCRYPT);
@@ -28,7 +29,8 @@ static void talk(void) {
     vienghulac_part part = vienghulac_target_key(table, sizeof table, bob, one, false, false, 0);
     expect("Bob's key", part.length == 3 && memcmp(table + part.start, "foo", 3) == 0);
 
-    a = vienghulac_process(table, sizeof table, 2000, octets(from_carol), sizeof from_carol - 1, octets(payload), sizeof payload - 1, VIENGHULAC_GOSSIP_TAKE);
+    a = vienghulac_process(table, sizeof table, 2000, octets(from_carol), sizeof from_carol - 1, octets(payload),
+                           sizeof payload - 1, VIENGHULAC_GOSSIP_TAKE);
     expect("Carol's mail", a.number == 0);
     advice = vienghulac_recommend(table, sizeof table, all, both, true, false);
     expect("a gossip key only", advice.advice == VIENGHULAC_DISCOURAGE);

@@ -5,9 +5,9 @@ table's guard, and since a call runs without the interpreter's lock, the guard i
 lock or without one.
 
 A key is handed out as a part of an image of the table: the octets of the whole table as they were after the last write,
-made where the first key is asked for, and never written. The next write lets go of the image and releases every view of
-it, so that a late use raises. What a caller made out of a view by himself, a slice say, keeps the old image alive, and
-goes on reading the key that it was made of.
+made where the first key is asked for, and never written. A call that may write lets go of the image, and one that wrote
+releases every view of it, so that a late use raises. What a caller made out of a view, a slice say, keeps the old image
+alive, and goes on reading the key that it was made of.
 """
 
 from __future__ import annotations
@@ -65,7 +65,7 @@ class Table:
 
     `Table(octets)` takes a copy of octets that were a table's before, and raises `Refused` (1, 2) where they are none.
     `bytes(table)` hands out a copy. A table can be pickled and copied; the copy shares nothing with it. All calls may be
-    made from any thread.
+    made from any thread, but not from a signal handler: it would wait for the call that it interrupted.
     """
 
     def __init__(self, table: Octets) -> None:
@@ -135,10 +135,9 @@ class Table:
             self._views.pop(place, None)
 
 
-def _table(table: Table) -> Table:
-    if isinstance(table, Table):
-        return table
-    raise TypeError(f"table must be a Table, not {type(table).__name__}")
+def _need_table(table: Table) -> None:
+    if not isinstance(table, Table):
+        raise TypeError(f"table must be a Table, not {type(table).__name__}")
 
 
 def process(
@@ -150,21 +149,18 @@ def process(
     octets as received, up to its first empty line. `payload` is the header block of the decrypted payload's root part,
     if there is one. Raises `Refused` (3 to 8) and leaves the table as it was, or ends all keys handed out before.
     """
-    _table(table)
+    _need_table(table)
     seconds = number(receipt, "receipt")
     lent, lent_payload = octets(outer, "outer"), octets(payload, "payload")
     if not isinstance(gossip, Gossip):
         raise TypeError(f"gossip must be a Gossip, not {type(gossip).__name__}")
     with table._guard:
-        # The image goes first: an interrupt behind the call must not leave an old one.
-        image, table._image = table._image, None
+        table._image = None  # before the call: an interrupt behind it must not leave an old image
         answer: _library.Answer = _library.process(
             table._memory, len(table._memory), seconds, lent, len(lent), lent_payload, len(lent_payload), gossip
         )
         if answer.number == 0:
             table._release()
-        else:
-            table._image = image
     unless_refused(answer.number, answer.index)
 
 
@@ -174,7 +170,7 @@ def recommend(table: Table, recipients: Octets, mutual: bool = False, reply: boo
     `recipients` is a list of 1 to 100 addresses as in a To field. `mutual` is the sender's own preference, `reply` says
     that the mail answers an encrypted one. Raises `Refused` (10).
     """
-    _table(table)
+    _need_table(table)
     lent = octets(recipients, "recipients")
     choice = truth(mutual, "mutual"), truth(reply, "reply")
     with table._guard:
@@ -191,7 +187,7 @@ def target_key(
     It is a read-only view of a part of the table, and is released by the next write: copy it, as `bytes(key)`, to keep
     it longer. None where that recipient has no key, past the end of the list, and where `recommend` refuses.
     """
-    _table(table)
+    _need_table(table)
     lent = octets(recipients, "recipients")
     choice = truth(mutual, "mutual"), truth(reply, "reply")
     at = number(place, "place")
@@ -225,7 +221,7 @@ _ADDRESS, _DIRECT_KEY, _GOSSIP_KEY = 40, 296, 2_344
 
 def entries(table: Table) -> list[Entry]:
     """The entries of a table, by slot. Their keys are released by the next write."""
-    _table(table)
+    _need_table(table)
     with table._guard:
         found = (_entry(table, slot) for slot in range(table.slots))
         return [entry for entry in found if entry is not None]
