@@ -9,6 +9,7 @@ import pickle
 import random
 import sys
 import threading
+import time
 from concurrent.futures import ThreadPoolExecutor
 from contextlib import contextmanager
 
@@ -292,13 +293,61 @@ def test_readers_and_a_writer_at_once():
 
 
 def test_two_threads_lose_nothing(eager):
-    """Newcomers from both sides: two calls at once would take the same free slot."""
-    keys = {b"s%d@t%d" % (number, thread): b"%d-%d" % (thread, number) * 40 for thread in range(2) for number in range(128)}
-    mails = [[letter(sender, keys[sender], more=FILLER) for sender in keys if sender.endswith(b"t%d" % thread)] for thread in range(2)]
-    for _ in range(4):
+    """Newcomers from both sides, many in one mail: two calls at once would take the same free slots."""
+    sides = [[[b"s%d@m%d.t%d" % (number, mail, thread) for number in range(16)] for mail in range(8)] for thread in range(2)]
+    keys = {address: b"key of " + address for side in sides for mail in side for address in mail}
+
+    def sent(thread):
+        for sender, *others in sides[thread]:
+            outer = letter(sender, keys[sender], more=b"To: " + b", ".join(others) + b"\r\n")
+            process(table, RECEIPT, outer, gossip(*((address, keys[address]) for address in others)))
+
+    for _ in range(20):
         table = Table.new(256)
-        in_threads(lambda thread: [process(table, RECEIPT, mail) for mail in mails[thread]], 2)
-        assert {entry.address: bytes(entry.direct_key) for entry in entries(table)} == keys
+        in_threads(sent, 2)
+        assert {entry.address: bytes(entry.direct_key or entry.gossip_key) for entry in entries(table)} == keys
+
+
+def watch(monkeypatch, watcher):
+    """Let a watcher see the memory of the table as each call of the library begins and ends."""
+    for name in ("process", "recommend", "target_key"):
+
+        def watched(memory, *rest, call=getattr(_library, name)):
+            with watcher(memory):
+                return call(memory, *rest)
+
+        monkeypatch.setattr(_library, name, watched)
+
+
+def test_one_call_at_a_time_on_a_table(monkeypatch):
+    table, _ = table_with(b"a@x")
+    inside, met = [], []
+
+    @contextmanager
+    def watcher(memory):
+        inside.append(memory)
+        time.sleep(0.001)
+        met.append(len(inside))
+        yield
+        inside.pop()
+
+    watch(monkeypatch, watcher)
+    calls = [lambda: process(table, RECEIPT, letter(b"a@x", b"key")), lambda: recommend(table, b"a@x"), lambda: target_key(table, b"a@x")]
+    in_threads(lambda number: [calls[(number + turn) % 3]() for turn in range(20)])
+    assert met == [1] * 20 * THREADS
+
+
+def test_calls_on_two_tables_run_at_once(monkeypatch):
+    tables = [table_with(b"a@x")[0] for _ in range(2)]
+    both = threading.Barrier(2, timeout=20)
+
+    @contextmanager
+    def watcher(memory):
+        both.wait()
+        yield
+
+    watch(monkeypatch, watcher)
+    in_threads(lambda number: process(tables[number], RECEIPT, letter(b"a@x", b"key")), 2)
 
 
 @pytest.mark.parametrize(
