@@ -16,4 +16,4 @@ static int counted(void) {
     return failed != 0;
 }
 
-static const uint8_t *octets(const char *text) { return (const uint8_t *)text; }
+static inline const uint8_t *octets(const char *text) { return (const uint8_t *)text; }

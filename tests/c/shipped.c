@@ -5,19 +5,60 @@
 static const char field[] = "Autocrypt: addr=a@b.example; prefer-encrypt=mutual; keydata=\r\n Zm9v\r\n";
 static const char gossip[] = "Autocrypt-Gossip: addr=a@b.example; keydata=\r\n Zm9v\r\n";
 
-/* A used slot: an address, last seen at 1000, and a mutual direct key of three octets with the timestamp 1000. */
-static void put_entry(uint8_t *slot, const char *address, const char *key) {
-    memcpy(slot, "A1", 2);
-    slot[2] = (uint8_t)strlen(address);
-    slot[4] = 1 + 2 + 8;
-    slot[8] = slot[16] = 1000 & 255;
-    slot[9] = slot[17] = 1000 >> 8;
-    slot[32] = 3;
-    memcpy(slot + 40, address, strlen(address));
-    memcpy(slot + 296, key, 3);
+/* Mail from Bob, a reply of Carol's with gossip about Dave, and what follows for a mail to them. */
+static const char from_bob[] = "From: Bob <Bob@b.example>\nAutocrypt: addr=bob@b.example; prefer-encrypt=mutual; keydata=Zm9v\n\n";
+static const char from_carol[] = "From: carol@c.example\nTo: bob@b.example, dave@d.example\n\n";
+static const char payload[] = "Autocrypt-Gossip: addr=dave@d.example; keydata=YmFy\n\n";
+
+static const char to_bob[] = "bob@b.example", to_all[] = "Bob <bob@b.example>, x: dave@d.example;";
+
+static void talk(void) {
+    static uint8_t table[3 * VIENGHULAC_SLOT], before[sizeof table];
+    const uint8_t *bob = octets(to_bob), *all = octets(to_all);
+    const size_t one = sizeof to_bob - 1, both = sizeof to_all - 1;
+
+    vienghulac_advice advice = vienghulac_recommend(table, sizeof table, bob, one, true, false);
+    expect("no entry", advice.number == 0 && advice.index == 0 && advice.advice == VIENGHULAC_DISABLE);
+    vienghulac_answer a = vienghulac_process(table, sizeof table, 1000, octets(from_bob), sizeof from_bob - 1, NULL, 0,
+                                             VIENGHULAC_GOSSIP_UNSET);
+    expect("Bob's mail", a.number == 0 && a.index == 0);
+    advice = vienghulac_recommend(table, sizeof table, bob, one, true, false);
+    expect("both mutual", advice.number == 0 && advice.advice == VIENGHULAC_ENCRYPT);
+    advice = vienghulac_recommend(table, sizeof table, bob, one, false, false);
+    expect("not mutual", advice.advice == VIENGHULAC_AVAILABLE);
+    vienghulac_part part = vienghulac_target_key(table, sizeof table, bob, one, false, false, 0);
+    expect("Bob's key", part.length == 3 && memcmp(table + part.start, "foo", 3) == 0);
+
+    a = vienghulac_process(table, sizeof table, 2000, octets(from_carol), sizeof from_carol - 1, octets(payload),
+                           sizeof payload - 1, VIENGHULAC_GOSSIP_TAKE);
+    expect("Carol's mail", a.number == 0);
+    advice = vienghulac_recommend(table, sizeof table, all, both, true, false);
+    expect("a gossip key only", advice.advice == VIENGHULAC_DISCOURAGE);
+    advice = vienghulac_recommend(table, sizeof table, all, both, false, true);
+    expect("a reply", advice.advice == VIENGHULAC_ENCRYPT);
+    part = vienghulac_target_key(table, sizeof table, all, both, false, false, 1);
+    expect("Dave's key", part.length == 3 && memcmp(table + part.start, "bar", 3) == 0);
+    part = vienghulac_target_key(table, sizeof table, all, both, false, false, 2);
+    expect("past the list", part.start == 0 && part.length == 0);
+
+    memcpy(before, table, sizeof table);
+    a = vienghulac_process(table, sizeof table, 3000, octets("From: e@e\n"), 10, NULL, 0, VIENGHULAC_GOSSIP_SKIP);
+    expect("a full table", a.number == 8 && a.index == 0);
+    a = vienghulac_process(table, sizeof table, 253402300800, octets(from_bob), sizeof from_bob - 1, NULL, 0, 0);
+    expect("a receipt time above the limit", a.number == 3);
+    a = vienghulac_process(table, sizeof table, 3000, octets("no field"), 8, NULL, 0, 0);
+    expect("an unreadable block", a.number == 4);
+    a = vienghulac_process(table, sizeof table, 3000, NULL, 0, NULL, 0, 0);
+    expect("no sender", a.number == 5);
+    expect("refusals write nothing", memcmp(table, before, sizeof table) == 0);
+    advice = vienghulac_recommend(table, sizeof table, NULL, 0, true, true);
+    expect("no recipients", advice.number == 10 && advice.advice == VIENGHULAC_REFUSED);
+    advice = vienghulac_recommend(table, sizeof table - 1, bob, one, true, true);
+    expect("no whole slots", advice.number == 1 && advice.advice == VIENGHULAC_REFUSED);
 }
 
 int main(void) {
+    talk();
     const uint8_t *address = octets("A@b.Example"), *key = octets("foo");
     const size_t length = sizeof field - 1;
     uint8_t out[128], before[128];
@@ -37,82 +78,15 @@ int main(void) {
     r = vienghulac_write_gossip(address, 11, key, 3, out, sizeof out);
     expect("gossip", r.number == 0 && r.length == sizeof gossip - 1 && memcmp(out, gossip, r.length) == 0);
 
-    static uint8_t table[2 * 4392];
+    static uint8_t table[2 * VIENGHULAC_SLOT];
     vienghulac_answer a = vienghulac_check(table, sizeof table);
     expect("zeros are a table", a.number == 0 && a.index == 0);
     a = vienghulac_check(table, sizeof table - 1);
     expect("no whole slots", a.number == 1 && a.index == 0);
-    table[2 * 4392 - 1] = 1;
+    table[2 * VIENGHULAC_SLOT - 1] = 1;
     a = vienghulac_check(table, sizeof table);
     expect("a free slot with content", a.number == 2 && a.index == 1);
     a = vienghulac_check(NULL, 0);
     expect("no table", a.number == 1);
-
-    static uint8_t lent[2 * 4392], kept[2 * 4392];
-    const char *outer = "From: A <A@x.example>\r\nTo: b@x.example, c@x.example\r\n"
-                        "Autocrypt: addr=a@x.example; prefer-encrypt=mutual; keydata=Zm9v\r\n";
-    const char *payload = "Autocrypt-Gossip: addr=b@x.example; keydata=YmFy\r\n";
-    const char *more = "Autocrypt-Gossip: addr=b@x.example; keydata=YmFy\r\n"
-                       "Autocrypt-Gossip: addr=c@x.example; keydata=YmFy\r\n";
-    a = vienghulac_process(lent, sizeof lent, 1000, octets(outer), strlen(outer), octets(more), strlen(more), VIENGHULAC_GOSSIP_TAKE);
-    expect("three new addresses, two slots", a.number == 8 && a.index == 0 && memcmp(lent, kept, sizeof lent) == 0);
-    a = vienghulac_process(lent, sizeof lent, 1000, octets(outer), strlen(outer), octets(payload), strlen(payload), VIENGHULAC_GOSSIP_UNSET);
-    put_entry(kept, "a@x.example", "foo");
-    memcpy(kept + 4392, "A1", 2);
-    kept[4392 + 2] = 11;
-    kept[4392 + 4] = 4;
-    kept[4392 + 24] = 1000 & 255;
-    kept[4392 + 25] = 1000 >> 8;
-    kept[4392 + 34] = 3;
-    memcpy(kept + 4392 + 40, "b@x.example", 11);
-    memcpy(kept + 4392 + 2344, "bar", 3);
-    expect("sender and gossip", a.number == 0 && a.index == 0 && memcmp(lent, kept, sizeof lent) == 0);
-    a = vienghulac_process(lent, sizeof lent, 253402300800, octets(outer), strlen(outer), NULL, 0, VIENGHULAC_GOSSIP_TAKE);
-    expect("receipt time above the limit", a.number == 3);
-    a = vienghulac_process(lent, sizeof lent, 1000, octets(" x"), 2, NULL, 0, VIENGHULAC_GOSSIP_TAKE);
-    expect("no block", a.number == 4);
-    a = vienghulac_process(lent, sizeof lent, 1000, NULL, 0, NULL, 0, VIENGHULAC_GOSSIP_TAKE);
-    expect("no sender", a.number == 5);
-    const char *report = "From: a@x.example\r\nContent-Type: Multipart/Report; x=y\r\n";
-    a = vienghulac_process(lent, sizeof lent, 1000, octets(report), strlen(report), NULL, 0, VIENGHULAC_GOSSIP_TAKE);
-    expect("a report", a.number == 6);
-    a = vienghulac_process(lent, sizeof lent, 1000, octets(outer), strlen(outer), octets(" x"), 2, VIENGHULAC_GOSSIP_TAKE);
-    expect("no payload block", a.number == 7);
-    expect("refusals write nothing", memcmp(lent, kept, sizeof lent) == 0);
-    a = vienghulac_process(lent, sizeof lent, 1000, octets(outer), strlen(outer), octets(" x"), 2, VIENGHULAC_GOSSIP_SKIP);
-    expect("not looked at where it is skipped", a.number == 0 && memcmp(lent, kept, sizeof lent) == 0);
-    a = vienghulac_process(lent, 1, 1000, octets(outer), strlen(outer), NULL, 0, VIENGHULAC_GOSSIP_TAKE);
-    expect("a table first", a.number == 1);
-
-    const uint8_t *both = octets("Bob <B@x.example>, group: a@x.example;"), *other = octets("c@x.example");
-    memset(table, 0, sizeof table);
-    put_entry(table, "a@x.example", "foo");
-    put_entry(table + 4392, "b@x.example", "bar");
-    a = vienghulac_check(table, sizeof table);
-    expect("two entries", a.number == 0);
-    vienghulac_advice v = vienghulac_recommend(table, sizeof table, both, 38, true, false);
-    expect("both sides mutual", v.number == 0 && v.index == 0 && v.advice == 4);
-    v = vienghulac_recommend(table, sizeof table, both, 38, false, false);
-    expect("one side mutual", v.number == 0 && v.advice == 3);
-    v = vienghulac_recommend(table, sizeof table, other, 11, true, true);
-    expect("no entry", v.number == 0 && v.advice == 1);
-    v = vienghulac_recommend(table, sizeof table, NULL, 0, true, true);
-    expect("no recipients", v.number == 10 && v.index == 0 && v.advice == 0);
-    v = vienghulac_recommend(table, 1, both, 38, true, true);
-    expect("the table first", v.number == 1 && v.advice == 0);
-    vienghulac_part part = vienghulac_target_key(table, sizeof table, both, 38, false, false, 0);
-    expect("the first recipient's key", part.start == 4392 + 296 && part.length == 3 && memcmp(table + part.start, "bar", 3) == 0);
-    part = vienghulac_target_key(table, sizeof table, both, 38, false, false, 1);
-    expect("the second in its group", part.start == 296 && part.length == 3 && memcmp(table + part.start, "foo", 3) == 0);
-    part = vienghulac_target_key(table, sizeof table, both, 38, false, false, 2);
-    expect("past the list", part.start == 0 && part.length == 0);
-    part = vienghulac_target_key(table, sizeof table, both, 38, false, false, UINT64_MAX);
-    expect("far past the list", part.start == 0 && part.length == 0);
-    part = vienghulac_target_key(table, sizeof table, other, 11, false, false, 0);
-    expect("no key", part.start == 0 && part.length == 0);
-    table[5] = 1;
-    v = vienghulac_recommend(table, sizeof table, both, 38, true, true);
-    part = vienghulac_target_key(table, sizeof table, both, 38, true, true, 0);
-    expect("a broken slot", v.number == 2 && v.index == 0 && v.advice == 0 && part.start == 0 && part.length == 0);
     return counted();
 }

@@ -1,0 +1,45 @@
+"""Autocrypt Level 1 for mail programs: keys and preferences of correspondents, read from the mail they send.
+
+    from vienghulac import Table, process, recommend, target_key, autocrypt_field
+
+    table = Table.new()                                    # or Table.load("correspondents.table")
+    process(table, receipt, header_block)                  # once for each received mail
+    advice = recommend(table, b"bob@b.example")            # before sending one
+    key = target_key(table, b"bob@b.example")              # what to encrypt it to
+    field = autocrypt_field(b"alice@a.example", own_key)   # what to send with it
+    table.save("correspondents.table")
+
+Ownership: what a call is given is borrowed for that call and not kept. `bytes` are handed down as they are, a bytearray or
+a memoryview is copied first, so that no other thread can change it meanwhile. A key that comes back is a read-only view of
+a part of the table; the next write of the table releases it, and using it then raises ValueError.
+
+Errors: a wrong type raises TypeError, a number below 0 ValueError. All other input has an answer, or a refusal, which
+raises `Refused` with its number and leaves everything as it was.
+"""
+
+from ._arguments import Octets
+from ._fields import FieldValue, autocrypt_field, autocrypt_header, gossip_field, gossip_header
+from ._refusals import REFUSALS, Refused
+from ._table import SLOT, SLOTS, Advice, Entry, Gossip, Table, check, entries, process, recommend, target_key
+
+__all__ = [
+    "Advice",
+    "Entry",
+    "FieldValue",
+    "Gossip",
+    "Octets",
+    "REFUSALS",
+    "Refused",
+    "SLOT",
+    "SLOTS",
+    "Table",
+    "autocrypt_field",
+    "autocrypt_header",
+    "check",
+    "entries",
+    "gossip_field",
+    "gossip_header",
+    "process",
+    "recommend",
+    "target_key",
+]

@@ -1,0 +1,279 @@
+"""The command line: `vienghulac COMMAND ..`, or `python -m vienghulac COMMAND ..`.
+
+A refusal, or a file that cannot be read or written, is one line on standard error and exit status 1; bad usage is 2.
+"""
+
+from __future__ import annotations
+
+import argparse
+import base64
+import collections
+import io
+import json
+import os
+import sys
+import time
+from datetime import datetime, timezone
+from typing import Any, Optional, Sequence
+
+from ._fields import FieldValue, autocrypt_field, gossip_field
+from ._files import read_file, replace_file
+from ._mailbox import Mailbox, NoMailbox, open_mailbox
+from ._refusals import REFUSALS, Refused
+from ._table import Entry, Table, entries, process, recommend, target_key
+from ._usage import Command, parser
+
+_KEY_LIMIT = 2_048
+
+
+class _Failure(Exception):
+    """A failure that is one line on standard error."""
+
+
+def main(arguments: Optional[Sequence[str]] = None) -> int:
+    """Run one command and answer its exit status."""
+    if isinstance(sys.stdout, io.TextIOWrapper):
+        sys.stdout.reconfigure(errors="backslashreplace")  # a letter that the terminal lacks is no failure
+    options = parser(_COMMANDS).parse_args(arguments)
+    run: Command = options.run
+    try:
+        status = run(options)
+        sys.stdout.flush()
+        return status
+    except BrokenPipeError:
+        # whoever read the output has left; the interpreter must not try to flush it once more
+        os.dup2(os.open(os.devnull, os.O_WRONLY), sys.stdout.fileno())
+        return 1
+    except (_Failure, NoMailbox, Refused, OSError) as failure:
+        print(f"vienghulac: {failure}", file=sys.stderr)
+        return 1
+    except KeyboardInterrupt:
+        print("vienghulac: interrupted", file=sys.stderr)
+        return 130
+
+
+# import
+
+
+def _import(options: argparse.Namespace) -> int:
+    table = _load(options.table) if os.path.exists(options.table) else Table.new(options.slots)
+    mailboxes = [(name, open_mailbox(name)) for name in options.mailbox]
+    answers: collections.Counter[int] = collections.Counter()
+    for name, mailbox in mailboxes:
+        answers += _taken_in(table, name, mailbox, options.receipt)
+    table.save(options.table)
+    if options.json:
+        _print_json(
+            {
+                "messages": sum(answers.values()),
+                "answers": {str(number): answers[number] for number in sorted(answers)},
+                "slots": table.slots,
+                "used": len(entries(table)),
+            }
+        )
+        return 0
+    print(f"{sum(answers.values())} messages")
+    for number in sorted(answers):
+        print(f"{answers[number]:>8}  {number:>2}  {REFUSALS.get(number, 'done')}")
+    print(f"{options.table}: {_use(table)}")
+    return 0
+
+
+def _taken_in(table: Table, name: str, mailbox: Mailbox, receipt: Optional[int]) -> collections.Counter[int]:
+    """The answers to the messages of a mailbox, counted by number."""
+    answers: collections.Counter[int] = collections.Counter()
+    progress = _Progress(name, mailbox.size)
+    for message in mailbox.messages():
+        answers[_answer(table, message.receipt if receipt is None else receipt, message.block)] += 1
+        progress.show(message.read)
+    progress.end()
+    return answers
+
+
+def _answer(table: Table, receipt: int, block: bytes) -> int:
+    try:
+        process(table, receipt, block)
+    except Refused as refused:
+        return refused.number
+    return 0
+
+
+class _Progress:
+    """A bar on standard error, where that is a terminal; nothing elsewhere."""
+
+    _WIDTH = 40
+
+    def __init__(self, name: str, total: int) -> None:
+        self._name = name
+        self._total = max(total, 1)
+        self._shown = sys.stderr.isatty()
+        self._next = 0.0
+
+    def show(self, done: int) -> None:
+        if self._shown and time.monotonic() >= self._next:
+            self._next = time.monotonic() + 0.1
+            self._draw(done)
+
+    def end(self) -> None:
+        if self._shown:
+            self._draw(self._total)
+            print(file=sys.stderr)
+
+    def _draw(self, done: int) -> None:
+        full = self._WIDTH * done // self._total
+        bar = "#" * full + "." * (self._WIDTH - full)
+        print(f"\r[{bar}] {100 * done // self._total:>3}% {self._name}", end="", file=sys.stderr, flush=True)
+
+
+# list, check
+
+
+def _list(options: argparse.Namespace) -> int:
+    found = entries(_load(options.table))
+    if options.json:
+        _print_json([_described(entry) for entry in found])
+        return 0
+    rows = [("address", "last seen", "key of", "octets", "preference", "gossip of", "octets")]
+    rows += [_row(entry) for entry in found]
+    widths = [max(len(row[column]) for row in rows) for column in range(len(rows[0]))]
+    for row in rows:
+        print("  ".join(word.ljust(width) for word, width in zip(row, widths)).rstrip())
+    return 0
+
+
+def _row(entry: Entry) -> tuple[str, str, str, str, str, str, str]:
+    return (
+        _printable(entry.address),
+        _moment(entry.last_seen),
+        _moment(entry.autocrypt_timestamp),
+        str(_length(entry.direct_key)),
+        _preference(entry),
+        _moment(entry.gossip_timestamp),
+        str(_length(entry.gossip_key)),
+    )
+
+
+def _described(entry: Entry) -> dict[str, Any]:
+    return {
+        "slot": entry.slot,
+        "address": entry.address.decode("utf-8", "surrogateescape"),
+        "last_seen": entry.last_seen,
+        "autocrypt_timestamp": entry.autocrypt_timestamp,
+        "direct_key_length": _length(entry.direct_key),
+        "preference": _preference(entry),
+        "gossip_timestamp": entry.gossip_timestamp,
+        "gossip_key_length": _length(entry.gossip_key),
+    }
+
+
+def _preference(entry: Entry) -> str:
+    return "mutual" if entry.mutual else "none"
+
+
+def _length(key: Optional[memoryview]) -> int:
+    return 0 if key is None else len(key)
+
+
+def _moment(seconds: Optional[int]) -> str:
+    return "-" if seconds is None else datetime.fromtimestamp(seconds, timezone.utc).strftime("%Y-%m-%d %H:%M:%S")
+
+
+def _printable(address: bytes) -> str:
+    """An address for a terminal: a stranger chose it, so nothing in it may steer the terminal."""
+    text = address.decode("utf-8", "backslashreplace")
+    return "".join(letter if letter.isprintable() else ascii(letter)[1:-1] for letter in text)
+
+
+def _check(options: argparse.Namespace) -> int:
+    judged = [_judged(name, options.json) for name in options.file]
+    if options.json:
+        _print_json(judged)
+    return 0 if all(one["number"] == 0 for one in judged) else 1
+
+
+def _judged(name: str, quiet: bool) -> dict[str, Any]:
+    """What a file is, printed unless in JSON; the number is None where it cannot be read."""
+    try:
+        table = Table.load(name)
+    except Refused as refused:
+        print(f"vienghulac: {name}: {refused}", file=sys.stderr)
+        return {"file": name, "number": refused.number, "slot": refused.slot}
+    except OSError as failure:
+        print(f"vienghulac: {failure}", file=sys.stderr)
+        return {"file": name, "number": None, "slot": None}
+    if not quiet:
+        print(f"{name}: {_use(table)}")
+    return {"file": name, "number": 0, "slot": None}
+
+
+def _use(table: Table) -> str:
+    return f"{len(entries(table))} of {table.slots} slots used"
+
+
+# recommend, key
+
+
+def _recommend(options: argparse.Namespace) -> int:
+    advice = recommend(_load(options.table), os.fsencode(options.recipients), options.mutual, options.reply)
+    if options.json:
+        _print_json({"advice": advice.name.lower(), "number": advice.value})
+    else:
+        print(advice.name.lower())
+    return 0
+
+
+def _key(options: argparse.Namespace) -> int:
+    table, recipients = _load(options.table), os.fsencode(options.recipients)
+    recommend(table, recipients)  # a list that is refused has no keys, and its number says why
+    key = target_key(table, recipients, place=options.place)
+    if key is None:
+        raise _Failure(f"no key for the recipient at place {options.place}")
+    if options.json:
+        _print_json({"length": len(key), "key": base64.b64encode(key).decode("ascii")})
+    elif options.output is not None:
+        replace_file(options.output, bytes(key))
+    else:
+        sys.stdout.buffer.write(key)
+    return 0
+
+
+# field
+
+
+def _field(options: argparse.Namespace) -> int:
+    address, key = os.fsencode(options.address), _read_key(options.key)
+    field = gossip_field(address, key) if options.gossip else autocrypt_field(address, key, options.mutual)
+    if options.json:
+        value = FieldValue(field)
+        _print_json({"name": value.name, "value": str(value)})
+    else:
+        sys.stdout.buffer.write(field)
+    return 0
+
+
+def _read_key(name: str) -> bytes:
+    return sys.stdin.buffer.read(_KEY_LIMIT + 1) if name == "-" else read_file(name, _KEY_LIMIT)
+
+
+# what the commands share
+
+
+def _load(name: str) -> Table:
+    try:
+        return Table.load(name)
+    except Refused as refused:
+        raise _Failure(f"{name}: {refused}") from None
+
+
+def _print_json(value: object) -> None:
+    print(json.dumps(value))
+
+
+_COMMANDS = {
+    "import": _import,
+    "list": _list,
+    "recommend": _recommend,
+    "field": _field,
+    "key": _key,
+    "check": _check,
+}

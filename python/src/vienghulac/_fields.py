@@ -1,0 +1,79 @@
+"""Fields of outgoing mail: as octets, and as what Python's `EmailMessage` takes."""
+
+from __future__ import annotations
+
+import ctypes
+from email.policy import Policy
+from typing import Any, Callable
+
+from . import _library
+from ._arguments import Octets, octets, truth
+from ._refusals import unless_refused
+
+_ROOM = 3_200  # more than the longest field, 3,145 octets
+
+
+class FieldValue(str):
+    """The value of a field, with one blank before each piece of the key, that `EmailMessage` folds as the field stands.
+
+    It is what Python's mail package calls a header object: a message keeps it as it is, and asks it for its lines.
+    """
+
+    name: str
+    _field: bytes
+
+    def __new__(cls, field: bytes) -> FieldValue:
+        name, _, value = field.decode("ascii", "surrogateescape").partition(": ")
+        made = super().__new__(cls, value.replace("\r\n", ""))
+        made.name = name
+        made._field = field
+        return made
+
+    def __reduce__(self) -> tuple[type[FieldValue], tuple[bytes]]:
+        return type(self), (self._field,)
+
+    def fold(self, *, policy: Policy) -> str:
+        """The field's lines, each with the policy's line ending."""
+        return self._field.decode("ascii", "surrogateescape").replace("\r\n", policy.linesep)
+
+
+def autocrypt_field(address: Octets, key: Octets, mutual: bool = False) -> bytes:
+    """The Autocrypt field of an outgoing mail: name, value and CRLF at the end of each line.
+
+    `address` is the sender's, `key` holds the octets of the sender's key. Raises `Refused` (9, 11).
+    """
+    return _written(_library.write_autocrypt, address, key, truth(mutual, "mutual"))
+
+
+def gossip_field(address: Octets, key: Octets) -> bytes:
+    """The Autocrypt-Gossip field for one recipient, for the header block of a mail's encrypted payload.
+
+    Raises `Refused` (9, 11).
+    """
+    return _written(_library.write_gossip, address, key)
+
+
+def autocrypt_header(address: Octets, key: Octets, mutual: bool = False) -> tuple[str, FieldValue]:
+    """The same field as a name and a value: `message[name] = value` for an `EmailMessage`.
+
+    The message then writes just the lines of `autocrypt_field`, with its policy's line endings.
+    """
+    return _pair(autocrypt_field(address, key, mutual))
+
+
+def gossip_header(address: Octets, key: Octets) -> tuple[str, FieldValue]:
+    """The field of `gossip_field` as a name and a value."""
+    return _pair(gossip_field(address, key))
+
+
+def _pair(field: bytes) -> tuple[str, FieldValue]:
+    value = FieldValue(field)
+    return value.name, value
+
+
+def _written(write: Callable[..., Any], address: Octets, key: Octets, *preference: bool) -> bytes:
+    lent, lent_key = octets(address, "address"), octets(key, "key")
+    out = ctypes.create_string_buffer(_ROOM)
+    answer: _library.Written = write(lent, len(lent), lent_key, len(lent_key), *preference, out, len(out))
+    unless_refused(answer.number)
+    return out.raw[: answer.length]

@@ -1,0 +1,66 @@
+"""The shared library inside the package, declared as include/vienghulac.h declares it.
+
+Every pointer is declared as `c_char_p`: that takes a `bytes` object or an array of `c_char` and nothing else, keeps it
+alive for the call, and hands its memory down without a copy. A call runs without the interpreter's lock.
+"""
+
+from __future__ import annotations
+
+import ctypes
+from pathlib import Path
+from typing import Any, Callable
+
+
+class Answer(ctypes.Structure):
+    """vienghulac_answer"""
+
+    _fields_ = [("number", ctypes.c_uint32), ("index", ctypes.c_uint32)]
+    number: int
+    index: int
+
+
+class AdviceAnswer(ctypes.Structure):
+    """vienghulac_advice"""
+
+    _fields_ = [("number", ctypes.c_uint32), ("index", ctypes.c_uint32), ("advice", ctypes.c_uint32)]
+    number: int
+    index: int
+    advice: int
+
+
+class Part(ctypes.Structure):
+    """vienghulac_part"""
+
+    _fields_ = [("start", ctypes.c_uint64), ("length", ctypes.c_uint64)]
+    start: int
+    length: int
+
+
+class Written(ctypes.Structure):
+    """vienghulac_written"""
+
+    _fields_ = [("number", ctypes.c_uint64), ("length", ctypes.c_uint64)]
+    number: int
+    length: int
+
+
+_shared = ctypes.CDLL(str(Path(__file__).with_name("libvienghulac.so")))
+
+_BLOCK = (ctypes.c_char_p, ctypes.c_size_t)
+
+
+def _declared(name: str, answer: type[ctypes.Structure], *arguments: Any) -> Callable[..., Any]:
+    function = getattr(_shared, name)
+    function.restype = answer
+    function.argtypes = arguments
+    return function  # type: ignore[no-any-return]
+
+
+check = _declared("vienghulac_check", Answer, *_BLOCK)
+process = _declared("vienghulac_process", Answer, *_BLOCK, ctypes.c_uint64, *_BLOCK, *_BLOCK, ctypes.c_uint8)
+recommend = _declared("vienghulac_recommend", AdviceAnswer, *_BLOCK, *_BLOCK, ctypes.c_bool, ctypes.c_bool)
+target_key = _declared(
+    "vienghulac_target_key", Part, *_BLOCK, *_BLOCK, ctypes.c_bool, ctypes.c_bool, ctypes.c_uint64
+)
+write_autocrypt = _declared("vienghulac_write_autocrypt", Written, *_BLOCK, *_BLOCK, ctypes.c_bool, *_BLOCK)
+write_gossip = _declared("vienghulac_write_gossip", Written, *_BLOCK, *_BLOCK, *_BLOCK)

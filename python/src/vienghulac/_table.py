@@ -1,0 +1,247 @@
+"""The table, and the calls on it.
+
+A table's octets stand in memory that only this module knows. It is lent to one call at a time: every call holds the
+table's guard, and since a call runs without the interpreter's lock, the guard is what keeps other threads out, with such a
+lock or without one.
+
+A key is handed out as a part of an image of the table: the octets of the whole table as they were after the last write,
+made where the first key is asked for, and never written. A call that may write lets go of the image, and one that wrote
+releases every view of it, so that a late use raises. What a caller made out of a view, a slice say, keeps the old image
+alive, and goes on reading the key that it was made of.
+"""
+
+from __future__ import annotations
+
+import ctypes
+import enum
+import struct
+import threading
+import weakref
+from dataclasses import dataclass
+from typing import Optional
+
+from . import _library
+from ._arguments import Octets, number, octets, truth
+from ._files import FilePath, read_file, replace_file
+from ._refusals import unless_refused
+
+SLOT = 4_392
+"""The octets of a slot."""
+
+SLOTS = 256
+"""The largest number of slots of a table."""
+
+
+class Gossip(enum.IntEnum):
+    """Whether the gossip of a mail's payload is taken; unset takes."""
+
+    UNSET = 0
+    TAKE = 1
+    SKIP = 2
+
+
+class Advice(enum.IntEnum):
+    """Whether a new mail should be encrypted."""
+
+    DISABLE = 1
+    """It cannot be: someone has no key."""
+    DISCOURAGE = 2
+    """It can be, but someone may not be able to read it."""
+    AVAILABLE = 3
+    """It can be, if the user asks for it."""
+    ENCRYPT = 4
+    """It should be."""
+
+
+def check(table: Octets) -> None:
+    """Raise `Refused` (1, 2) unless these octets are a table."""
+    lent = octets(table, "table")
+    answer: _library.Answer = _library.check(lent, len(lent))
+    unless_refused(answer.number, answer.index)
+
+
+class Table:
+    """A table of correspondents, one a slot, that owns its octets.
+
+    `Table(octets)` takes a copy of octets that were a table's before, and raises `Refused` (1, 2) where they are none.
+    `bytes(table)` hands out a copy. A table can be pickled and copied; the copy shares nothing with it. All calls may be
+    made from any thread, but not from a signal handler: it would wait for the call that it interrupted.
+    """
+
+    def __init__(self, table: Octets) -> None:
+        lent = octets(table, "table")
+        check(lent)
+        self._guard = threading.Lock()
+        self._memory = ctypes.create_string_buffer(lent, len(lent))
+        self._image: Optional[bytes] = None
+        self._views: weakref.WeakValueDictionary[int, memoryview] = weakref.WeakValueDictionary()
+
+    @classmethod
+    def new(cls, slots: int = SLOTS) -> Table:
+        """A table of free slots. Raises `Refused` (1) unless there are 1 to 256."""
+        # a larger number is refused just as 257 is, without its memory
+        return cls(bytes(SLOT * min(number(slots, "slots"), SLOTS + 1)))
+
+    @classmethod
+    def load(cls, path: FilePath) -> Table:
+        """The table that a file holds. Raises `Refused` (1, 2) where it holds none; the file stays as it is."""
+        return cls(read_file(path, SLOTS * SLOT))
+
+    def save(self, path: FilePath) -> None:
+        """Store the table as a file.
+
+        The file is replaced whole: whatever happens, the path then leads to the old file or to the new one.
+        """
+        replace_file(path, bytes(self))
+
+    @property
+    def slots(self) -> int:
+        """The number of slots, free ones included."""
+        return len(self._memory) // SLOT
+
+    def __bytes__(self) -> bytes:
+        with self._guard:
+            return self._imaged()
+
+    def __repr__(self) -> str:
+        return f"<Table of {self.slots} slots>"
+
+    def __reduce__(self) -> tuple[type[Table], tuple[bytes]]:
+        return type(self), (bytes(self),)
+
+    # The rest is for the functions below, which hold the guard.
+
+    def _imaged(self) -> bytes:
+        """The octets of the table; the same object until the next write."""
+        if self._image is None:
+            self._image = self._memory.raw
+        return self._image
+
+    def _view(self, start: int, length: int) -> memoryview:
+        """A part of the table, to be released by the next write."""
+        view = memoryview(self._imaged())[start : start + length]
+        self._views[id(view)] = view
+        return view
+
+    def _release(self) -> None:
+        """The table was written: release the views of its old image."""
+        for place, view in list(self._views.items()):
+            try:
+                view.release()
+            except BufferError:
+                # Someone is reading the view's memory this moment; it is the old image, which no one writes. The view
+                # is released by a later write.
+                continue
+            self._views.pop(place, None)
+
+
+def _need_table(table: Table) -> None:
+    if not isinstance(table, Table):
+        raise TypeError(f"table must be a Table, not {type(table).__name__}")
+
+
+def process(
+    table: Table, receipt: int, outer: Octets, payload: Octets = b"", gossip: Gossip = Gossip.UNSET
+) -> None:
+    """Read one received mail and bring the table up to date.
+
+    `receipt` is when the mail was received, in seconds since 1970-01-01 UTC. `outer` is the mail's header block: its
+    octets as received, up to its first empty line. `payload` is the header block of the decrypted payload's root part,
+    if there is one. Raises `Refused` (3 to 8) and leaves the table as it was, or ends all keys handed out before.
+    """
+    _need_table(table)
+    seconds = number(receipt, "receipt")
+    lent, lent_payload = octets(outer, "outer"), octets(payload, "payload")
+    if not isinstance(gossip, Gossip):
+        raise TypeError(f"gossip must be a Gossip, not {type(gossip).__name__}")
+    with table._guard:
+        table._image = None  # before the call: an interrupt behind it must not leave an old image
+        answer: _library.Answer = _library.process(
+            table._memory, len(table._memory), seconds, lent, len(lent), lent_payload, len(lent_payload), gossip
+        )
+        if answer.number == 0:
+            table._release()
+    unless_refused(answer.number, answer.index)
+
+
+def recommend(table: Table, recipients: Octets, mutual: bool = False, reply: bool = False) -> Advice:
+    """Should a new mail to these people be encrypted?
+
+    `recipients` is a list of 1 to 100 addresses as in a To field. `mutual` is the sender's own preference, `reply` says
+    that the mail answers an encrypted one. Raises `Refused` (10).
+    """
+    _need_table(table)
+    lent = octets(recipients, "recipients")
+    choice = truth(mutual, "mutual"), truth(reply, "reply")
+    with table._guard:
+        answer: _library.AdviceAnswer = _library.recommend(table._memory, len(table._memory), lent, len(lent), *choice)
+    unless_refused(answer.number, answer.index)
+    return Advice(answer.advice)
+
+
+def target_key(
+    table: Table, recipients: Octets, mutual: bool = False, reply: bool = False, place: int = 0
+) -> Optional[memoryview]:
+    """The key to encrypt to for the recipient at a place of the list, counted from 0.
+
+    It is a read-only view of a part of the table, and is released by the next write: copy it, as `bytes(key)`, to keep
+    it longer. None where that recipient has no key, past the end of the list, and where `recommend` refuses.
+    """
+    _need_table(table)
+    lent = octets(recipients, "recipients")
+    choice = truth(mutual, "mutual"), truth(reply, "reply")
+    at = number(place, "place")
+    with table._guard:
+        part: _library.Part = _library.target_key(
+            table._memory, len(table._memory), lent, len(lent), *choice, at
+        )
+        return table._view(part.start, part.length) if part.length else None
+
+
+@dataclass(frozen=True)
+class Entry:
+    """What a used slot holds. None stands for what is absent; keys are views as those of `target_key`."""
+
+    slot: int
+    address: bytes
+    last_seen: Optional[int]
+    autocrypt_timestamp: Optional[int]
+    direct_key: Optional[memoryview]
+    mutual: bool
+    gossip_timestamp: Optional[int]
+    gossip_key: Optional[memoryview]
+
+
+# Octets 0 to 39 of a slot: mark, address length, bits, last seen, two timestamps, two key lengths.
+_NUMBERS = struct.Struct("<2sHB3xQQQHH4x")
+_USED = b"\x41\x31"
+_LAST_SEEN, _DIRECT, _GOSSIP, _MUTUAL = 1, 2, 4, 8
+_ADDRESS, _DIRECT_KEY, _GOSSIP_KEY = 40, 296, 2_344
+
+
+def entries(table: Table) -> list[Entry]:
+    """The entries of a table, by slot. Their keys are released by the next write."""
+    _need_table(table)
+    with table._guard:
+        found = (_entry(table, slot) for slot in range(table.slots))
+        return [entry for entry in found if entry is not None]
+
+
+def _entry(table: Table, slot: int) -> Optional[Entry]:
+    start = slot * SLOT
+    mark, address_length, bits, seen, autocrypt, gossip, direct_length, gossip_length = _NUMBERS.unpack_from(
+        table._imaged(), start
+    )
+    if mark != _USED:
+        return None
+    address = start + _ADDRESS
+    return Entry(
+        slot=slot,
+        address=table._imaged()[address : address + address_length],
+        last_seen=seen if bits & _LAST_SEEN else None,
+        autocrypt_timestamp=autocrypt if bits & _DIRECT else None,
+        direct_key=table._view(start + _DIRECT_KEY, direct_length) if bits & _DIRECT else None,
+        mutual=bool(bits & _MUTUAL),
+        gossip_timestamp=gossip if bits & _GOSSIP else None,
+        gossip_key=table._view(start + _GOSSIP_KEY, gossip_length) if bits & _GOSSIP else None,
+    )

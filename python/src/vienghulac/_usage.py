@@ -1,0 +1,126 @@
+"""The words on the command line, and the help for them."""
+
+from __future__ import annotations
+
+import argparse
+from importlib.metadata import version
+from typing import Callable, Mapping
+
+from ._table import SLOTS
+
+Command = Callable[[argparse.Namespace], int]
+
+_ABOUT = """\
+Autocrypt Level 1: keys and preferences of correspondents, read from the mail
+they send. They are kept in a table, a file of 1 to 256 slots of 4,392 octets,
+one a correspondent.
+
+A refusal, or a file that cannot be read or written, is one line on standard
+error and exit status 1; bad usage is 2."""
+
+_IMPORT = """\
+Read the messages of mailboxes, in their order, and bring a table up to date.
+
+A MAILBOX is an mbox file or a Maildir. A message's header block is taken from
+the file as it stands, octet by octet, up to and including the first empty line.
+In an mbox file a message follows a line that opens with 'From ' and begins the
+file or follows an empty line. In a Maildir it is a file of cur or new; older
+ones come first.
+
+The receipt time of a message is the date of its 'From ' line (UTC, unless the
+line names a zone) or, where that has none, the mbox file's time; in a Maildir
+it is the file's time of change. --receipt sets one time for all. Encrypted
+payloads are not read, so no gossip is taken.
+
+The table is written once, when all is read: a failure leaves the file as it
+was. Only one import into a table may run at a time. The messages are counted by
+answer, 0 for those taken and the number of the refusal for the others; a
+message that is refused changes nothing, and is no failure of the import."""
+
+_LIST = """\
+List the correspondents of a table: address, when last seen, date and length of
+the key from their own mail, preference, date and length of the key that others
+sent (gossip). Times are UTC. With --json times are seconds since 1970, and
+octets of an address that are not UTF-8 are lone surrogates."""
+
+_RECOMMEND = """\
+Say whether a new mail to the RECIPIENTS (one argument, a list as in a To field,
+of 1 to 100 addresses) should be encrypted:
+
+  disable      it cannot be, since someone has no key
+  discourage   it can be, but someone may not be able to read it
+  available    it can be, if the user asks for it
+  encrypt      it should be"""
+
+_KEY = """\
+Write the key to encrypt to, for one of the RECIPIENTS (one argument, a list as
+in a To field), to standard output or to a file. The octets are those that came
+in the mail; whether they are a good OpenPGP key, nobody has looked. Where that
+recipient has no key, the exit status is 1."""
+
+_FIELD = """\
+Write the Autocrypt field for a mail from ADDRESS, or with --gossip the
+Autocrypt-Gossip field for a recipient, to standard output, with CRLF at the end
+of each line. The key file holds 1 to 2,048 octets, an OpenPGP key without
+armor."""
+
+_CHECK = """\
+Say of each FILE whether it is a table. The exit status is 1 where one is not;
+the line on standard error then has the number of the refusal and, for number 2,
+the lowest slot that is neither free nor sound. No file is changed."""
+
+
+def _natural(text: str) -> int:
+    if text.isascii() and text.isdigit():
+        return int(text)
+    raise argparse.ArgumentTypeError(f"{text!r} is not a whole number from 0")
+
+
+def parser(commands: Mapping[str, Command]) -> argparse.ArgumentParser:
+    """The parser for commands under their names; it sets `run` to the command that was chosen."""
+    whole = argparse.ArgumentParser(
+        prog="vienghulac", description=_ABOUT, formatter_class=argparse.RawDescriptionHelpFormatter
+    )
+    whole.add_argument("--version", action="version", version=f"vienghulac {version('vienghulac')}")
+    places = whole.add_subparsers(title="commands", metavar="COMMAND", required=True)
+
+    def command(name: str, about: str, short: str) -> argparse.ArgumentParser:
+        made = places.add_parser(name, description=about, help=short, formatter_class=argparse.RawDescriptionHelpFormatter)
+        made.set_defaults(run=commands[name])
+        made.add_argument("--json", action="store_true", help="answer in JSON, for programs")
+        return made
+
+    def with_table(made: argparse.ArgumentParser) -> argparse.ArgumentParser:
+        made.add_argument("--table", metavar="FILE", required=True, help="the file that holds the table")
+        return made
+
+    made = with_table(command("import", _IMPORT, "read mailboxes and bring a table up to date"))
+    made.add_argument("mailbox", metavar="MAILBOX", nargs="+", help="an mbox file or a Maildir")
+    made.add_argument("--receipt", metavar="SECONDS", type=_natural, help="one receipt time for all messages, since 1970 UTC")
+    made.add_argument(
+        "--slots", metavar="N", type=_natural, default=SLOTS,
+        help="slots of the table where FILE does not exist yet, 1 to 256 (default: 256)",
+    )  # fmt: skip
+
+    with_table(command("list", _LIST, "list the correspondents of a table"))
+
+    made = with_table(command("recommend", _RECOMMEND, "say whether a new mail should be encrypted"))
+    made.add_argument("recipients", metavar="RECIPIENTS", help="a list of addresses, as in a To field")
+    made.add_argument("--mutual", action="store_true", help="the sender prefers encryption too")
+    made.add_argument("--reply", action="store_true", help="the mail answers an encrypted one")
+
+    made = command("field", _FIELD, "write a field to send")
+    made.add_argument("address", metavar="ADDRESS", help="the sender's address; with --gossip the recipient's")
+    made.add_argument("--key", metavar="FILE", required=True, help="the file that holds the key; - for standard input")
+    kind = made.add_mutually_exclusive_group()
+    kind.add_argument("--mutual", action="store_true", help="with prefer-encrypt=mutual")
+    kind.add_argument("--gossip", action="store_true", help="an Autocrypt-Gossip field")
+
+    made = with_table(command("key", _KEY, "write the key to encrypt to"))
+    made.add_argument("recipients", metavar="RECIPIENTS", help="a list of addresses, as in a To field")
+    made.add_argument("--place", metavar="N", type=_natural, default=0, help="which recipient, counted from 0 (default: 0)")
+    made.add_argument("--output", metavar="FILE", help="write the key to this file")
+
+    made = command("check", _CHECK, "say whether files are tables")
+    made.add_argument("file", metavar="FILE", nargs="+", help="a file")
+    return whole

@@ -1,0 +1,132 @@
+"""The calls, through the package, against the independent program; and what the package adds to them."""
+
+import os
+
+import pytest
+from cases import Cases
+from letters import RECEIPT, gossip, letter, table_with
+from paper import processing, recommending
+from paper import table as tables
+
+from vienghulac import (
+    REFUSALS, Advice, Gossip, Refused, Table, check, entries, process, recommend, target_key,
+)  # fmt: skip
+
+SEED = int(os.environ.get("VIENGHULAC_SEED", "1"))
+
+
+def answered(call, *arguments):
+    """The number and the slot of a refusal, 0 and 0 for none; and what the call answered."""
+    try:
+        return 0, 0, call(*arguments)
+    except Refused as refused:
+        return refused.number, refused.slot or 0, None
+
+
+def test_check_as_the_independent_program():
+    cases, seen = Cases(SEED), set()
+    for _ in range(1_000):
+        table = cases.table()
+        number, slot, _ = answered(check, table)
+        assert (number, slot) == tables.check(table)
+        seen.add(number)
+    assert seen == {0, 1, 2}
+
+
+def test_process_as_the_independent_program():
+    cases, seen = Cases(SEED), set()
+    for _ in range(4_000):
+        octets, receipt, outer, payload, setting = cases.processing()
+        if tables.check(octets) != (0, 0):
+            continue
+        table = Table(octets)
+        setting = Gossip(setting if setting in (1, 2) else 0)
+        number, slot, _ = answered(process, table, receipt, outer, payload, setting)
+        assert (number, slot, bytes(table)) == processing.process(octets, receipt, outer, payload, setting)
+        seen.add(number)
+    assert seen == {0, 3, 4, 5, 6, 7, 8}
+
+
+def test_recommend_and_target_key_as_the_independent_program():
+    cases, seen = Cases(SEED), set()
+    for _ in range(3_000):
+        octets, recipients, mutual, reply, place = cases.target()
+        if tables.check(octets) != (0, 0):
+            continue
+        table = Table(octets)
+        number, slot, advice = answered(recommend, table, recipients, mutual, reply)
+        assert (number, slot, advice or 0) == recommending.recommend(octets, recipients, mutual, reply)
+        start, length = recommending.target_key(octets, recipients, mutual, reply, place)
+        key = target_key(table, recipients, mutual, reply, place)
+        assert (b"" if key is None else bytes(key)) == octets[start : start + length]
+        seen.add(advice)
+    assert seen == {None, *Advice}
+
+
+def test_entries_as_the_independent_program():
+    cases = Cases(SEED)
+    for _ in range(300):
+        octets = cases.sound_table()
+        expected = [(slot, entry) for slot, entry in enumerate(tables.entries(octets)) if entry is not None]
+        found = entries(Table(octets))
+        assert len(found) == len(expected)
+        for mine, (slot, entry) in zip(found, expected):
+            assert (mine.slot, mine.address, mine.mutual) == (slot, entry.address, entry.mutual)
+            assert (mine.last_seen, mine.autocrypt_timestamp) == (entry.last_seen, entry.autocrypt_timestamp)
+            assert (mine.direct_key, mine.gossip_key) == (entry.direct_key, entry.gossip_key)
+            assert mine.gossip_timestamp == entry.gossip_timestamp
+
+
+def test_unset_gossip_is_taken_and_skip_skips():
+    key = b"gossiped"
+    outer, payload = letter(b"a@x", more=b"To: b@x\r\n"), gossip((b"b@x", key))
+    for setting, expected in ((Gossip.UNSET, key), (Gossip.TAKE, key), (Gossip.SKIP, None)):
+        table = Table.new(2)
+        process(table, RECEIPT, outer, payload, setting)
+        assert target_key(table, b"b@x") == expected
+
+
+def test_numbers_beyond_the_width_are_beyond_the_limit():
+    """ctypes would cut them down, to 0 here."""
+    table, _ = table_with(b"a@x")
+    with pytest.raises(Refused) as caught:
+        process(table, 2**64, letter(b"a@x"))
+    assert caught.value.number == 3
+    assert target_key(table, b"a@x", place=2**64) is None
+
+
+def test_limit_on_the_receipt_time():
+    table = Table.new(1)
+    process(table, 253_402_300_799, letter(b"a@x"))
+    assert entries(table)[0].last_seen == 253_402_300_799
+
+
+def test_no_key_is_none():
+    table, _ = table_with(b"a@x")
+    process(table, RECEIPT, letter(b"b@x"))
+    assert target_key(table, b"b@x") is None
+    assert target_key(table, b"c@x") is None
+    assert target_key(table, b"a@x", place=1) is None
+    assert target_key(table, b"no list") is None
+
+
+def test_new_tables():
+    assert Table.new().slots == 256
+    assert bytes(Table.new(1)) == bytes(4_392)
+    for slots in (0, 257, 2**70):
+        with pytest.raises(Refused) as caught:
+            Table.new(slots)
+        assert caught.value.number == 1
+
+
+def test_refusals_have_numbers_words_and_a_slot():
+    broken = bytes(4_392 * 3) + b"x" + bytes(4_391)
+    with pytest.raises(Refused) as caught:
+        Table(broken)
+    assert (caught.value.number, caught.value.slot) == (2, 3)
+    assert str(caught.value) == "refused 2: a slot is neither free nor sound (slot 3)"
+    with pytest.raises(Refused) as caught:
+        Table(b"")
+    assert (caught.value.number, caught.value.slot) == (1, None)
+    assert str(caught.value) == "refused 1: table length isn't 1 to 256 whole slots"
+    assert list(REFUSALS) == list(range(1, 13))

@@ -1,0 +1,290 @@
+"""The command line, as its users call it: answers on standard output, a refusal as one line on standard error and exit
+status 1, bad usage as 2."""
+
+import base64
+import json
+import os
+import pty
+import subprocess
+import sys
+from pathlib import Path
+
+import pytest
+from letters import EXAMPLES, RECEIPT, letter, table_with
+
+from vienghulac import Table, autocrypt_field, entries, gossip_field, process, target_key
+
+INBOX = EXAMPLES / "inbox.mbox"
+ALICE, BOB, CAROL, DAVE = "alice@autocrypt.example", "bob@autocrypt.example", "carol@autocrypt.example", "dave@mail.example"
+
+
+def run(*words, **more):
+    words = [os.fsencode(word) for word in words]
+    return subprocess.run([sys.executable, "-m", "vienghulac", *words], capture_output=True, **more)
+
+
+def answer(*words, **more):
+    """What a command that succeeds prints; it has nothing to complain about."""
+    done = run(*words, **more)
+    assert (done.returncode, done.stderr) == (0, b"")
+    return done.stdout
+
+
+def failure(status, *words, **more):
+    """The one line of a command that fails, which answers nothing."""
+    done = run(*words, **more)
+    assert (done.returncode, done.stdout) == (status, b"")
+    if status == 1:
+        assert done.stderr.startswith(b"vienghulac: ") and done.stderr.count(b"\n") == 1
+    return done.stderr.decode()
+
+
+@pytest.fixture
+def imported(table_file):
+    answer("import", INBOX, "--table", table_file)
+    return table_file
+
+
+def mailbox_of(path, letters):
+    path.write_bytes(b"".join(b"From a@x Sun Sep 13 12:26:40 2020\n" + block + b"body\n\n" for block in letters))
+    return path
+
+
+# import
+
+
+def test_import_of_the_example(table_file):
+    out = answer("import", INBOX, "--table", table_file).decode()
+    assert out.splitlines()[0] == "9 messages"
+    assert out.splitlines()[1].split() == ["7", "0", "done"]
+    assert [line.split()[:2] for line in out.splitlines()[2:4]] == [["1", "5"], ["1", "6"]]
+    assert out.splitlines()[4] == f"{table_file}: 4 of 256 slots used"
+    assert [entry.address.decode() for entry in entries(Table.load(table_file))] == [ALICE, BOB, CAROL, DAVE]
+
+
+def test_import_in_json_goes_on_where_it_stopped(table_file):
+    first = json.loads(answer("import", "--json", INBOX, "--table", table_file, "--slots", "8"))
+    assert first == {"messages": 9, "answers": {"0": 7, "5": 1, "6": 1}, "slots": 8, "used": 4}
+    before = table_file.read_bytes()
+    again = json.loads(answer("import", INBOX, INBOX, "--json", "--table", table_file, "--slots", "3"))
+    assert again == {"messages": 18, "answers": {"0": 14, "5": 2, "6": 2}, "slots": 8, "used": 4}
+    assert table_file.read_bytes() == before
+
+
+def test_import_of_ten_thousand_messages(table_file, tmp_path):
+    """Counts by answer, and each key as its last message brought it."""
+    letters, keys, expected = [], {}, {"0": 0, "4": 0, "5": 0, "6": 0, "8": 0}
+    for number in range(10_000):
+        sender, key = b"s%d@x" % (number % 150), b"%d " % number * 50
+        if number % 100 == 7:
+            letters.append(b"no field\n\n")
+            expected["4"] += 1
+        elif number % 100 == 8:
+            letters.append(letter(b"a@x, b@x", key))
+            expected["5"] += 1
+        elif number % 100 == 9:
+            letters.append(letter(sender, key, more=b"Content-Type: multipart/report\r\n"))
+            expected["6"] += 1
+        elif sender in keys or len(keys) < 120:
+            letters.append(letter(sender, key))
+            keys[sender] = key
+            expected["0"] += 1
+        else:
+            letters.append(letter(sender, key))
+            expected["8"] += 1
+    mailbox = mailbox_of(tmp_path / "mbox", letters)
+    summary = json.loads(answer("import", "--json", mailbox, "--table", table_file, "--slots", "120"))
+    assert summary == {"messages": 10_000, "answers": expected, "slots": 120, "used": 120}
+    assert {entry.address: bytes(entry.direct_key) for entry in entries(Table.load(table_file))} == keys
+
+
+def test_receipt_times(table_file, tmp_path):
+    mailbox = mailbox_of(tmp_path / "mbox", [letter(b"a@x")])
+    answer("import", mailbox, "--table", table_file)
+    assert entries(Table.load(table_file))[0].last_seen == 1_600_000_000
+    answer("import", mailbox, "--table", table_file, "--receipt", "1700000000")
+    assert entries(Table.load(table_file))[0].last_seen == 1_700_000_000
+    summary = json.loads(answer("import", "--json", mailbox, "--table", table_file, "--receipt", "253402300800"))
+    assert summary["answers"] == {"3": 1}
+
+
+def test_import_of_a_maildir(table_file, tmp_path):
+    for name in ("cur", "new", "tmp"):
+        (tmp_path / "mail" / name).mkdir(parents=True)
+    for number in range(20):
+        (tmp_path / "mail" / ("cur" if number % 2 else "new") / str(number)).write_bytes(letter(b"s%d@x" % number, b"key"))
+    summary = json.loads(answer("import", "--json", tmp_path / "mail", "--table", table_file))
+    assert summary == {"messages": 20, "answers": {"0": 20}, "slots": 256, "used": 20}
+
+
+def test_a_failed_import_changes_nothing(imported, tmp_path):
+    before = imported.read_bytes()
+    (tmp_path / "text").write_bytes(b"Dear diary\n")
+    for bad in (tmp_path / "text", tmp_path / "none", tmp_path):
+        assert str(bad) in failure(1, "import", INBOX, bad, "--table", imported)
+    assert imported.read_bytes() == before
+    failure(1, "import", tmp_path / "none", "--table", tmp_path / "new.table")
+    failure(1, "import", INBOX, "--table", tmp_path / "no" / "folder")
+    assert not (tmp_path / "new.table").exists()
+    assert "refused 1" in failure(1, "import", INBOX, "--table", tmp_path / "new.table", "--slots", "257")
+    imported.write_bytes(before[:-1])
+    assert failure(1, "import", INBOX, "--table", imported) == (
+        f"vienghulac: {imported}: refused 1: table length isn't 1 to 256 whole slots\n"
+    )
+    assert imported.read_bytes() == before[:-1]
+
+
+def test_a_bar_on_a_terminal_and_none_in_a_pipe(table_file):
+    command = [sys.executable, "-m", "vienghulac", "import", str(INBOX), "--table", str(table_file)]
+    master, slave = pty.openpty()
+    done = subprocess.run(command, stdout=subprocess.PIPE, stderr=slave)
+    os.close(slave)
+    shown = os.read(master, 10_000)
+    os.close(master)
+    assert done.returncode == 0 and b"[####" in shown and b"100% " in shown
+    assert b"%" not in done.stdout
+    assert run(*command[3:]).stderr == b""
+
+
+# list, recommend, key, field, check
+
+
+def test_list(imported):
+    lines = answer("list", "--table", imported).decode().splitlines()
+    assert lines[0].split() == ["address", "last", "seen", "key", "of", "octets", "preference", "gossip", "of", "octets"]
+    assert lines[1].split() == [ALICE, "2017-11-07", "13:56:25", "2017-11-07", "13:56:25", "1758", "mutual", "-", "0"]
+    assert lines[4].split() == [DAVE, "2017-11-09", "20:10:58", "-", "0", "none", "-", "0"]
+    assert len(lines) == 5
+    carol = json.loads(answer("list", "--json", "--table", imported))[2]
+    assert carol == {
+        "slot": 2, "address": CAROL, "last_seen": 1_513_792_770, "autocrypt_timestamp": 1_510_133_395,
+        "direct_key_length": 1_758, "preference": "none", "gossip_timestamp": None, "gossip_key_length": 0,
+    }  # fmt: skip
+
+
+@pytest.mark.parametrize("encoding", ["utf-8", "ascii"])
+def test_an_address_steers_no_terminal(table_file, encoding):
+    """Octets of 128 and above may be control characters (a stranger chose them), or no letters at all."""
+    table = Table.new(2)
+    process(table, RECEIPT, letter("é\u009b31m\u202e@x".encode(), b"key"))
+    process(table, RECEIPT, letter(b"\xff\xfe@x", b"key"))
+    table.save(table_file)
+    out = answer("list", "--table", table_file, env={**os.environ, "PYTHONIOENCODING": encoding}).decode(encoding)
+    assert out.splitlines()[1].startswith(("é" if encoding == "utf-8" else "\\xe9") + "\\x9b31m\\u202e@x ")
+    assert out.splitlines()[2].startswith("\\xff\\xfe@x ")
+    assert json.loads(answer("list", "--json", "--table", table_file))[1]["address"] == "\udcff\udcfe@x"
+
+
+def test_recommend(imported):
+    for words, advice in {
+        (DAVE,): "disable",
+        (CAROL,): "discourage",
+        (ALICE, "--mutual"): "encrypt",
+        (f"{ALICE}, Bob <{BOB}>",): "available",
+        (CAROL, "--reply"): "encrypt",
+    }.items():
+        assert answer("recommend", "--table", imported, *words).decode() == advice + "\n"
+    assert json.loads(answer("recommend", "--json", "--table", imported, BOB)) == {"advice": "available", "number": 3}
+    assert "refused 10" in failure(1, "recommend", "--table", imported, "not a list")
+
+
+def test_key(imported, tmp_path):
+    key = bytes(target_key(Table.load(imported), BOB.encode()))
+    assert answer("key", "--table", imported, BOB) == key
+    assert answer("key", "--table", imported, f"{ALICE}, {BOB}", "--place", "1") == key
+    assert answer("key", "--table", imported, BOB, "--output", tmp_path / "bob.key") == b""
+    assert (tmp_path / "bob.key").read_bytes() == key
+    described = json.loads(answer("key", "--json", "--table", imported, BOB))
+    assert described == {"length": len(key), "key": base64.b64encode(key).decode()}
+    assert "no key" in failure(1, "key", "--table", imported, DAVE)
+    assert "no key" in failure(1, "key", "--table", imported, BOB, "--place", "1")
+    assert "refused 10" in failure(1, "key", "--table", imported, "not a list")
+
+
+def test_field(tmp_path):
+    key = EXAMPLES / "alice.key"
+    octets = key.read_bytes()
+    assert answer("field", ALICE, "--key", key, "--mutual") == autocrypt_field(ALICE.encode(), octets, True)
+    assert answer("field", ALICE, "--key", key) == autocrypt_field(ALICE.encode(), octets)
+    assert answer("field", ALICE, "--key", "-", "--gossip", input=octets) == gossip_field(ALICE.encode(), octets)
+    assert answer("field", b"\xc3\x89@X", "--key", key).startswith(b"Autocrypt: addr=\xc3\x89@x;")
+    described = json.loads(answer("field", "a@x", "--key", "-", "--json", input=b"foo"))
+    assert described == {"name": "Autocrypt", "value": "addr=a@x; keydata= Zm9v"}
+    assert "refused 9" in failure(1, "field", "Alice <a@x>", "--key", key)
+    assert "refused 11" in failure(1, "field", ALICE, "--key", INBOX)
+    assert "refused 11" in failure(1, "field", ALICE, "--key", "-", input=b"")
+    assert "none" in failure(1, "field", ALICE, "--key", tmp_path / "none")
+
+
+def test_check(imported, tmp_path):
+    broken = tmp_path / "broken"
+    broken.write_bytes(imported.read_bytes()[:4_392] + b"x" + bytes(4_391))
+    assert answer("check", imported).decode() == f"{imported}: 4 of 256 slots used\n"
+    done = run("check", imported, broken, INBOX)
+    assert done.returncode == 1
+    assert done.stdout.decode() == f"{imported}: 4 of 256 slots used\n"
+    assert done.stderr.decode().splitlines() == [
+        f"vienghulac: {broken}: refused 2: a slot is neither free nor sound (slot 1)",
+        f"vienghulac: {INBOX}: refused 1: table length isn't 1 to 256 whole slots",
+    ]
+    done = run("check", "--json", broken, tmp_path / "none", imported)
+    assert done.returncode == 1 and done.stderr.count(b"\n") == 2
+    assert json.loads(done.stdout) == [
+        {"file": str(broken), "number": 2, "slot": 1},
+        {"file": str(tmp_path / "none"), "number": None, "slot": None},
+        {"file": str(imported), "number": 0, "slot": None},
+    ]
+    failure(1, "check", tmp_path / "none")
+
+
+# usage
+
+
+@pytest.mark.parametrize(
+    "words",
+    [
+        (), ("send",), ("list",), ("import", "--table", "t"), ("import", "mbox"), ("recommend", "--table", "t"),
+        ("key", "--table", "t", "a@x", "--place", "-1"), ("key", "--table", "t", "a@x", "--place", "one"),
+        ("import", "mbox", "--table", "t", "--receipt", "yesterday"), ("field", "a@x"), ("check",), ("list", "--table", "t", "more"),
+        ("field", "a@x", "--key", "k", "--mutual", "--gossip"), ("list", "--table", "t", "--xml"),
+    ],
+)  # fmt: skip
+def test_bad_usage(words):
+    assert "usage: vienghulac" in failure(2, *words)
+
+
+@pytest.mark.parametrize("command", ["import", "list", "recommend", "field", "key", "check"])
+def test_help(command):
+    text = answer(command, "--help").decode()
+    assert f"usage: vienghulac {command}" in text and "--json" in text
+    assert all(len(line) <= 80 for line in text.splitlines())
+    assert command in answer("--help").decode()
+
+
+def test_help_of_import_tells_where_blocks_and_times_come_from():
+    text = " ".join(answer("import", "--help").decode().split())
+    for words in ("up to and including the first empty line", "'From ' line", "file's time", "--receipt", "no gossip is taken"):
+        assert words in text
+
+
+def test_the_console_script_is_the_same():
+    script = Path(sys.executable).with_name("vienghulac")
+    assert subprocess.run([script, "--help"], capture_output=True, check=True).stdout == answer("--help")
+    assert answer("--version").startswith(b"vienghulac 0.")
+
+
+def test_a_reader_that_leaves_early(imported):
+    """`vienghulac list | head -0` is no reason for a traceback."""
+    words = [sys.executable, "-m", "vienghulac", "list", "--table", str(imported)]
+    reading, writing = os.pipe()
+    os.close(reading)
+    done = subprocess.run(words, stdout=writing, stderr=subprocess.PIPE)
+    os.close(writing)
+    assert (done.returncode, done.stderr) == (1, b"")
+
+
+def test_a_table_whose_owner_is_another_program(table_file):
+    """What the package saved, the command reads, and the other way round."""
+    table, (key,) = table_with(b"a@x")
+    table.save(table_file)
+    assert answer("key", "--table", table_file, "a@x") == key

@@ -1,0 +1,387 @@
+"""Ownership: blocks are borrowed for one call, and keys end with the next write. What is lent, changed, freed and
+handed out by many threads at once must come out as if each call had been alone."""
+
+import asyncio
+import copy
+import gc
+import itertools
+import pickle
+import random
+import sys
+import threading
+import time
+from concurrent.futures import ThreadPoolExecutor
+from contextlib import contextmanager
+
+import pytest
+from letters import RECEIPT, gossip, letter, table_with
+
+from vienghulac import Refused, Table, _library, entries, process, recommend, target_key
+
+THREADS = 4
+
+
+@contextmanager
+def meanwhile(action):
+    """Run an action over and over in another thread."""
+    over = threading.Event()
+
+    def loop():
+        while not over.is_set():
+            action()
+
+    thread = threading.Thread(target=loop)
+    thread.start()
+    try:
+        yield
+    finally:
+        over.set()
+        thread.join()
+
+
+def allocate_over(sizes=(200, 400, 1_000, 3_000)):
+    """Takes memory as it was just freed, and fills it with mail from someone else."""
+    other = letter(b"mallory@m.example", b"M" * 100)
+    return [(other * (size // len(other) + 1))[:size] for size in sizes for _ in range(8)]
+
+
+def in_threads(work, count=THREADS):
+    with ThreadPoolExecutor(count) as pool:
+        return [future.result() for future in [pool.submit(work, number) for number in range(count)]]
+
+
+@pytest.fixture
+def eager():
+    """Another thread runs as soon as a call lets it."""
+    interval = sys.getswitchinterval()
+    sys.setswitchinterval(1e-6)
+    yield
+    sys.setswitchinterval(interval)
+
+
+# So much in a block that a call takes its time.
+FILLER = b"".join(b"X-Filler: %08d\r\n" % number for number in range(3_000))
+
+
+# Blocks: made, handed down and freed at once.
+
+
+def test_a_hundred_thousand_messages_keep_their_keys():
+    """Each entry's key is compared with the message it came from, the block being freed as the call returns."""
+
+    def work(thread):
+        chance = random.Random(thread)
+        table, senders = Table.new(8), [b"s%d@t%d.example" % (number, thread) for number in range(8)]
+        for count in range(100_000 // THREADS):
+            sender, key = senders[count % len(senders)], chance.randbytes(chance.randint(1, 400))
+            process(table, RECEIPT, letter(sender, key))
+            assert target_key(table, sender) == key
+        return count + 1
+
+    with meanwhile(allocate_over):
+        assert sum(in_threads(work)) == 100_000
+
+
+def test_gossip_of_freed_payloads():
+    table, keys = Table.new(4), {}
+    chance = random.Random(1)
+    with meanwhile(allocate_over):
+        for count in range(2_000):
+            keys = {b"b@x": chance.randbytes(300), b"c@x": chance.randbytes(300)}
+            process(table, RECEIPT, letter(b"a@x", more=b"To: b@x, c@x\r\n"), gossip(*keys.items()))
+            assert {e.address: e.gossip_key for e in entries(table) if e.gossip_key is not None} == keys
+
+
+def test_freed_blocks_in_asyncio():
+    """Tasks that hand temporary blocks to worker threads, all into one table."""
+    table, last = Table.new(64), {}
+
+    async def send(number):
+        sender = b"s%d@x" % number
+        for turn in range(40):
+            key = b"%d of %d " % (turn, number) * 20
+            await asyncio.to_thread(process, table, RECEIPT, letter(sender, key))
+            last[sender] = key
+
+    async def everyone():
+        await asyncio.gather(*(send(number) for number in range(64)))
+
+    with meanwhile(allocate_over):
+        asyncio.run(everyone())
+    assert {entry.address: bytes(entry.direct_key) for entry in entries(table)} == last
+
+
+# Blocks: mutable ones are copied, so a change during the call changes nothing.
+
+
+@pytest.mark.parametrize("lent", [lambda buffer: buffer, memoryview, lambda buffer: memoryview(buffer).toreadonly()])
+def test_a_buffer_that_changes_during_the_call(lent, eager):
+    """What arrives is one of the two mails that were in the buffer by turns, never one's sender with the other's key."""
+    senders = [(b"a@x", b"A" * 300), (b"b@x", b"B" * 300)]
+    mails = [letter(sender, key, more=FILLER) for sender, key in senders]
+    by_turns = itertools.cycle(mails)
+    buffer = bytearray(mails[0])
+    block = lent(buffer)
+
+    def change():
+        buffer[:] = next(by_turns)
+
+    with meanwhile(change):
+        for _ in range(1_000):
+            table = Table.new(1)
+            process(table, RECEIPT, block)
+            (entry,) = entries(table)
+            assert (entry.address, entry.direct_key) in senders
+
+
+def test_a_table_takes_a_copy_of_its_octets():
+    octets = bytearray(4_392)
+    table = Table(octets)
+    octets[:] = b"x" * len(octets)
+    octets.clear()
+    process(table, RECEIPT, letter(b"a@x"))
+    assert len(entries(table)) == 1
+
+
+# Keys: views that the next write releases.
+
+
+def late_uses(view):
+    return [
+        lambda: bytes(view), lambda: view[0], lambda: view[1:], lambda: len(view), lambda: view.tobytes(), lambda: list(view),
+        lambda: hash(view), lambda: memoryview(view), lambda: view.hex(), lambda: view.obj,
+    ]  # fmt: skip
+
+
+def test_late_use_of_a_key_raises():
+    table, (key,) = table_with(b"a@x")
+    view, entry = target_key(table, b"a@x"), entries(table)[0]
+    assert view == key and entry.direct_key == key
+    process(table, RECEIPT, letter(b"b@x"))
+    for late in (view, entry.direct_key):
+        for use in late_uses(late):
+            with pytest.raises(ValueError):
+                use()
+    assert target_key(table, b"a@x") == key
+
+
+def test_every_key_handed_out_is_released():
+    table, keys = table_with(b"a@x", b"b@x", b"c@x")
+    views = [target_key(table, b"a@x, b@x, c@x", place=place) for place in (0, 1, 2, 0, 1, 2)]
+    assert views == keys * 2
+    process(table, RECEIPT, letter(b"a@x", b"new"))
+    for view in views:
+        with pytest.raises(ValueError):
+            bytes(view)
+
+
+def test_a_key_goes_on_while_only_reads_happen(table_file):
+    table, (key, _) = table_with(b"a@x", b"b@x")
+    view = target_key(table, b"a@x")
+    recommend(table, b"a@x, b@x")
+    target_key(table, b"b@x")
+    entries(table)
+    table.save(table_file)
+    pickle.dumps(table)
+    copy.copy(table)
+    bytes(table)
+    in_threads(lambda _: [recommend(table, b"a@x") for _ in range(200)])
+    assert view == key
+
+
+def test_a_refused_write_ends_no_key():
+    table, (key,) = table_with(b"a@x", slots=1)
+    view = target_key(table, b"a@x")
+    with pytest.raises(Refused):
+        process(table, RECEIPT, letter(b"b@x", b"no room"))
+    assert view == key
+
+
+def test_an_interrupt_behind_the_call_leaves_no_old_image(monkeypatch):
+    """The table is written, and the call is broken off before it has come back."""
+    table, (key,) = table_with(b"a@x")
+    view = target_key(table, b"a@x")
+    really = _library.process
+
+    def broken_off(*arguments):
+        really(*arguments)
+        raise KeyboardInterrupt
+
+    monkeypatch.setattr(_library, "process", broken_off)
+    with pytest.raises(KeyboardInterrupt):
+        process(table, RECEIPT, letter(b"a@x", b"new"))
+    monkeypatch.undo()
+    assert view == key
+    assert target_key(table, b"a@x") == b"new"
+    process(table, RECEIPT, letter(b"a@x", b"newer"))
+    with pytest.raises(ValueError):
+        bytes(view)
+
+
+def test_what_was_made_out_of_a_view_keeps_the_old_key():
+    table, (key,) = table_with(b"a@x")
+    view = target_key(table, b"a@x")
+    part, other = view[10:20], memoryview(view)
+    for turn in range(50):
+        process(table, RECEIPT, letter(b"a@x", b"%d" % turn * 50))
+        allocate_over()
+        assert part == key[10:20] and other == key
+
+
+def test_a_view_that_is_being_read_ends_later():
+    table, (key,) = table_with(b"a@x")
+    view = target_key(table, b"a@x")
+    reader = pickle.PickleBuffer(view)
+    process(table, RECEIPT, letter(b"a@x", b"second"))
+    assert bytes(reader) == key
+    reader.release()
+    process(table, RECEIPT, letter(b"a@x", b"third"))
+    with pytest.raises(ValueError):
+        bytes(view)
+
+
+def test_a_view_that_its_holder_released():
+    table, (key,) = table_with(b"a@x")
+    with target_key(table, b"a@x") as view:
+        assert view == key
+    assert target_key(table, b"a@x") == key
+    process(table, RECEIPT, letter(b"a@x", b"next"))
+    assert target_key(table, b"a@x") == b"next"
+
+
+def test_no_one_writes_through_a_view():
+    table, _ = table_with(b"a@x")
+    view = target_key(table, b"a@x")
+    assert view.readonly and isinstance(view.obj, bytes)
+    with pytest.raises(TypeError):
+        view[0] = 1
+
+
+def test_views_are_not_kept():
+    """A view that its holder dropped is not held by the table."""
+    table, _ = table_with(b"a@x")
+    for _ in range(1_000):
+        target_key(table, b"a@x")
+    gc.collect()
+    assert len(table._views) == 0
+
+
+def test_readers_and_a_writer_at_once():
+    """A reader meets a key that was sent, or an error; never other octets."""
+    senders = [b"s%d@x" % number for number in range(4)]
+    sent = {sender: {b"%d of %s " % (turn, sender) * 60 for turn in range(50)} for sender in senders}
+    table = Table.new(4)
+    for sender in senders:
+        process(table, RECEIPT, letter(sender, min(sent[sender])))
+    letters = itertools.cycle([letter(sender, key) for sender in senders for key in sorted(sent[sender])])
+
+    def read(_):
+        for count in range(3_000):
+            sender = senders[count % 4]
+            view = target_key(table, sender)
+            try:
+                octets = bytes(view)
+            except ValueError:
+                continue
+            assert octets in sent[sender]
+
+    with meanwhile(lambda: process(table, RECEIPT, next(letters))):
+        in_threads(read, 2)
+
+
+# Tables.
+
+
+def test_two_threads_lose_nothing(eager):
+    """Newcomers from both sides, many in one mail: two calls at once would take the same free slots."""
+    sides = [[[b"s%d@m%d.t%d" % (number, mail, thread) for number in range(16)] for mail in range(8)] for thread in range(2)]
+    keys = {address: b"key of " + address for side in sides for mail in side for address in mail}
+
+    def sent(thread):
+        for sender, *others in sides[thread]:
+            outer = letter(sender, keys[sender], more=b"To: " + b", ".join(others) + b"\r\n")
+            process(table, RECEIPT, outer, gossip(*((address, keys[address]) for address in others)))
+
+    for _ in range(20):
+        table = Table.new(256)
+        in_threads(sent, 2)
+        assert {entry.address: bytes(entry.direct_key or entry.gossip_key) for entry in entries(table)} == keys
+
+
+def watch(monkeypatch, watcher):
+    """Let a watcher see the memory of the table as each call of the library begins and ends."""
+    for name in ("process", "recommend", "target_key"):
+
+        def watched(memory, *rest, call=getattr(_library, name)):
+            with watcher(memory):
+                return call(memory, *rest)
+
+        monkeypatch.setattr(_library, name, watched)
+
+
+def test_one_call_at_a_time_on_a_table(monkeypatch):
+    table, _ = table_with(b"a@x")
+    inside, met = [], []
+
+    @contextmanager
+    def watcher(memory):
+        inside.append(memory)
+        time.sleep(0.001)
+        met.append(len(inside))
+        yield
+        inside.pop()
+
+    watch(monkeypatch, watcher)
+    calls = [lambda: process(table, RECEIPT, letter(b"a@x", b"key")), lambda: recommend(table, b"a@x"), lambda: target_key(table, b"a@x")]
+    in_threads(lambda number: [calls[(number + turn) % 3]() for turn in range(20)])
+    assert met == [1] * 20 * THREADS
+
+
+def test_calls_on_two_tables_run_at_once(monkeypatch):
+    tables = [table_with(b"a@x")[0] for _ in range(2)]
+    both = threading.Barrier(2, timeout=20)
+
+    @contextmanager
+    def watcher(memory):
+        both.wait()
+        yield
+
+    watch(monkeypatch, watcher)
+    in_threads(lambda number: process(tables[number], RECEIPT, letter(b"a@x", b"key")), 2)
+
+
+@pytest.mark.parametrize(
+    "copied", [copy.copy, copy.deepcopy, lambda table: pickle.loads(pickle.dumps(table)), lambda table: Table(bytes(table))]
+)
+def test_a_copy_shares_nothing(copied):
+    table, (key,) = table_with(b"a@x")
+    view = target_key(table, b"a@x")
+    other = copied(table)
+    assert bytes(other) == bytes(table)
+    process(other, RECEIPT, letter(b"a@x", b"other"))
+    assert view == key and target_key(table, b"a@x") == key
+    other_view = target_key(other, b"a@x")
+    process(table, RECEIPT, letter(b"a@x", b"this"))
+    assert other_view == b"other"
+    with pytest.raises(ValueError):
+        bytes(view)
+
+
+def test_a_dropped_table_leaves_its_views():
+    table, (key,) = table_with(b"a@x")
+    view, found = target_key(table, b"a@x"), entries(table)
+    del table
+    gc.collect()
+    allocate_over()
+    assert view == key and found[0].direct_key == key
+
+
+def test_tables_pickled_and_dropped_while_written():
+    table, keys = table_with(b"a@x")
+    keys += [b"one" * 200, b"two" * 200]
+    letters = itertools.cycle([letter(b"a@x", key) for key in keys])
+    with meanwhile(lambda: process(table, RECEIPT, next(letters))):
+        for _ in range(500):
+            other = pickle.loads(pickle.dumps(table))
+            assert bytes(target_key(other, b"a@x")) in keys
+            del other

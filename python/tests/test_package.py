@@ -1,0 +1,114 @@
+"""The wheel as a package: what it holds, where it runs, and that it installs with neither compiler nor network."""
+
+import importlib.metadata
+import inspect
+import platform
+import re
+import subprocess
+import sys
+import zipfile
+from pathlib import Path
+
+from letters import ROOT
+
+import vienghulac
+
+PACKAGE = Path(vienghulac.__file__).parent
+LIBRARY = PACKAGE / "libvienghulac.so"
+WHEELS = list((ROOT / "build" / "wheel").glob("*.whl"))
+MYPY = ["/usr/bin/mypy", "--strict", "--no-incremental"]
+
+
+def output(*words, **more):
+    return subprocess.run(words, capture_output=True, text=True, check=True, **more).stdout
+
+
+def test_the_tests_run_on_what_is_installed():
+    assert PACKAGE.is_relative_to(sys.prefix) and sys.prefix != sys.base_prefix
+    assert not PACKAGE.is_relative_to(ROOT / "python")
+
+
+def test_everything_public_is_listed_and_documented():
+    assert vienghulac.__all__ == sorted(vienghulac.__all__)
+    public = {name for name in vars(vienghulac) if not name.startswith("_")}
+    assert public == set(vienghulac.__all__)
+    assert vienghulac.__doc__
+    for name in vienghulac.__all__:
+        thing = getattr(vienghulac, name)
+        if inspect.isclass(thing) or inspect.isfunction(thing):
+            assert thing.__doc__, name
+    for method in (vienghulac.Table.new, vienghulac.Table.load, vienghulac.Table.save):
+        assert method.__doc__
+
+
+def test_the_words_of_a_version():
+    declared = re.search(r'^version = "(.*)"$', (ROOT / "python" / "pyproject.toml").read_text(), re.MULTILINE)
+    assert importlib.metadata.version("vienghulac") == declared.group(1)
+    assert importlib.metadata.requires("vienghulac") is None
+
+
+def test_the_wheel_is_for_any_python_on_this_machine():
+    (wheel,) = WHEELS
+    tag = f"py3-none-manylinux_2_17_{platform.machine()}"
+    assert wheel.name == f"vienghulac-{importlib.metadata.version('vienghulac')}-{tag}.whl"
+    with zipfile.ZipFile(wheel) as archive:
+        (described,) = [name for name in archive.namelist() if name.endswith(".dist-info/WHEEL")]
+        text = archive.read(described).decode()
+        assert f"Tag: {tag}\n" in text and "Root-Is-Purelib: false\n" in text
+        assert {"vienghulac/py.typed", "vienghulac/libvienghulac.so"} <= set(archive.namelist())
+        assert archive.read("vienghulac/libvienghulac.so") == (ROOT / "build" / "libvienghulac.so").read_bytes()
+
+
+def test_the_library_needs_no_more_than_the_tag_says():
+    """Of the C library alone, and of no version above 2.17."""
+    dynamic = output("readelf", "--dynamic", "--wide", LIBRARY)
+    assert set(re.findall(r"\(NEEDED\).*\[(.*)\]", dynamic)) <= {"libc.so.6"}
+    versions = re.findall(r"GLIBC_([0-9.]+)", output("readelf", "--version-info", "--wide", LIBRARY))
+    assert all(tuple(map(int, version.split("."))) <= (2, 17) for version in versions)
+
+
+def test_the_library_has_the_functions_of_the_header():
+    header = (ROOT / "include" / "vienghulac.h").read_text()
+    declared = set(re.findall(r"^vienghulac_\w+ (vienghulac_\w+)\(", header, re.MULTILINE))
+    assert len(declared) == 6
+    symbols = output("readelf", "--dyn-syms", "--wide", LIBRARY)
+    exported = set(re.findall(r"FUNC\s+GLOBAL\s+DEFAULT\s+\d+\s+(\w+)\n", symbols))
+    assert exported == declared
+
+
+def test_a_new_environment_without_compiler_and_network(tmp_path):
+    """Nothing but the interpreter and the file: no path to search for tools, no index to ask, no other package to see."""
+    output("/usr/bin/python3", "-m", "venv", tmp_path / "venv")
+    python = tmp_path / "venv" / "bin" / "python"
+    output(python, "-m", "pip", "install", "--no-index", *WHEELS, env={"PATH": ""}, cwd=tmp_path)
+    table, inbox = tmp_path / "table", ROOT / "examples" / "inbox.mbox"
+    for words in ([python, "-m", "vienghulac"], [python.with_name("vienghulac")]):
+        assert output(*words, "import", inbox, "--table", table, env={}, cwd=tmp_path).startswith("9 messages\n")
+        assert output(*words, "recommend", "--table", table, "bob@autocrypt.example", env={}, cwd=tmp_path) == "available\n"
+
+
+def test_the_package_is_strictly_typed():
+    output(*MYPY, "--python-version", "3.9", ROOT / "python" / "src" / "vienghulac", cwd=ROOT / "python")
+
+
+USER = """
+from typing import Optional
+from vienghulac import Advice, Table, autocrypt_header, process, recommend, target_key
+
+table: Table = Table.new(slots=4)
+process(table, 0, b"From: a@x")
+advice: Advice = recommend(table, bytearray(b"a@x"), mutual=True)
+key: Optional[memoryview] = target_key(table, memoryview(b"a@x"))
+name, value = autocrypt_header(b"a@x", b"key")
+text: str = name + value
+"""
+
+
+def test_its_users_are_checked_too(tmp_path):
+    """A program that uses the types as they are passes, one that does not fails."""
+    words = [*MYPY, "--python-executable", sys.executable]
+    (tmp_path / "good.py").write_text(USER)
+    output(*words, "good.py", cwd=tmp_path)
+    (tmp_path / "bad.py").write_text(USER + "recommend(table, 'a@x')\nbytes(target_key(table, b'a@x'))\n")
+    bad = subprocess.run([*words, "bad.py"], capture_output=True, text=True, cwd=tmp_path)
+    assert bad.returncode == 1 and "Found 2 errors" in bad.stdout

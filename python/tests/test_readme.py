@@ -1,0 +1,55 @@
+"""The examples of README.md, run as they stand there; the block behind each says what it prints."""
+
+import re
+import subprocess
+import sys
+
+import pytest
+from letters import EXAMPLES, ROOT
+
+from vienghulac import REFUSALS
+
+README = (ROOT / "README.md").read_text()
+
+
+def example(language):
+    """An example and what it prints."""
+    ((code, printed),) = re.findall(rf"^```{language}\n(.*?)^```\n+```text\n(.*?)^```", README, re.MULTILINE | re.DOTALL)
+    return code, printed
+
+
+def test_python_example(tmp_path):
+    code, printed = example("python")
+    (tmp_path / "example.py").write_text(code)
+    done = subprocess.run([sys.executable, "example.py"], capture_output=True, text=True, check=True, cwd=tmp_path)
+    assert done.stdout == printed
+    assert (tmp_path / "correspondents.table").exists()
+
+
+@pytest.mark.parametrize("library", ["libvienghulac.a", "libvienghulac.so"])
+def test_c_example(tmp_path, library):
+    code, printed = example("c")
+    (tmp_path / "example.c").write_text(code)
+    build = ROOT / "build"
+    compiler = ["gcc", "-std=c11", "-Wall", "-Wextra", "-Werror", "-pedantic"]
+    paths = [f"-I{ROOT / 'include'}", "-o", "example", "example.c", build / library, f"-Wl,-rpath,{build}"]
+    subprocess.run([*compiler, *paths], check=True, cwd=tmp_path)
+    done = subprocess.run(["./example"], capture_output=True, text=True, check=True, cwd=tmp_path)
+    assert done.stdout == printed
+
+
+def test_command_line_examples(tmp_path):
+    """Each line that opens with `$ vienghulac`, in a folder with the mailbox and the key it names."""
+    lines = re.findall(r"^    \$ vienghulac (.*)$", README, re.MULTILINE)
+    assert len(lines) >= 6
+    for name in ("inbox.mbox", "alice.key"):
+        (tmp_path / name).write_bytes((EXAMPLES / name).read_bytes())
+    for line in lines:
+        command = f"{sys.executable} -m vienghulac {line}"
+        done = subprocess.run(command, shell=True, capture_output=True, text=True, cwd=tmp_path)
+        assert (done.returncode, done.stderr) == (0, ""), line
+
+
+def test_every_refusal_is_in_the_table():
+    rows = dict(re.findall(r"^\| (\d+) \| (.*?) \|", README, re.MULTILINE))
+    assert {int(number): words for number, words in rows.items()} == REFUSALS

@@ -1,0 +1,57 @@
+#!/usr/bin/env python3
+"""vectors.py FILE COUNT: writes a file of cases for vectors.c, COUNT of each call, with what the independent program answers.
+
+A case is the number of its call, its blocks (each a length and its octets), its numbers and its answer, in the order in which
+vectors.c reads them; every number has eight octets, the lowest first. VIENGHULAC_SEED=n makes other cases.
+"""
+import os
+import sys
+from pathlib import Path
+
+sys.path.insert(0, str(Path(__file__).resolve().parents[1] / "independent"))
+
+from cases import Cases  # noqa: E402
+from paper import processing, recommending, table as tables, writing  # noqa: E402
+
+CHECK, PROCESS, RECOMMEND, TARGET_KEY, WRITE_AUTOCRYPT, WRITE_GOSSIP = range(1, 7)
+
+
+def number(value: int) -> bytes:
+    return value.to_bytes(8, "little")
+
+
+def block(octets: bytes) -> bytes:
+    return number(len(octets)) + octets
+
+
+def case(call: int, *parts) -> bytes:
+    return number(call) + b"".join(block(part) if isinstance(part, bytes) else number(part) for part in parts)
+
+
+def field(call: int, cases: Cases, address: bytes, key: bytes, room: int, mutual: bool, answer: tuple[int, bytes]) -> bytes:
+    out = cases.random.randbytes(room)
+    refusal, written = answer
+    return case(call, address, key, out, mutual, refusal, len(written), written + out[len(written) :])
+
+
+def made(cases: Cases) -> bytes:
+    """One case of each call."""
+    table = cases.table()
+    one = case(CHECK, table, *tables.check(table))
+    table, receipt, outer, payload, gossip = cases.processing()
+    one += case(PROCESS, table, outer, payload, receipt, gossip, *processing.process(table, receipt, outer, payload, gossip))
+    table, recipients, mutual, reply, place = cases.target()
+    one += case(RECOMMEND, table, recipients, mutual, reply, *recommending.recommend(table, recipients, mutual, reply))
+    part = recommending.target_key(table, recipients, mutual, reply, place)
+    one += case(TARGET_KEY, table, recipients, mutual, reply, place, *part)
+    address, key, mutual, room = cases.writing()
+    one += field(WRITE_AUTOCRYPT, cases, address, key, room, mutual, writing.write_autocrypt(address, key, mutual, room))
+    address, key, room = cases.writing_gossip()
+    return one + field(WRITE_GOSSIP, cases, address, key, room, False, writing.write_gossip(address, key, room))
+
+
+if __name__ == "__main__":
+    cases = Cases(int(os.environ.get("VIENGHULAC_SEED", "1")))
+    with open(sys.argv[1], "wb") as file:
+        for _ in range(int(sys.argv[2])):
+            file.write(made(cases))
