@@ -13,3 +13,4 @@ pub mod Accepting
 pub mod Hearing
 pub mod WorkedFields
 pub mod Good
+pub mod Joining
