@@ -27,11 +27,12 @@ use Rattle.message.specs.Message.{fieldsIn, isKind, valuesOf, senderIn, dateIn,
 use Rattle.message.specs.declared.Kind.the-variants.{Autocrypt, AutocryptGossip}
 use Rattle.message.proofs.Joining.{values-append, values-first, gossip-append, accepted-listed}
 use Rattle.delivery.specs.Delivery.{directBy, messageBy}
-use Rattle.autocrypt.specs.Processing.{taken, payloadFields, processed}
+use Rattle.autocrypt.specs.Processing.{taken, processed}
 use Rattle.autocrypt.specs.Writing.{autocryptField, gossipField, writtenOf, leftByWriting}
 use Rattle.autocrypt.specs.declared.Gossip.{Gossip}
 use Rattle.autocrypt.specs.declared.Processed.the-variants.{Done}
 use Rattle.autocrypt.specs.declared.Written.the-variants.{Done as Wrote}
+use Rattle.autocrypt.proofs.Processing.{fields-taken}
 use Rattle.promises.specs.Standing.{directHalf, gossipHalf, HasDirect, HasGossip, noneAbout}
 use Rattle.promises.proofs.RoundTrip.{ReadsBack, Writable, written-reads-back, autocrypt-reads-back, gossip-reads-back}
 use Rattle.promises.proofs.Holding.{Holding, behind, others, holding-fields}
@@ -146,8 +147,7 @@ module _ (t : List ℕ) (receipt : ℕ) (outer payload : List ℕ) (setting : Go
       (take-gossip : taken setting ≡ true) (listed : among (canonical b) (recipientsIn (fieldsIn outer)) ≡ true)
       (last : noneAbout (canonical b) (gossipIn (recipientsIn (fieldsIn outer)) (behind h)) ≡ true) where
     payload-fields : fieldsOf payload ≡ some (through .inner)
-    unfolding payloadFields
-    payload-fields = rw (payloadFields, take-gossip) at (through .payload-read)
+    payload-fields = sym (fields-taken setting payload take-gossip) ∙ through .payload-read
 
     earlier : List Gossiped
     earlier = gossipIn (recipientsIn (fieldsIn outer)) (h .before)
