@@ -7,7 +7,7 @@ ghost use mathlib.Core.List.{[], _∷_};
 ghost use lib.Dec.{leb};
 ghost use lib.ListN.{length, take};
 ghost use Prim.Native.Nat.{_+_};
-ghost use Rattle.header.specs.Header.{readable, isSome, limit};
+ghost use Rattle.header.specs.Header.{readable, isSome};
 ghost use Rattle.header.specs.Answers.{fieldsFrom};
 ghost use Rattle.address.specs.Address.{isCanonical};
 ghost use Rattle.list.specs.List.{among};
@@ -16,11 +16,11 @@ ghost use Rattle.table.specs.Table.{found, isAt, freeCount, checked};
 ghost use Rattle.table.specs.declared.Checked.the-variants.{Sound};
 ghost use Rattle.roll.specs.Roll.{unrolled};
 ghost use Rattle.update.specs.Update.{updated, put};
-ghost use Rattle.update.specs.Message.{gossipAddresses, newcomers, hasRoom, heardAll};
-ghost use Rattle.message.specs.Message.{fieldsIn, countedIn};
+ghost use Rattle.update.specs.Message.{gossipAddresses, newcomers, hasRoom, heardAll, applied};
+ghost use Rattle.message.specs.Message.{fieldsIn, countedIn, recipientsIn};
 ghost use Rattle.message.specs.Answers.{gossipFrom};
 ghost use Rattle.delivery.specs.Delivery.{directBy, messageBy, delivered};
-ghost use Rattle.delivery.specs.Counting.{Known};
+ghost use Rattle.delivery.specs.Counting.{Rolls, MetAs};
 use message::Counted;
 use message::Heard;
 use slots::Slot;
@@ -39,12 +39,41 @@ fn is_new(table: &[u8], known: &[u8], address: &[u8]) -> bool
     }
 }
 
+// What comes of an address that there is gossip about: it is known or has an entry; it is new, and the roll ends behind
+// it now; or it is new and there is no free slot for it.
+pub enum Met {
+    Known,
+    New(usize),
+    Full,
+}
+
+// Adds an address to the roll of those that are known to be new, if it is new and there is a free slot left for it.
+fn meet(table: &[u8], known: &mut [u8], filled: usize, many: usize, address: &[u8]) -> Met
+    requires { ⌜ Rolls (now table) (now known) filled many × (isCanonical (now address) ≡ true) ⌝ }
+    ensures { λ r. ⌜ MetAs (now (table .entry)) (now (known .entry)) filled many (now (address .entry)) (now (known .exit)) r ⌝ }
+{
+    if !is_new(table, &known[0..filled], address) {
+        return Met::Known;
+    }
+    if table::count_free(table) == many {
+        return Met::Full;
+    }
+    Met::New(roll::add(known, filled, address))
+}
+
 // Is there a free slot for each address that is new with the gossip, beside so many that are known already?
-fn has_room_for(table: &[u8], payload: &[u8], recipients: &[u8], text: &mut [u8], known: &mut [u8], filled: usize, many: usize) -> bool
-    requires { ⌜ (checked (now table) ≡ Sound) × (isSome (fieldsFrom (now payload) 0) ≡ true) × (length (now payload) ≤ length (now text)) × (length (now known) ≡ 65536) × Known (now known) filled many × (many ≤ freeCount (now table)) ⌝ }
+fn has_room_for(
+    table: &[u8],
+    payload: &[u8],
+    recipients: &[u8],
+    text: &mut [u8],
+    known: &mut [u8],
+    filled: usize,
+    many: usize,
+) -> bool
+    requires { ⌜ Rolls (now table) (now known) filled many × (isSome (fieldsFrom (now payload) 0) ≡ true) × (length (now payload) ≤ length (now text)) ⌝ }
     ensures { λ r. ⌜ r ≡ leb (many + length (newcomers (now (table .entry)) (unrolled (take filled (now (known .entry)))) (gossipAddresses (gossipFrom (unrolled (now (recipients .entry))) (now (payload .entry)) 0)))) (freeCount (now (table .entry))) ⌝ }
 {
-    let free = table::count_free(table);
     let mut address = [0u8; Slot::ADDRESS_ROOM];
     let mut key = [0u8; Slot::KEY_LIMIT];
     let mut end = filled;
@@ -56,20 +85,37 @@ fn has_room_for(table: &[u8], payload: &[u8], recipients: &[u8], text: &mut [u8]
                 end: next,
                 address: n,
                 key: _,
-            } => {
-                at = next;
-                if !is_new(table, &known[0..end], &address[0..n]) {
-                    continue;
+            } => match meet(table, known, end, count, &address[0..n]) {
+                Met::Known => at = next,
+                Met::New(behind) => {
+                    end = behind;
+                    count += 1;
+                    at = next;
                 }
-                if count == free {
-                    return false;
-                }
-                end = roll::add(known, end, &address[0..n]);
-                count += 1;
-            }
+                Met::Full => return false,
+            },
             Heard::Over => return true,
         }
     }
+}
+
+// The same beside a sender who has no entry.
+fn has_room_beside(
+    table: &[u8],
+    sender: &[u8],
+    payload: &[u8],
+    recipients: &[u8],
+    text: &mut [u8],
+    known: &mut [u8],
+) -> bool
+    requires { ⌜ (checked (now table) ≡ Sound) × (isCanonical (now sender) ≡ true) × (isSome (fieldsFrom (now payload) 0) ≡ true) × (length (now payload) ≤ length (now text)) × (length (now known) ≡ 65536) ⌝ }
+    ensures { λ r. ⌜ r ≡ leb (1 + length (newcomers (now (table .entry)) (now (sender .entry) ∷ []) (gossipAddresses (gossipFrom (unrolled (now (recipients .entry))) (now (payload .entry)) 0)))) (freeCount (now (table .entry))) ⌝ }
+{
+    if table::count_free(table) == 0 {
+        return false;
+    }
+    let filled = roll::add(known, 0, sender);
+    has_room_for(table, payload, recipients, text, known, filled, 1)
 }
 
 // Is there a free slot for each address that is new with the message, its sender first?
@@ -80,13 +126,7 @@ fn has_room(table: &[u8], sender: &[u8], payload: &[u8], recipients: &[u8], text
     let mut known = [0u8; ROLL];
     match table::find(table, sender) {
         Found::At(_) => has_room_for(table, payload, recipients, text, &mut known, 0, 0),
-        Found::Nothing => {
-            if table::count_free(table) == 0 {
-                return false;
-            }
-            let filled = roll::add(&mut known, 0, sender);
-            has_room_for(table, payload, recipients, text, &mut known, filled, 1)
-        }
+        Found::Nothing => has_room_beside(table, sender, payload, recipients, text, &mut known),
     }
 }
 
@@ -117,6 +157,7 @@ fn hear_all(table: &mut [u8], date: u64, payload: &[u8], recipients: &[u8], text
 fn update_sender(table: &mut [u8], outer: &[u8], sender: &[u8], date: u64, text: &mut [u8])
     requires { ⌜ (checked (now table) ≡ Sound) × (readable (now outer) ≡ true) × (length (now outer) ≤ length (now text)) × (isCanonical (now sender) ≡ true) × (date ≤ timeLimit) ⌝ }
     ensures { λ _. ⌜ now (table .exit) ≡ put (now (table .entry)) (now (sender .entry)) (updated date (directBy date (countedIn (fieldsIn (now (outer .entry))) (now (sender .entry))))) ⌝ }
+    ensures { λ _. ⌜ checked (now (table .exit)) ≡ Sound ⌝ }
 {
     let mut key = [0u8; Slot::KEY_LIMIT];
     match message::counted_field(outer, sender, text, &mut key) {
@@ -128,7 +169,15 @@ fn update_sender(table: &mut [u8], outer: &[u8], sender: &[u8], date: u64, text:
 }
 
 // Writes the message into the table, which has room for it.
-fn apply(table: &mut [u8], date: u64, outer: &[u8], payload: &[u8], sender: &[u8], recipients: &[u8], text: &mut [u8])
+fn apply(
+    table: &mut [u8],
+    date: u64,
+    outer: &[u8],
+    payload: &[u8],
+    sender: &[u8],
+    recipients: &[u8],
+    text: &mut [u8],
+)
     requires { ⌜ (checked (now table) ≡ Sound) × (readable (now outer) ≡ true) × (length (now outer) ≤ length (now text)) × (isSome (fieldsFrom (now payload) 0) ≡ true) × (length (now payload) ≤ length (now text)) × (isCanonical (now sender) ≡ true) × (date ≤ timeLimit) ⌝ }
     ensures { λ _. ⌜ now (table .exit) ≡ heardAll date (gossipFrom (unrolled (now (recipients .entry))) (now (payload .entry)) 0) (put (now (table .entry)) (now (sender .entry)) (updated date (directBy date (countedIn (fieldsIn (now (outer .entry))) (now (sender .entry)))))) ⌝ }
 {
@@ -136,18 +185,66 @@ fn apply(table: &mut [u8], date: u64, outer: &[u8], payload: &[u8], sender: &[u8
     hear_all(table, date, payload, recipients, text);
 }
 
+// The same with the date of the message.
+fn put_message(
+    table: &mut [u8],
+    receipt: u64,
+    outer: &[u8],
+    payload: &[u8],
+    sender: &[u8],
+    recipients: &[u8],
+    text: &mut [u8],
+)
+    requires { ⌜ (checked (now table) ≡ Sound) × (receipt ≤ timeLimit) × (readable (now outer) ≡ true) × (length (now outer) ≤ length (now text)) × (readable (now payload) ≡ true) × (length (now payload) ≤ length (now text)) × (isCanonical (now sender) ≡ true) × (unrolled (now recipients) ≡ recipientsIn (fieldsIn (now outer))) ⌝ }
+    ensures { λ _. ⌜ now (table .exit) ≡ applied (now (table .entry)) (messageBy receipt (now (sender .entry)) (fieldsIn (now (outer .entry))) (fieldsIn (now (payload .entry)))) ⌝ }
+{
+    let date = date::effective_date(message::date(outer, text), receipt);
+    apply(table, date, outer, payload, sender, recipients, text);
+}
+
+// Delivers the message, whose recipients are known, if there is room for it.
+fn deliver_to(
+    table: &mut [u8],
+    receipt: u64,
+    outer: &[u8],
+    payload: &[u8],
+    sender: &[u8],
+    recipients: &[u8],
+    text: &mut [u8],
+) -> bool
+    requires { ⌜ (checked (now table) ≡ Sound) × (receipt ≤ timeLimit) × (readable (now outer) ≡ true) × (length (now outer) ≤ length (now text)) × (readable (now payload) ≡ true) × (length (now payload) ≤ length (now text)) × (isCanonical (now sender) ≡ true) × (unrolled (now recipients) ≡ recipientsIn (fieldsIn (now outer))) ⌝ }
+    ensures { λ r. ⌜ r ≡ hasRoom (now (table .entry)) (messageBy receipt (now (sender .entry)) (fieldsIn (now (outer .entry))) (fieldsIn (now (payload .entry)))) ⌝ }
+    ensures { λ _. ⌜ now (table .exit) ≡ delivered (now (table .entry)) (messageBy receipt (now (sender .entry)) (fieldsIn (now (outer .entry))) (fieldsIn (now (payload .entry)))) ⌝ }
+{
+    if !has_room(table, sender, payload, recipients, text) {
+        return false;
+    }
+    put_message(table, receipt, outer, payload, sender, recipients, text);
+    true
+}
+
 // Delivers the message of the sender, its blocks being readable, if there is room for it; answers whether there was.
-pub fn deliver(table: &mut [u8], receipt: u64, outer: &[u8], payload: &[u8], sender: &[u8], text: &mut [u8]) -> bool
-    requires { ⌜ (checked (now table) ≡ Sound) × (receipt ≤ timeLimit) × (readable (now outer) ≡ true) × (readable (now payload) ≡ true) × (isCanonical (now sender) ≡ true) × (limit ≤ length (now text)) ⌝ }
+pub fn deliver(
+    table: &mut [u8],
+    receipt: u64,
+    outer: &[u8],
+    payload: &[u8],
+    sender: &[u8],
+    text: &mut [u8],
+) -> bool
+    requires { ⌜ (checked (now table) ≡ Sound) × (receipt ≤ timeLimit) × (readable (now outer) ≡ true) × (length (now outer) ≤ length (now text)) × (readable (now payload) ≡ true) × (length (now payload) ≤ length (now text)) × (isCanonical (now sender) ≡ true) ⌝ }
     ensures { λ r. ⌜ r ≡ hasRoom (now (table .entry)) (messageBy receipt (now (sender .entry)) (fieldsIn (now (outer .entry))) (fieldsIn (now (payload .entry)))) ⌝ }
     ensures { λ _. ⌜ now (table .exit) ≡ delivered (now (table .entry)) (messageBy receipt (now (sender .entry)) (fieldsIn (now (outer .entry))) (fieldsIn (now (payload .entry)))) ⌝ }
 {
     let mut roll = [0u8; ROLL];
     let filled = message::recipients(outer, text, &mut roll);
-    if !has_room(table, sender, payload, &roll[0..filled], text) {
-        return false;
-    }
-    let date = date::effective_date(message::date(outer, text), receipt);
-    apply(table, date, outer, payload, sender, &roll[0..filled], text);
-    true
+    deliver_to(
+        table,
+        receipt,
+        outer,
+        payload,
+        sender,
+        &roll[0..filled],
+        text,
+    )
 }

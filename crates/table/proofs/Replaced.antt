@@ -227,3 +227,17 @@ module _ (t a : List ℕ) (s : checked t ≡ Sound) where
         let q : none ≡ some e = sym (entry-none t a f) ∙ p in
         let z : _≡_ {A = ℕ} 0 1 = cc in
         absurd (omega arith))
+
+-- no more slots pass a test than there are
+pub many-most : (test : List ℕ → Bool) (t : List ℕ) (i k : ℕ) → howMany test t i k ≤ k
+unfolding howMany
+many-most test t i zero = omega arith
+many-most test t i (suc k) =
+    let ih : howMany test t (i + 1) k ≤ k = many-most test t (i + 1) k in
+    by-test (test (slotAt t i))
+    (λ e. rw (howMany, e) (omega (arith, ih)))
+    (λ e. rw (howMany, e) (omega (arith, ih)))
+
+pub free-most : (t : List ℕ) → freeCount t ≤ slots t
+unfolding freeCount
+free-most t = many-most unused t 0 (slots t)

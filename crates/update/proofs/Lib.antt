@@ -4,3 +4,4 @@ pub mod Halves
 pub mod Putting
 pub mod Room
 pub mod Applying
+pub mod Kept

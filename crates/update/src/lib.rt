@@ -53,6 +53,7 @@ fn has_younger_gossip(table: &[u8], i: usize, date: u64) -> bool
 pub fn update_keyless(table: &mut [u8], sender: &[u8], date: u64)
     requires { ⌜ (checked (now table) ≡ Sound) × (isCanonical (now sender) ≡ true) × (date ≤ timeLimit) ⌝ }
     ensures { λ _. ⌜ now (table .exit) ≡ put (now (table .entry)) (now (sender .entry)) (updated date none) ⌝ }
+    ensures { λ _. ⌜ checked (now (table .exit)) ≡ Sound ⌝ }
 {
     match place(table, sender) {
         Found::At(i) => {
@@ -77,6 +78,7 @@ fn set_field(table: &mut [u8], i: usize, date: u64, key: &[u8], mutual: bool)
 pub fn update_with_key(table: &mut [u8], sender: &[u8], date: u64, key: &[u8], mutual: bool)
     requires { ⌜ (checked (now table) ≡ Sound) × (isCanonical (now sender) ≡ true) × (date ≤ timeLimit) × (1 ≤ length (now key)) × (length (now key) ≤ keyLimit) ⌝ }
     ensures { λ _. ⌜ now (table .exit) ≡ put (now (table .entry)) (now (sender .entry)) (updated date (some (record { timestamp = date; key = now (key .entry); «mutual» = «mutual» }))) ⌝ }
+    ensures { λ _. ⌜ checked (now (table .exit)) ≡ Sound ⌝ }
 {
     match place(table, sender) {
         Found::At(i) => {
@@ -92,6 +94,7 @@ pub fn update_with_key(table: &mut [u8], sender: &[u8], date: u64, key: &[u8], m
 pub fn hear(table: &mut [u8], address: &[u8], date: u64, key: &[u8])
     requires { ⌜ (checked (now table) ≡ Sound) × (isCanonical (now address) ≡ true) × (date ≤ timeLimit) × (1 ≤ length (now key)) × (length (now key) ≤ keyLimit) ⌝ }
     ensures { λ _. ⌜ now (table .exit) ≡ put (now (table .entry)) (now (address .entry)) (heard date (now (key .entry))) ⌝ }
+    ensures { λ _. ⌜ checked (now (table .exit)) ≡ Sound ⌝ }
 {
     match place(table, address) {
         Found::At(i) => {

@@ -2,6 +2,7 @@
 use Rattle.update.proofs.hear.Statement.{statement}
 use Rattle.update.proofs.hear.Tie as tie
 use Rattle.update.proofs.Writing.{hearing}
+use Rattle.update.proofs.Kept.{keeping}
 
 place-requires : tie.Need-place-requires
 place-requires c κs = search hearing
@@ -22,19 +23,19 @@ same-length : tie.Need-same-length
 same-length c = search hearing
 
 returns : tie.Need-returns
-returns c = search hearing
+returns c = (search hearing, search keeping)
 
 same-length-2 : tie.Need-same-length-2
 same-length-2 c = search hearing
 
 returns-2 : tie.Need-returns-2
-returns-2 c = search hearing
+returns-2 c = (search hearing, search keeping)
 
 same-length-3 : tie.Need-same-length-3
 same-length-3 c = search hearing
 
 returns-3 : tie.Need-returns-3
-returns-3 c = search hearing
+returns-3 c = (search hearing, search keeping)
 
 pub hear-spec : {M : Type 1} → statement M
 hear-spec =

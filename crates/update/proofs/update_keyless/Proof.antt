@@ -2,6 +2,7 @@
 use Rattle.update.proofs.update_keyless.Statement.{statement}
 use Rattle.update.proofs.update_keyless.Tie as tie
 use Rattle.update.proofs.Writing.{seeing}
+use Rattle.update.proofs.Kept.{keeping}
 
 place-requires : tie.Need-place-requires
 place-requires c κs = search seeing
@@ -22,19 +23,19 @@ same-length : tie.Need-same-length
 same-length c = search seeing
 
 returns : tie.Need-returns
-returns c = search seeing
+returns c = (search seeing, search keeping)
 
 same-length-2 : tie.Need-same-length-2
 same-length-2 c = search seeing
 
 returns-2 : tie.Need-returns-2
-returns-2 c = search seeing
+returns-2 c = (search seeing, search keeping)
 
 same-length-3 : tie.Need-same-length-3
 same-length-3 c = search seeing
 
 returns-3 : tie.Need-returns-3
-returns-3 c = search seeing
+returns-3 c = (search seeing, search keeping)
 
 pub update-keyless-spec : {M : Type 1} → statement M
 update-keyless-spec =

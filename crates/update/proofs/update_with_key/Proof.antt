@@ -2,6 +2,7 @@
 use Rattle.update.proofs.update_with_key.Statement.{statement}
 use Rattle.update.proofs.update_with_key.Tie as tie
 use Rattle.update.proofs.Writing.{keying}
+use Rattle.update.proofs.Kept.{keeping}
 
 place-requires : tie.Need-place-requires
 place-requires c κs = search keying
@@ -22,19 +23,19 @@ same-length : tie.Need-same-length
 same-length c = search keying
 
 returns : tie.Need-returns
-returns c = search keying
+returns c = (search keying, search keeping)
 
 same-length-2 : tie.Need-same-length-2
 same-length-2 c = search keying
 
 returns-2 : tie.Need-returns-2
-returns-2 c = search keying
+returns-2 c = (search keying, search keeping)
 
 same-length-3 : tie.Need-same-length-3
 same-length-3 c = search keying
 
 returns-3 : tie.Need-returns-3
-returns-3 c = search keying
+returns-3 c = (search keying, search keeping)
 
 pub update-with-key-spec : {M : Type 1} → statement M
 update-with-key-spec =
