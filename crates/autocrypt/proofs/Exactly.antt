@@ -5,11 +5,11 @@
 --     done-length, done-within, done-there    success: the length is the field's, which is at most the output's, and the field stands in front of the rest
 -- Assumes nothing.
 use Prim.Native.Nat.{ℕ, _<_, _≤_}
-use mathlib.Core.Path.{_≡_, refl, sym, ap, subst}
+use mathlib.Core.Path.{_≡_, sym, ap, subst}
 use mathlib.Core.Logic.{_↔_, ⊎-elim}
 use mathlib.Core.Bool.{true, false}
 use mathlib.Core.List.{List}
-use mathlib.Core.Option.{Option, some, none}
+use mathlib.Core.Option.{some, none}
 use native.Mathlib.Omega.{arith}
 use lib.ListN.{length}
 use Rattle.octets.specs.Written.{onto}
@@ -21,6 +21,7 @@ use Rattle.slots.specs.Slot.{keyLimit}
 use Rattle.autocrypt.specs.Writing.{refusedWriting, writtenOf, leftByWriting, numberIn}
 use Rattle.autocrypt.specs.declared.Refusal.{Refusal}
 use Rattle.autocrypt.specs.declared.Written.the-variants.{Done, Refused}
+use Rattle.autocrypt.proofs.Refusals.{by-refusal}
 use Rattle.autocrypt.proofs.Writing.{not-plain, key-out, too-short, in-order, refused-answer, done-answer, refused-left, done-left}
 use Rattle.autocrypt.specs.declared.Refusal.the-variants.{OwnAddress, KeyLength, OutputLength}
 
@@ -60,10 +61,6 @@ module _ (address key field : List ℕ) (room : ℕ) where
   exactly n = (λ e. subst (Row address key field room) e holds, λ r. given r)
 
 -- what comes with the answer
-by-refusal : {P : Type 0} (o : Option Refusal) → ((r : Refusal) → o ≡ some r → P) → (o ≡ none → P) → P
-by-refusal (some r) a b = a r refl
-by-refusal none a b = b refl
-
 module _ (address key field out : List ℕ) where
   pub refused-untouched : (r : Refusal) → Refused r ≡ writtenOf address key field (length out) → leftByWriting address key field out ≡ out
   refused-untouched r e =

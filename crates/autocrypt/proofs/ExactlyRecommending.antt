@@ -14,11 +14,9 @@ use native.Mathlib.Omega.{arith}
 use Rattle.address.proofs.Every.{by-test}
 use Rattle.list.specs.List.{addresses, given}
 use Rattle.table.specs.Table.{whole, checked}
-use Rattle.table.specs.declared.Checked.{Checked as OfTable}
-use Rattle.table.specs.declared.Checked.the-variants.{Sound as Whole, Length, Slot}
 use Rattle.table.proofs.Judging.{checked-length}
 use Rattle.table.proofs.Keeping.{SoundTable, table-sound, sound-table}
-use Rattle.table.proofs.Broken.{Broken, checked-broken, broken-checked, checked-out}
+use Rattle.table.proofs.Broken.{Broken, by-check, checked-broken, broken-checked, checked-out}
 use Rattle.advice.specs.Advice.{overall, advised}
 use Rattle.advice.specs.declared.Advice.{Advice}
 use Rattle.autocrypt.specs.Refusals.{numberOf}
@@ -27,7 +25,8 @@ use Rattle.autocrypt.specs.Recommending.{recipientList, refusedRecommend
 use Rattle.autocrypt.specs.declared.Refusal.{Refusal}
 use Rattle.autocrypt.specs.declared.Refusal.the-variants.{TableLength, BrokenSlot, Recipients}
 use Rattle.autocrypt.specs.declared.Recommended.the-variants.{Done, Refused}
-use Rattle.autocrypt.proofs.Recommending.{by-refusal, table-out, list-out, in-order, refused-advice, done-advice}
+use Rattle.autocrypt.proofs.Refusals.{by-refusal}
+use Rattle.autocrypt.proofs.Recommending.{table-out, list-out, in-order, refused-advice, done-advice}
 
 pub data Row (table recipients : List ℕ) : ℕ → Type 0 where
   one : whole table ≡ false → Row table recipients 1
@@ -52,12 +51,6 @@ module _ (t s : List ℕ) where
   not-refused : SoundTable t → recipientList (addresses s) ≡ true → refusedRecommending t s ≡ none
   unfolding checkedAs
   not-refused h l = in-order t s (checkedAs (checked t)) refl (ap checkedAs (sound-table t h)) l
-
-  -- one of the three answers of the check
-  by-check : {P : Type 0} (c : OfTable) → (c ≡ Whole → P) → (c ≡ Length → P) → ((i : ℕ) → c ≡ Slot i → P) → P
-  by-check Whole a b d = a refl
-  by-check Length a b d = b refl
-  by-check (Slot i) a b d = d i refl
 
   module _ (m reply : Bool) where
     abbrev number : ℕ

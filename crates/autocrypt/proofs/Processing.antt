@@ -29,6 +29,7 @@ use Rattle.message.specs.declared.Sender.the-variants.{Address, NotOne}
 use Rattle.message.proofs.Asking.{fields-are, fields-read}
 use Rattle.message.proofs.Sending.{sender-canonical, answer-none, left-is, left-within}
 use Rattle.delivery.specs.Delivery.{messageBy, delivered}
+use Rattle.delivery.proofs.Delivering.{block-short}
 use Rattle.autocrypt.specs.Checking.{checkedAs}
 use Rattle.autocrypt.specs.Processing.{taken, payloadFields, Brought, refused, brings, withPayload, withSender, withOuter, broughtBy, Outcome, refusing, putInto, processed}
 use Rattle.autocrypt.specs.declared.Refusal.{Refusal}
@@ -113,7 +114,11 @@ module _ (t : List ℕ) (receipt : ℕ) (sender : List ℕ) (outer payload : Lis
     unfolding delivered
     full-left left d = (d ∙ rw (delivered, sym e ∙ q)) ∙ refused-left t NoFreeSlot outcome full
 
-pub ruleset delivering = (room-answered, room-left, full-answered, full-left, needs)
+-- a readable block has room in a text that is as long as a block may be
+pub block-fits : (s text : List ℕ) → readable s ≡ true → limit ≤ length text → length s ≤ length text
+block-fits s text h l = omega (arith, block-short s h, l)
+
+pub ruleset delivering = (block-fits, room-answered, room-left, full-answered, full-left, needs)
 
 -- the fields of the payload
 module _ (g : Gossip) (payload : List ℕ) where
@@ -142,9 +147,6 @@ module _ (s : List ℕ) (b : Bool) (e : b ≡ isSome (fieldsOf s)) (n : not b �
 
   pub found-fits : (text : List ℕ) → length text ≡ 65536 → length s ≤ length text
   found-fits text l = omega (arith, clear-fits s b e (not-false b n))
-
-pub outer-fits : (s text : List ℕ) → readable s ≡ true → limit ≤ length text → length s ≤ length text
-outer-fits s text c l = omega (arith, clear-fits s true (sym c) refl)
 
 pub text-long : (text : List ℕ) → length text ≡ 65536 → limit ≤ length text
 text-long text e = omega arith
@@ -219,7 +221,7 @@ unfolding isSome
 none-readable payload = ap isSome fields-empty
 
 pub ruleset sending =
-    (six-answered, six-left, skip-answered, skip-left, seven-answered, seven-left, take-answered, take-left, found-readable, outer-fits, text-kept, needs)
+    (six-answered, six-left, skip-answered, skip-left, seven-answered, seven-left, take-answered, take-left, found-readable, block-fits, text-kept, needs)
 
 -- what a message brings: "3", "4", "5"
 module _ (receipt : ℕ) (outer payload : List ℕ) (g : Gossip) where

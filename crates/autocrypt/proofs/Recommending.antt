@@ -39,6 +39,7 @@ use Rattle.autocrypt.specs.declared.Refusal.the-variants.{Recipients}
 use Rattle.autocrypt.specs.declared.Checked.{Checked}
 use Rattle.autocrypt.specs.declared.Checked.the-variants.{Sound, Refused as RefusedTable}
 use Rattle.autocrypt.specs.declared.Recommended.the-variants.{Done, Refused}
+use Rattle.autocrypt.proofs.Refusals.{by-refusal}
 
 -- 1 to 100 addresses
 list-of : (o : Option (List (List ℕ))) (list : List (List ℕ)) (n : ℕ) → o ≡ some list → n ≡ length list → (leb 1 n && leb n 100) ≡ recipientList o
@@ -143,10 +144,6 @@ pub ruleset recommending = (table-answered, table-taken, list-answered, list-giv
 pub ruleset parting = (table-empty, table-taken, list-empty, list-given, part-answered, needs)
 
 -- `target_key`: without a refusal the table is sound
-pub by-refusal : {P : Type 0} (o : Option Refusal) → ((r : Refusal) → o ≡ some r → P) → (o ≡ none → P) → P
-by-refusal (some r) a b = a r refl
-by-refusal none a b = b refl
-
 unrefused : (c : Checked) (o : Option (List (List ℕ))) → refusedBy c o ≡ none → c ≡ Sound
 unfolding refusedBy
 unrefused Sound o e = refl

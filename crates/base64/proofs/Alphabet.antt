@@ -3,7 +3,7 @@
 --     is-value, is-pad, is-other    a sign by its number
 --     sign-of-letter    the sign of a value's letter is the value
 --     tabled            the table once the first values are in it, with what `signs` asks
---     the rulesets      lettering for `letter_of`, tabling for `signs`, finding for `sign_of`
+--     the rulesets      lettering for `letters`, looking for `letter_of`, tabling for `signs`, finding for `code_of` and `sign_of`
 -- Assumes nothing.
 use Prim.Native.Nat.{ℕ, zero, suc, _+_, _-_, _<_, _≤_}
 use mathlib.Core.Path.{_≡_, refl, sym, ap, _∙_}
@@ -14,11 +14,12 @@ use mathlib.Core.List.{List}
 use native.Mathlib.Numerals.{add-one}
 use native.Mathlib.Omega.{arith}
 use borrow.Author.Needs.{needs}
-use borrow.Author.Tests.{eqb-true, leb-true, lt-ltb, le-ltb, eq-eqb, ne-eqb}
+use borrow.Author.Tests.{eqb-true, leb-true}
 use lib.Dec.{leb, eqb}
 use lib.ListN.{getD, set, replicate}
+use Rattle.octets.specs.Octets.{ascii}
 use Rattle.base64.specs.Base64.{letter, signOf, between, pad}
-use Rattle.base64.specs.Steps.{codeOf, Signs, Low}
+use Rattle.base64.specs.Steps.{Letters, codeOf, Signs}
 use Rattle.base64.specs.declared.Sign.{Sign}
 use Rattle.base64.specs.declared.Sign.the-variants.{Value, Pad, Other}
 
@@ -128,48 +129,39 @@ table-known x h = passes-at (λ x. eqb (getD (set (tabled 64) 61 64) x 0) (codeO
 pub whole : Signs (set (tabled 64) 61 64)
 whole = record { at = λ x h. eqb-true _ _ (table-known x h) }
 
--- `letter_of`, by its tests
-module _ (v : ℕ) where
-  pub capital : v < 26 → 65 + v ≡ letter v
-  unfolding letter
-  capital h = rw (lt-ltb v 26 h)
+-- `letters` and `letter_of`
+abbrev alphabet : List ℕ
+alphabet = ascii "ABCDEFGHIJKLMNOPQRSTUVWXYZabcdefghijklmnopqrstuvwxyz0123456789+/"
 
-  pub minuscule : 26 ≤ v → v < 52 → 97 + (v - 26) ≡ letter v
-  unfolding letter
-  minuscule k h = rw (le-ltb v 26 k, lt-ltb v 52 h)
+alphabet-known : (v : ℕ) → v < 64 → eqb (getD alphabet v 0) (letter v) ≡ true
+unfolding letter
+alphabet-known v h = passes-at (λ v. eqb (getD alphabet v 0) (letter v)) 64 refl v h
 
-  pub digit : 52 ≤ v → v < 62 → 48 + (v - 52) ≡ letter v
-  unfolding letter
-  digit k h = rw (le-ltb v 26 (omega arith), le-ltb v 52 k, lt-ltb v 62 h)
+pub all-letters : Letters alphabet
+all-letters = record { at = λ v h. eqb-true _ _ (alphabet-known v h) }
 
-  pub plus : 62 ≤ v → v ≡ 62 → 43 ≡ letter v
-  unfolding letter
-  plus k h = rw (le-ltb v 26 (omega arith), le-ltb v 52 (omega arith), le-ltb v 62 k, eq-eqb v 62 h)
+pub ruleset lettering = (all-letters, needs)
 
-  pub slash : 62 ≤ v → (v ≡ 62 → ⊥) → 47 ≡ letter v
-  unfolding letter
-  slash k h = rw (le-ltb v 26 (omega arith), le-ltb v 52 (omega arith), le-ltb v 62 k, ne-eqb v 62 h)
+pub looked-up : (t : List ℕ) (v : ℕ) → Letters t → v < 64 → getD t v 0 ≡ letter v
+looked-up t v h k = h .at v k
 
-pub ruleset lettering = (capital, minuscule, digit, plus, slash, needs)
+pub ruleset looking = (looked-up, needs)
 
--- `sign_of`, by its tests
-module _ (t : List ℕ) (x : ℕ) (signs : Signs t) (h : x < 256) where
-  pub found-value : getD t x 0 < 64 → Value (getD t x 0) ≡ signOf x
-  found-value k = let e = signs .at x h in rw e (is-value (signOf x) (below x) (omega arith))
+-- `code_of`, and `sign_of` by its tests
+pub code-found : (t : List ℕ) (x : ℕ) → Signs t → x < 256 → getD t x 0 ≡ codeOf (signOf x)
+code-found t x h k = h .at x k
 
-  pub found-pad : getD t x 0 ≡ 64 → Pad ≡ signOf x
-  found-pad k = is-pad (signOf x) (below x) (sym (signs .at x h) ∙ k)
+module _ (x v : ℕ) (e : v ≡ codeOf (signOf x)) where
+  pub found-value : v < 64 → Value v ≡ signOf x
+  found-value k = rw e (is-value (signOf x) (below x) (omega arith))
 
-  pub found-other : 64 ≤ getD t x 0 → (getD t x 0 ≡ 64 → ⊥) → Other ≡ signOf x
-  found-other k l = is-other (signOf x) (below x) (λ u. omega (arith, signs .at x h)) (λ u. l (signs .at x h ∙ u))
+  pub found-pad : v ≡ 64 → Pad ≡ signOf x
+  found-pad k = is-pad (signOf x) (below x) (sym e ∙ k)
 
-pub low-pad : Low Pad
-low-pad = tt
+  pub found-other : 64 ≤ v → (v ≡ 64 → ⊥) → Other ≡ signOf x
+  found-other k l = is-other (signOf x) (below x) (λ u. omega arith) (λ u. l (e ∙ u))
 
-pub low-other : Low Other
-low-other = tt
-
-pub ruleset finding = (found-value, found-pad, found-other, needs)
+pub ruleset finding = (code-found, found-value, found-pad, found-other, needs)
 
 -- `signs`
 pub tabled-none : replicate 256 65 ≡ tabled 0

@@ -10,14 +10,17 @@ use native.Mathlib.Omega.{arith}
 use borrow.Author.Needs.{needs}
 use borrow.Author.Tests.{le-leb, lt-leb}
 use lib.ListN.{length, drop, set}
-use Rattle.octets.proofs.Writing.{Wrote, begin, kept, put, done}
-use Rattle.base64.proofs.Putting.{put-two, put-three, has-room}
+use Rattle.octets.specs.Written.{putAt}
+use Rattle.octets.proofs.Writing.{Wrote, begin, kept, put, puts, done}
+use Rattle.base64.proofs.Putting.{put-two, has-room}
 use Rattle.base64.specs.Base64.{before, decode, withoutBlanks}
 use Rattle.base64.specs.Answers.{decodedOf, leftIn, octetsIn}
-use Rattle.base64.specs.Steps.{NextGroup, sizeOf, Room}
-use Rattle.base64.proofs.Measuring.{nearer, read-three, read-two, read-one, read-end, read-broken}
+use Rattle.base64.specs.Steps.{NextGroup, WholeGroup, sizeOf, Room}
+use Rattle.base64.proofs.Measuring.{nearer, nearer-whole, read-whole, read-three, read-two, read-one, read-end, read-broken}
 use Rattle.base64.specs.declared.Next.{Next}
 use Rattle.base64.specs.declared.Next.the-variants.{Three, Two, One, End, Broken}
+use Rattle.base64.specs.declared.Whole.{Whole}
+use Rattle.base64.specs.declared.Whole.the-variants.{Three as WThree}
 use Rattle.base64.specs.declared.Size.{Size}
 use Rattle.base64.specs.declared.Size.the-variants.{Of, Wrong}
 use Rattle.base64.specs.declared.Decoded.the-variants.{Octets, NotBase64, NoRoom}
@@ -67,17 +70,14 @@ module _ (s d out : List ℕ) (i o : ℕ) (h : Filled s d out i o) where
       to-write-three : Wrote (octetsIn (decode (withoutBlanks s))) d out o (x ∷ y ∷ z ∷ octetsIn (decode (withoutBlanks (drop n s))))
       to-write-three = rw (text-three .1) at (h .going)
 
-      pub room-three : (j : ℕ) → j < 3 → o + j < length out
-      room-three j l = omega (arith, has-room _ d out o _ to-write-three)
+      pub room-three : o + 3 ≤ length out
+      room-three = omega (arith, has-room _ d out o _ to-write-three)
 
-      pub first-three : o < length out
-      first-three = omega (arith, has-room _ d out o _ to-write-three)
-
-      pub filled-three : Filled s d (set (set (set out o x) (o + 1) y) (o + 2) z) n (o + 3)
-      filled-three =
+      pub filled-three : (out₁ : List ℕ) → out₁ ≡ putAt out o (x ∷ y ∷ z ∷ []) → Filled s d out₁ n (o + 3)
+      filled-three out₁ q =
           let r = read-three s i g k x y z n e in
           record {
-            going = put-three _ d out o x y z _ to-write-three;
+            going = rw q (puts _ d out o (x ∷ y ∷ z ∷ []) _ to-write-three);
             sound = text-three .0;
             whole = h .whole;
             upto = r .2;
@@ -113,7 +113,14 @@ module _ (s d out : List ℕ) (i o : ℕ) (h : Filled s d out i o) where
     pub left-broken : g ≡ Broken → out ≡ leftIn (decode (withoutBlanks s)) d
     left-broken e = let z : _≡_ {A = ℕ} 0 1 = cc (read-broken s i g k e, h .sound) in absurd (omega arith)
 
-pub ruleset filling = (nearer, filled-none, same-long, room-three, first-three, filled-three, room-two, first-two, left-two, first-one, left-one, left-end, left-broken, needs)
+  module _ (w : Whole) (k : WholeGroup s i w) (x y z : ℕ) (e : w ≡ WThree x y z) where
+    pub room-whole : o + 3 ≤ length out
+    room-whole = room-three _ (read-whole s i w k x y z e) x y z (i + 4) refl
+
+    pub filled-whole : (out₁ : List ℕ) → out₁ ≡ putAt out o (x ∷ y ∷ z ∷ []) → Filled s d out₁ (i + 4) (o + 3)
+    filled-whole out₁ q = filled-three _ (read-whole s i w k x y z e) x y z (i + 4) refl out₁ q
+
+pub ruleset filling = (nearer, nearer-whole, filled-none, same-long, room-whole, filled-whole, room-three, filled-three, room-two, first-two, left-two, first-one, left-one, left-end, left-broken, needs)
 
 -- `decode`, by what was measured
 is-wrong : (o : Option (List ℕ)) → sizeOf o ≡ Wrong → o ≡ none

@@ -2,13 +2,12 @@
 --     length-encode    four characters for every three octets begun
 --     length-laid      the rest of a text, with the line breaks in it
 --     length-lines     three characters more for every line begun
---     the ruleset      counting, for `lines_length`
+--     lines-counted    the same of the lines of octets, as code counts them
 -- Assumes nothing.
 use Prim.Native.Nat.{ℕ, zero, suc, _+_, _-_, _*_, _/_}
 use mathlib.Core.Path.{_≡_, refl, sym}
 use mathlib.Core.List.{List, [], _∷_}
 use native.Mathlib.Omega.{arith}
-use borrow.Author.Needs.{needs}
 use lib.ListN.{length}
 use Rattle.base64.specs.Base64.{encode, laid, lines}
 
@@ -33,5 +32,3 @@ length-lines (x ∷ t) = omega (arith, length-laid 75 t)
 
 pub lines-counted : (s : List ℕ) → (length s + 2) / 3 * 4 + ((length s + 2) / 3 * 4 + 75) / 76 * 3 ≡ length (lines (encode s))
 lines-counted s = sym (rw (length-lines, length-encode))
-
-pub ruleset counting = (lines-counted, needs)

@@ -6,7 +6,6 @@ pub mod Measuring
 pub mod Putting
 pub mod Filling
 pub mod Lengths
-pub mod Laying
 pub mod RoundTrip
 pub mod Answered
 pub mod Worked

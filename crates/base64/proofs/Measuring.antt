@@ -1,5 +1,6 @@
 -- Counting the octets of a text.
 --     read-three .. read-broken    what an answer of `next_group` says of the text
+--     read-whole                   and what one of `whole_group` says
 --     Sized s i n                  before the place i of s stand n octets, and the text goes on there
 --     the ruleset                  measuring, for `measure`
 -- Assumes nothing.
@@ -12,9 +13,11 @@ use native.Mathlib.Omega.{arith}
 use borrow.Author.Needs.{needs}
 use lib.ListN.{length, drop}
 use Rattle.base64.specs.Base64.{before, decode, withoutBlanks}
-use Rattle.base64.specs.Steps.{NextGroup, sizeOf}
+use Rattle.base64.specs.Steps.{NextGroup, WholeGroup, sizeOf}
 use Rattle.base64.specs.declared.Next.{Next}
 use Rattle.base64.specs.declared.Next.the-variants.{Three, Two, One, End, Broken}
+use Rattle.base64.specs.declared.Whole.{Whole}
+use Rattle.base64.specs.declared.Whole.the-variants.{Three as WThree}
 use Rattle.base64.specs.declared.Size.{Size}
 use Rattle.base64.specs.declared.Size.the-variants.{Of, Wrong}
 
@@ -43,6 +46,15 @@ module _ (s : List ℕ) (at : ℕ) (g : Next) (h : NextGroup s at g) where
 
   pub nearer : (x y z n : ℕ) → g ≡ Three x y z n → length s - n < length s - at
   nearer x y z n e = let r = read-three x y z n e in omega arith
+
+-- `whole_group`'s answer, read
+module _ (s : List ℕ) (at : ℕ) (w : Whole) (h : WholeGroup s at w) (x y z : ℕ) (e : w ≡ WThree x y z) where
+  pub read-whole : NextGroup s at (Three x y z (at + 4))
+  unfolding WholeGroup
+  read-whole = rw e at h
+
+  pub nearer-whole : length s - (at + 4) < length s - at
+  nearer-whole = nearer s at _ read-whole x y z (at + 4) refl
 
 -- n octets more
 unfoldable pub more : ℕ → Size → Size
@@ -89,4 +101,7 @@ module _ (s : List ℕ) (i n : ℕ) (h : Sized s i n) (g : Next) (k : NextGroup 
   unfolding more sizeOf
   size-broken e = sym (h .adds ∙ rw (read-broken s i g k e))
 
-pub ruleset measuring = (nearer, sized-none, sized-three, size-two, size-one, size-end, size-broken, needs)
+pub sized-whole : (s : List ℕ) (i n : ℕ) → Sized s i n → (w : Whole) → WholeGroup s i w → (x y z : ℕ) → w ≡ WThree x y z → Sized s (i + 4) (n + 3)
+sized-whole s i n h w k x y z e = sized-three s i n h _ (read-whole s i w k x y z e) x y z (i + 4) refl
+
+pub ruleset measuring = (nearer, nearer-whole, sized-none, sized-three, sized-whole, size-two, size-one, size-end, size-broken, needs)

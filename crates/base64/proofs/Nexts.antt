@@ -1,23 +1,24 @@
 -- What a text goes on with: its next letters, its next group.
 --     got, ended       what an answer of `next_letter` says of the text
 --     decode-short, decode-four    one step of the rule
---     the rulesets     stepping for `step`, spacing for `next_spaced`, nearing for `next_group`
+--     the rulesets     stepping for `step`, spacing for `next_group`, nearing for `whole_group`
 -- Assumes nothing.
-use Prim.Native.Nat.{ℕ, _+_, _-_, _<_, _≤_}
-use mathlib.Core.Path.{_≡_, refl, sym, ap, _∙_}
+use Prim.Native.Nat.{ℕ, _+_, _-_, _*_, _/_, _%_, _<_, _≤_}
+use mathlib.Core.Path.{_≡_, refl, sym, ap}
 use mathlib.Core.Bool.{Bool, true, false}
 use mathlib.Core.List.{List, [], _∷_}
 use native.Mathlib.Omega.{arith}
 use borrow.Author.Needs.{needs}
 use lib.ListN.{length, getD, drop}
 use Rattle.octets.proofs.Lists.{drop-one}
+use Rattle.base64.proofs.Alphabet.{found-value}
 use Rattle.base64.proofs.Blanks.{without-other, blank-other}
 use Rattle.base64.specs.Base64.{signOf, closed, grouped, groupOf, atEnd, follow, decode, blank, withoutBlanks}
-use Rattle.base64.specs.Steps.{NextLetter, stepOf, NextGroup}
-use Rattle.base64.specs.declared.Sign.{Sign}
-use Rattle.base64.specs.declared.Sign.the-variants.{Value, Pad, Other}
+use Rattle.base64.specs.Steps.{codeOf, NextLetter, stepOf, NextGroup, WholeGroup}
+use Rattle.base64.specs.declared.Sign.the-variants.{Value}
 use Rattle.base64.specs.declared.Group.{Group}
 use Rattle.base64.specs.declared.Group.the-variants.{Three as GThree, Two as GTwo, One as GOne, Broken as GBroken}
+use Rattle.base64.specs.declared.Whole.the-variants.{Three as WThree, Other as WOther}
 use Rattle.base64.specs.declared.Letter.{Letter}
 use Rattle.base64.specs.declared.Letter.the-variants.{End as Over, At}
 use Rattle.base64.specs.declared.Next.{Next}
@@ -81,7 +82,7 @@ module _ (g : Group) (n : ℕ) where
 
 pub ruleset stepping = (step-three, step-broken, step-two, step-one, two-goes-on, one-goes-on, needs)
 
--- `next_spaced`
+-- `next_group`
 module _ (s : List ℕ) (at : ℕ) (r₁ : Letter) (h₁ : NextLetter s at r₁) where
   pub no-letter : r₁ ≡ Over → NextGroup s at End
   unfolding NextGroup decode
@@ -114,42 +115,17 @@ module _ (s : List ℕ) (at : ℕ) (r₁ : Letter) (h₁ : NextLetter s at r₁)
 
 pub ruleset spacing = (no-letter, one-letter, two-letters, three-letters, four-letters, needs)
 
--- a character that stands for nothing breaks its group
-broken-at-1 : (q r s : Sign) → grouped Other q r s ≡ GBroken
-unfolding grouped
-broken-at-1 q r s = refl
+-- a letter, by the number that the table has for it
+module _ (x v : ℕ) (e : v ≡ codeOf (signOf x)) (l : v < 64) where
+  is-letter : signOf x ≡ Value v
+  is-letter = sym (found-value x v e l)
 
-broken-at-2 : (p r s : Sign) → grouped p Other r s ≡ GBroken
-unfolding grouped
-broken-at-2 (Value p) r s = refl
-broken-at-2 Pad r s = refl
-broken-at-2 Other r s = refl
-
-broken-at-3 : (p q s : Sign) → grouped p q Other s ≡ GBroken
-unfolding grouped closed
-broken-at-3 (Value p) (Value q) s = refl
-broken-at-3 (Value p) Pad s = refl
-broken-at-3 (Value p) Other s = refl
-broken-at-3 Pad q s = refl
-broken-at-3 Other q s = refl
-
-broken-at-4 : (p q r : Sign) → grouped p q r Other ≡ GBroken
-unfolding grouped closed
-broken-at-4 (Value p) (Value q) (Value r) = refl
-broken-at-4 (Value p) (Value q) Pad = refl
-broken-at-4 (Value p) (Value q) Other = refl
-broken-at-4 (Value p) Pad r = refl
-broken-at-4 (Value p) Other r = refl
-broken-at-4 Pad q r = refl
-broken-at-4 Other q r = refl
-
--- so there is no blank where four characters stand for three octets
-no-blank : (x : ℕ) (g : Group) (u v w : ℕ) → g ≡ GThree u v w → (signOf x ≡ Other → g ≡ GBroken) → blank x ≡ false
-no-blank x g u v w e f = go (blank x) refl
-  where
-    go : (b : Bool) → blank x ≡ b → b ≡ false
-    go false q = refl
-    go true q = let z : _≡_ {A = ℕ} 0 1 = (let h = f (blank-other x q) in cc) in absurd (omega arith)
+  no-blank : blank x ≡ false
+  no-blank = go (blank x) refl
+    where
+      go : (b : Bool) → blank x ≡ b → b ≡ false
+      go false q = refl
+      go true q = let z : _≡_ {A = ℕ} 0 1 = cc (is-letter, blank-other x q) in absurd (omega arith)
 
 drop-four : (s : List ℕ) (at : ℕ) → at + 4 ≤ length s
     → drop at s ≡ getD s at 0 ∷ getD s (at + 1) 0 ∷ getD s (at + 2) 0 ∷ getD s (at + 3) 0 ∷ drop (at + 4) s
@@ -159,19 +135,21 @@ drop-four s at h =
     let e₄ : at + 3 + 1 ≡ at + 4 = omega arith in
     rw (drop-one s at (omega arith), drop-one s (at + 1) (omega arith), e₂, drop-one s (at + 2) (omega arith), e₃, drop-one s (at + 3) (omega arith), e₄)
 
--- `next_group`: the next four octets make three
-pub near-three : (s : List ℕ) (at : ℕ) → at ≤ length s → 4 ≤ length s - at → (g : Group)
-    → g ≡ groupOf (getD s at 0) (getD s (at + 1) 0) (getD s (at + 2) 0) (getD s (at + 3) 0)
-    → (x y z : ℕ) → g ≡ GThree x y z → NextGroup s at (Three x y z (at + 4))
-unfolding stepOf
-near-three s at l k g e x y z t =
-    let b₁ = no-blank (getD s at 0) g x y z t (λ o. e ∙ rw o (broken-at-1 _ _ _)) in
-    let b₂ = no-blank (getD s (at + 1) 0) g x y z t (λ o. e ∙ rw o (broken-at-2 _ _ _)) in
-    let b₃ = no-blank (getD s (at + 2) 0) g x y z t (λ o. e ∙ rw o (broken-at-3 _ _ _)) in
-    let b₄ = no-blank (getD s (at + 3) 0) g x y z t (λ o. e ∙ rw o (broken-at-4 _ _ _)) in
-    let f = grouped-at s at (at + 4) (getD s at 0) (getD s (at + 1) 0) (getD s (at + 2) 0) (getD s (at + 3) 0)
-    (rw (drop-four s at (omega arith), without-other blank _ _ b₁, without-other blank _ _ b₂, without-other blank _ _ b₃, without-other blank _ _ b₄))
-    (omega arith) (omega arith) in
-    rw (sym e ∙ t) at f
+-- `whole_group`: the next four characters are letters
+module _ (s : List ℕ) (at : ℕ) (l : at ≤ length s) (k : 4 ≤ length s - at) (p q r t : ℕ)
+    (e₁ : p ≡ codeOf (signOf (getD s at 0))) (e₂ : q ≡ codeOf (signOf (getD s (at + 1) 0)))
+    (e₃ : r ≡ codeOf (signOf (getD s (at + 2) 0))) (e₄ : t ≡ codeOf (signOf (getD s (at + 3) 0)))
+    (l₁ : p < 64) (l₂ : q < 64) (l₃ : r < 64) (l₄ : t < 64) where
+  pub whole-three : WholeGroup s at (WThree (p * 4 + q / 16) (q % 16 * 16 + r / 4) (r % 4 * 64 + t))
+  unfolding stepOf grouped closed WholeGroup
+  whole-three =
+      let f = grouped-at s at (at + 4) (getD s at 0) (getD s (at + 1) 0) (getD s (at + 2) 0) (getD s (at + 3) 0)
+      (rw (drop-four s at (omega arith), without-other blank _ _ (no-blank _ p e₁ l₁), without-other blank _ _ (no-blank _ q e₂ l₂), without-other blank _ _ (no-blank _ r e₃ l₃), without-other blank _ _ (no-blank _ t e₄ l₄)))
+      (omega arith) (omega arith) in
+      rw (is-letter _ p e₁ l₁, is-letter _ q e₂ l₂, is-letter _ r e₃ l₃, is-letter _ t e₄ l₄) at f
 
-pub ruleset nearing = (near-three, needs)
+pub whole-other : (s : List ℕ) (at : ℕ) → WholeGroup s at WOther
+unfolding WholeGroup
+whole-other s at = tt
+
+pub ruleset nearing = (whole-three, whole-other, needs)

@@ -3,12 +3,14 @@
 --     has-room                   there is room for what is still to be written
 --     over-none .. over-four     octets written over those from a place on
 --     put-then, put-both         an octet or a list, and then a list behind it
+--     the ruleset                storing, for `put_three` and `put_four`
 -- Assumes nothing.
-use Prim.Native.Nat.{ℕ, _+_, _≤_}
+use Prim.Native.Nat.{ℕ, _+_, _<_, _≤_}
 use mathlib.Core.Path.{_≡_, sym}
 use mathlib.Core.List.{List, [], _∷_, _++_, append-nil}
 use native.Mathlib.Nat.{add-zero}
 use native.Mathlib.Omega.{arith}
+use borrow.Author.Needs.{needs}
 use lib.ListN.{length, take, set, take-append-drop}
 use Rattle.octets.specs.Written.{putAt}
 use Rattle.octets.proofs.Writing.{Wrote, begin-at, kept, counted, put, puts, done-at}
@@ -66,3 +68,9 @@ module _ (d : List ℕ) (at : ℕ) where
     over-four v h =
         done-at (x ∷ y ∷ z ∷ v ∷ []) d _ at (at + 4) h
         (put-four _ d d at x y z v [] (begin-at (x ∷ y ∷ z ∷ v ∷ []) d at h))
+
+-- each of n places has room where all have
+pub room-in : (d : List ℕ) (at n j : ℕ) → at + n ≤ length d → j < n → at + j < length d
+room-in d at n j h l = omega arith
+
+pub ruleset storing = (room-in, over-three, over-four, needs)

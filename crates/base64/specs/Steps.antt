@@ -1,30 +1,33 @@
 -- What the private functions answer: the steps between the rule of `Base64` and the code's places.
+--     Letters          a table that has the letter of each value
 --     codeOf, Signs    a sign as a number, and a table that has the number of each octet's sign
 --     Low              a sign whose value, if it has one, is below 64
 --     NextLetter       what `next_letter` answers
 --     stepOf           what a text goes on with whose next four characters are a group
 --     NextGroup        what `next_group` answers
+--     WholeGroup       what `whole_group` answers
 --     sizeOf, Room     how many octets a text stands for, and that they have room
---     characters       the four characters of a group
---     lineBreak, piece    the line break before a group, and the group behind it
---     after            how many groups a line takes behind the next one
-use Prim.Native.Nat.{ℕ, zero, suc, _+_, _<_, _≤_}
+use Prim.Native.Nat.{ℕ, _+_, _<_, _≤_}
 use mathlib.Core.Path.{_≡_}
-use mathlib.Core.List.{List, [], _∷_, _++_}
+use mathlib.Core.List.{List, [], _∷_}
 use mathlib.Core.Option.{Option, some, none}
-use lib.ListN.{length, getD, take, drop}
-use Rattle.base64.specs.Base64.{signOf, before, decode, withoutBlanks, encode, cr, lf, space}
+use lib.ListN.{length, getD, drop}
+use Rattle.base64.specs.Base64.{letter, signOf, before, decode, withoutBlanks}
 use Rattle.base64.specs.declared.Sign.{Sign}
 use Rattle.base64.specs.declared.Sign.the-variants.{Value, Pad, Other}
 use Rattle.base64.specs.declared.Group.{Group}
 use Rattle.base64.specs.declared.Group.the-variants.{Three as GThree, Two as GTwo, One as GOne, Broken as GBroken}
 use Rattle.base64.specs.declared.Letter.{Letter}
 use Rattle.base64.specs.declared.Letter.the-variants.{End as Over, At}
-use Rattle.base64.specs.declared.Four.{Four}
 use Rattle.base64.specs.declared.Next.{Next}
 use Rattle.base64.specs.declared.Next.the-variants.{Three, Two, One, End, Broken}
+use Rattle.base64.specs.declared.Whole.{Whole}
+use Rattle.base64.specs.declared.Whole.the-variants.{Three as WThree, Other as WOther}
 use Rattle.base64.specs.declared.Size.{Size}
 use Rattle.base64.specs.declared.Size.the-variants.{Of, Wrong}
+
+pub record Letters (table : List ℕ) : Type 0 where
+  pub at : (v : ℕ) → v < 64 → getD table v 0 ≡ letter v
 
 -- the value, or 64 for a pad and 65 for all else
 unfoldable pub codeOf : Sign → ℕ
@@ -64,6 +67,11 @@ NextGroup s at (One x) = decode (withoutBlanks (drop at s)) ≡ some (x ∷ [])
 NextGroup s at End = decode (withoutBlanks (drop at s)) ≡ some []
 NextGroup s at Broken = decode (withoutBlanks (drop at s)) ≡ none
 
+-- the next group where it is known to be whole, four letters from the place `at` on; else nothing is said
+unfoldable pub WholeGroup : List ℕ → ℕ → Whole → Type 0
+WholeGroup s at (WThree x y z) = NextGroup s at (Three x y z (at + 4))
+WholeGroup s at WOther = Unit
+
 unfoldable pub sizeOf : Option (List ℕ) → Size
 sizeOf none = Wrong
 sizeOf (some w) = Of (length w)
@@ -71,20 +79,3 @@ sizeOf (some w) = Of (length w)
 abbrev pub Room : Option (List ℕ) → ℕ → Type 0
 Room none n = ⊥
 Room (some w) n = length w ≤ n
-
-abbrev pub characters : Four → List ℕ
-characters f = f .0 ∷ f .1 ∷ f .2 ∷ f .3 ∷ []
-
--- what ends a line that takes no group more and begins the next
-unfoldable pub lineBreak : ℕ → List ℕ
-lineBreak zero = cr ∷ lf ∷ space ∷ []
-lineBreak (suc n) = []
-
--- the group that begins at the place i of s, behind the line break that it may want
-unfoldable pub piece : List ℕ → ℕ → ℕ → List ℕ
-piece s i k = lineBreak k ++ take 4 (encode (drop i s))
-
--- a line takes 19 groups
-unfoldable pub after : ℕ → ℕ
-after zero = 18
-after (suc n) = n

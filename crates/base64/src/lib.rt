@@ -1,13 +1,13 @@
-// Base64 as key data has it: a text is decoded with its blanks left out, and octets are written as
-// the lines of a field. What is right is said by specs/Base64.antt.
+// Base64 as key data has it: a text is decoded with its blanks left out. What is right is said by
+// specs/Base64.antt. Octets are written as the lines of a field by the crate `lines`.
 ghost use Prim.Native.Nat.{_+_, _≤_, _<_};
 ghost use mathlib.Core.Path.{_≡_};
-ghost use mathlib.Core.List.{[], _∷_, _++_};
+ghost use mathlib.Core.List.{[], _∷_};
 ghost use lib.ListN.{length, drop};
 ghost use Rattle.octets.specs.Written.{putAt};
-ghost use Rattle.base64.specs.Base64.{letter, signOf, closed, groupOf, decode as octetsOf, blank, withoutBlanks, encode, laid, lines};
+ghost use Rattle.base64.specs.Base64.{letter, signOf, closed, groupOf, decode as octetsOf, blank, withoutBlanks};
 ghost use Rattle.base64.specs.Answers.{decodedOf, leftIn};
-ghost use Rattle.base64.specs.Steps.{Signs, Low, NextLetter, stepOf, NextGroup, sizeOf, Room, characters, lineBreak, piece, after};
+ghost use Rattle.base64.specs.Steps.{Letters, codeOf, Signs, Low, NextLetter, stepOf, NextGroup, WholeGroup, sizeOf, Room};
 
 // What a character stands for.
 pub enum Sign {
@@ -47,33 +47,33 @@ enum Next {
     Broken,
 }
 
+// The octets of four letters that stand side by side, or that there are none such.
+enum Whole {
+    Three(u8, u8, u8),
+    Other,
+}
+
 // How many octets a text stands for.
 enum Size {
     Of(usize),
     Wrong,
 }
 
-// Four characters that stand for the octets of one group.
-struct Four(u8, u8, u8, u8);
+// The letter of each value. Looking letters up, where the values are as good as random, takes about a tenth of the time of
+// choosing them by tests.
+pub fn letters() -> [u8; 64]
+    ensures { λ r. ⌜ Letters r ⌝ }
+{
+    *b"ABCDEFGHIJKLMNOPQRSTUVWXYZabcdefghijklmnopqrstuvwxyz0123456789+/"
+}
 
-// The character of a value.
-fn letter_of(value: u8) -> u8
-    requires { ⌜ value < 64 ⌝ }
+// The letter of a value.
+pub fn letter_of(letters: &[u8; 64], value: u8) -> u8
+    requires { ⌜ Letters (now letters) × (value < 64) ⌝ }
     ensures { λ r. ⌜ r ≡ letter value ⌝ }
 {
-    if value < 26 {
-        return b'A' + value;
-    }
-    if value < 52 {
-        return b'a' + (value - 26);
-    }
-    if value < 62 {
-        return b'0' + (value - 52);
-    }
-    if value == 62 {
-        return b'+';
-    }
-    b'/'
+    let at = value as usize;
+    letters[at]
 }
 
 // For each octet what it stands for as a character: a value, 64 for the pad, 65 for nothing. It is made
@@ -81,10 +81,11 @@ fn letter_of(value: u8) -> u8
 fn signs() -> [u8; 256]
     ensures { λ r. ⌜ Signs r ⌝ }
 {
+    let letters = letters();
     let mut table = [65u8; 256];
     let mut value: u8 = 0;
     while value < 64 {
-        let at = letter_of(value) as usize;
+        let at = letter_of(&letters, value) as usize;
         table[at] = value;
         value += 1;
     }
@@ -92,13 +93,21 @@ fn signs() -> [u8; 256]
     table
 }
 
-// What a character stands for, by the table.
+// What a character stands for, as the number that the table has.
+fn code_of(table: &[u8; 256], x: u8) -> u8
+    requires { ⌜ Signs (now table) ⌝ }
+    ensures { λ r. ⌜ r ≡ codeOf (signOf x) ⌝ }
+{
+    let at = x as usize;
+    table[at]
+}
+
+// What a character stands for.
 fn sign_of(table: &[u8; 256], x: u8) -> Sign
     requires { ⌜ Signs (now table) ⌝ }
     ensures { λ r. ⌜ (r ≡ signOf x) × Low r ⌝ }
 {
-    let at = x as usize;
-    let value = table[at];
+    let value = code_of(table, x);
     if value < 64 {
         return Sign::Value(value);
     }
@@ -220,7 +229,7 @@ fn step(src: &[u8], group: Group, n: usize) -> Next
 }
 
 // What the text goes on with from the place `at` on, with blanks anywhere.
-fn next_spaced(table: &[u8; 256], src: &[u8], at: usize) -> Next
+fn next_group(table: &[u8; 256], src: &[u8], at: usize) -> Next
     requires { ⌜ Signs (now table) ⌝ }
     ensures { λ r. ⌜ NextGroup (now (src .entry)) at r ⌝ }
 {
@@ -239,22 +248,33 @@ fn next_spaced(table: &[u8; 256], src: &[u8], at: usize) -> Next
     step(src, group_of(table, a, b, c, d), n)
 }
 
-// The same. Blanks are rare: where the next four octets make three there is none among them, and no
-// octet was compared with a blank. The calls of `next_spaced` stay apart on purpose: with one call it is
-// compiled into this function, this function no longer into the loops, and decoding takes three times as long.
-fn next_group(table: &[u8; 256], src: &[u8], at: usize) -> Next
+// The octets of the four characters from the place `at` on, where all are letters. Nearly all groups of a text are such: its
+// loops take them by this, where no character is compared with a blank and no answer goes through memory, and call `next_group`
+// for the others.
+fn whole_group(table: &[u8; 256], src: &[u8], at: usize) -> Whole
     requires { ⌜ Signs (now table) × (at ≤ length (now src)) ⌝ }
-    ensures { λ r. ⌜ NextGroup (now (src .entry)) at r ⌝ }
+    ensures { λ r. ⌜ WholeGroup (now (src .entry)) at r ⌝ }
 {
     if src.len() - at < 4 {
-        return next_spaced(table, src, at);
+        return Whole::Other;
     }
-    match group_of(table, src[at], src[at + 1], src[at + 2], src[at + 3]) {
-        Group::Three(x, y, z) => Next::Three(x, y, z, at + 4),
-        Group::Two(_, _) => next_spaced(table, src, at),
-        Group::One(_) => next_spaced(table, src, at),
-        Group::Broken => next_spaced(table, src, at),
+    let p = code_of(table, src[at]);
+    let q = code_of(table, src[at + 1]);
+    let r = code_of(table, src[at + 2]);
+    let s = code_of(table, src[at + 3]);
+    if 64 <= p {
+        return Whole::Other;
     }
+    if 64 <= q {
+        return Whole::Other;
+    }
+    if 64 <= r {
+        return Whole::Other;
+    }
+    if 64 <= s {
+        return Whole::Other;
+    }
+    Whole::Three(p * 4 + q / 16, q % 16 * 16 + r / 4, r % 4 * 64 + s)
 }
 
 // How many octets the text stands for.
@@ -265,6 +285,11 @@ fn measure(table: &[u8; 256], src: &[u8]) -> Size
     let mut n: usize = 0;
     let mut i: usize = 0;
     loop {
+        if let Whole::Three(_, _, _) = whole_group(table, src, i) {
+            n += 3;
+            i += 4;
+            continue;
+        }
         match next_group(table, src, i) {
             Next::Three(_, _, _, behind) => {
                 n += 3;
@@ -278,6 +303,16 @@ fn measure(table: &[u8; 256], src: &[u8]) -> Size
     }
 }
 
+// Writes three octets from the place `at` on.
+fn put_three(out: &mut [u8], at: usize, x: u8, y: u8, z: u8)
+    requires { ⌜ at + 3 ≤ length (now out) ⌝ }
+    ensures { λ _. ⌜ now (out .exit) ≡ putAt (now (out .entry)) at (x ∷ y ∷ z ∷ []) ⌝ }
+{
+    out[at] = x;
+    out[at + 1] = y;
+    out[at + 2] = z;
+}
+
 // Writes the octets of a text that has been measured.
 fn write(table: &[u8; 256], src: &[u8], out: &mut [u8])
     requires { ⌜ Signs (now table) × Room (octetsOf (withoutBlanks (now src))) (length (now out)) ⌝ }
@@ -286,11 +321,15 @@ fn write(table: &[u8; 256], src: &[u8], out: &mut [u8])
     let mut o: usize = 0;
     let mut i: usize = 0;
     loop {
+        if let Whole::Three(x, y, z) = whole_group(table, src, i) {
+            put_three(&mut *out, o, x, y, z);
+            o += 3;
+            i += 4;
+            continue;
+        }
         match next_group(table, src, i) {
             Next::Three(x, y, z, behind) => {
-                out[o] = x;
-                out[o + 1] = y;
-                out[o + 2] = z;
+                put_three(&mut *out, o, x, y, z);
                 o += 3;
                 i = behind;
             }
@@ -326,136 +365,4 @@ pub fn decode(src: &[u8], out: &mut [u8]) -> Decoded
         }
         Size::Wrong => Decoded::NotBase64,
     }
-}
-
-// How long the lines of a key are: four characters for every three octets begun, and a space, a CR and
-// an LF for every 76 characters begun.
-pub fn lines_length(key: &[u8]) -> usize
-    ensures { λ r. ⌜ r ≡ length (lines (encode (now (key .entry)))) ⌝ }
-{
-    let text = (key.len() + 2) / 3 * 4;
-    text + (text + 75) / 76 * 3
-}
-
-// The characters of a last octet, of the last two, and of three.
-fn four_of_one(a: u8) -> Four
-    ensures { λ r. ⌜ characters r ≡ encode (a ∷ []) ⌝ }
-{
-    Four(letter_of(a / 4), letter_of(a % 4 * 16), b'=', b'=')
-}
-
-fn four_of_two(a: u8, b: u8) -> Four
-    ensures { λ r. ⌜ characters r ≡ encode (a ∷ b ∷ []) ⌝ }
-{
-    Four(
-        letter_of(a / 4),
-        letter_of(a % 4 * 16 + b / 16),
-        letter_of(b % 16 * 4),
-        b'=',
-    )
-}
-
-fn four_of_three(a: u8, b: u8, c: u8) -> Four
-    ensures { λ r. ⌜ characters r ≡ encode (a ∷ b ∷ c ∷ []) ⌝ }
-{
-    Four(
-        letter_of(a / 4),
-        letter_of(a % 4 * 16 + b / 16),
-        letter_of(b % 16 * 4 + c / 64),
-        letter_of(c % 64),
-    )
-}
-
-// The four characters of the group that begins at the place `at`.
-fn four_at(key: &[u8], at: usize) -> Four
-    requires { ⌜ at < length (now key) ⌝ }
-    ensures { λ r. ⌜ encode (drop at (now (key .entry))) ≡ characters r ++ encode (drop (at + 3) (now (key .entry))) ⌝ }
-{
-    let left = key.len() - at;
-    if left == 1 {
-        return four_of_one(key[at]);
-    }
-    if left == 2 {
-        return four_of_two(key[at], key[at + 1]);
-    }
-    four_of_three(key[at], key[at + 1], key[at + 2])
-}
-
-// Ends a line that takes no group more, and begins the next. The answer is the place behind.
-fn break_line(out: &mut [u8], at: usize, takes: usize) -> usize
-    requires { ⌜ at + length (lineBreak takes) ≤ length (now out) ⌝ }
-    ensures { λ r. ⌜ (r ≡ at + length (lineBreak takes)) × (r ≤ at + 3) ⌝ }
-    ensures { λ _. ⌜ now (out .exit) ≡ putAt (now (out .entry)) at (lineBreak takes) ⌝ }
-{
-    if takes != 0 {
-        return at;
-    }
-    out[at] = b'\r';
-    out[at + 1] = b'\n';
-    out[at + 2] = b' ';
-    at + 3
-}
-
-// Writes four characters from the place `at` on.
-fn put_four(out: &mut [u8], at: usize, f: Four)
-    requires { ⌜ at + 4 ≤ length (now out) ⌝ }
-    ensures { λ _. ⌜ now (out .exit) ≡ putAt (now (out .entry)) at (characters f) ⌝ }
-{
-    out[at] = f.0;
-    out[at + 1] = f.1;
-    out[at + 2] = f.2;
-    out[at + 3] = f.3;
-}
-
-// How many groups the line takes behind the next one: a whole line takes 19.
-fn takes_after(takes: usize) -> usize
-    ensures { λ r. ⌜ r ≡ after takes ⌝ }
-{
-    if takes == 0 { 18 } else { takes - 1 }
-}
-
-// Writes the group that begins at the place `i` of the key, behind the line break that it may want.
-// The answer is the place behind.
-fn put_group(key: &[u8], i: usize, out: &mut [u8], at: usize, takes: usize) -> usize
-    requires { ⌜ (i < length (now key)) × (at + length (piece (now key) i takes) ≤ length (now out)) ⌝ }
-    ensures { λ r. ⌜ (r ≡ at + length (piece (now (key .entry)) i takes)) × (r ≤ at + 7) ⌝ }
-    ensures { λ _. ⌜ now (out .exit) ≡ putAt (now (out .entry)) at (piece (now (key .entry)) i takes) ⌝ }
-{
-    let four = four_at(key, i);
-    let o = break_line(&mut *out, at, takes);
-    put_four(&mut *out, o, four);
-    o + 4
-}
-
-// Writes a key as lines from the place `at` on, behind the space that opens the first one. A group never
-// stands on two lines, since 76 is a multiple of 4. The answer is the place behind.
-fn lay(key: &[u8], out: &mut [u8], at: usize) -> usize
-    requires { ⌜ at + length (laid 76 (encode (now key))) ≤ length (now out) ⌝ }
-    ensures { λ r. ⌜ r ≡ at + length (laid 76 (encode (now (key .entry)))) ⌝ }
-    ensures { λ _. ⌜ now (out .exit) ≡ putAt (now (out .entry)) at (laid 76 (encode (now (key .entry)))) ⌝ }
-{
-    let mut o = at;
-    let mut i: usize = 0;
-    let mut takes: usize = 19;
-    while i < key.len() {
-        o = put_group(key, i, &mut *out, o, takes);
-        takes = takes_after(takes);
-        i += 3;
-    }
-    out[o] = b'\r';
-    out[o + 1] = b'\n';
-    o + 2
-}
-
-// Writes a key as the lines of a field from the place `at` on, and answers the place behind them.
-pub fn write_lines(key: &[u8], out: &mut [u8], at: usize) -> usize
-    requires { ⌜ at + length (lines (encode (now key))) ≤ length (now out) ⌝ }
-    ensures { λ r. ⌜ r ≡ at + length (lines (encode (now (key .entry)))) ⌝ }
-    ensures { λ _. ⌜ now (out .exit) ≡ putAt (now (out .entry)) at (lines (encode (now (key .entry)))) ⌝ }
-{
-    if key.len() == 0 {
-        return at;
-    }
-    out[at] = b' ';
-    lay(key, out, at + 1)
 }

@@ -5,7 +5,7 @@
 -- Assumes nothing.
 use Prim.Native.Nat.{ℕ, zero, suc}
 use mathlib.Core.Path.{_≡_, refl}
-use mathlib.Core.Bool.{Bool, true, false}
+use mathlib.Core.Bool.{Bool, false}
 use mathlib.Core.List.{List, [], _∷_}
 use mathlib.Core.Option.{Option, some, none}
 use lib.ListN.{length, take, drop}
@@ -20,7 +20,6 @@ use Rattle.address.specs.Address.{addressOctet, plain}
 use Rattle.address.proofs.Every.{by-test}
 use Rattle.list.specs.List.{openingOf, holdsAt, Token, address, other, end, unreadable, runToken, quotedToken, tokenAt, firstToken, afterAddress, after, mayEnd, inFront, listedBy, listed, addresses}
 use Rattle.list.specs.Answers.{onlyOf}
-use Rattle.list.specs.declared.token.Sort.{Sort}
 use Rattle.list.specs.declared.token.Opening.{Opening}
 use Rattle.list.specs.declared.token.Opening.the-variants.{Run, Quote, Sign, Nothing}
 use Rattle.list.specs.declared.grammar.Stage.{Stage}

@@ -8,7 +8,7 @@
 --     named-first .. named-none    what a caller asks of the answer
 -- Assumes nothing.
 use Prim.Native.Nat.{ℕ, _-_, _<_, _≤_}
-use mathlib.Core.Path.{_≡_, refl, sym, ap, _∙_}
+use mathlib.Core.Path.{_≡_, refl, sym, _∙_}
 use mathlib.Core.Bool.{Bool, true, false, false≢true, _||_}
 use mathlib.Core.List.{List, [], _∷_}
 use mathlib.Core.Option.{Option, some, none}
@@ -55,9 +55,13 @@ module _ (kind : Kind) (f : FieldText) where
   values-out (some fs) e = rw (valuesOf, e)
 
 module _ (kind : Kind) (s : List ℕ) where
+  by-fields : (at : ℕ) (o : Option (List FieldText)) → fieldsFrom s at ≡ o → valuesFrom kind s at ≡ valuesOf kind (readFields o)
+  unfolding valuesFrom
+  by-fields at o e = rw e
+
   pub values-all : readable s ≡ true → valuesFrom kind s 0 ≡ valuesOf kind (fieldsIn s)
-  unfolding valuesFrom fieldsIn
-  values-all c = ap (λ (o : Option (List FieldText)). valuesOf kind (readFields o)) (sym (fields-fit s (clear-fits s true (sym c) refl)))
+  unfolding fieldsIn
+  values-all c = by-fields 0 (fieldsOf s) (sym (fields-fit s (clear-fits s true (sym c) refl)))
 
 pub fields-are : (s : List ℕ) (fs : List FieldText) → fieldsOf s ≡ some fs → fieldsIn s ≡ fs
 unfolding fieldsIn readFields
@@ -85,15 +89,15 @@ module _ (kind : Kind) (s : List ℕ) (at : ℕ) where
 
   module _ (place : ℕ) (r : Step) (h : Seeking kind s at place) (t : r ≡ stepAt s place) where
     pub seek-over : r ≡ Over → NamedAs kind s at Nothing
-    unfolding NamedAs valuesFrom valuesOf readFields
-    seek-over q = h .same ∙ ap (λ (o : Option (List FieldText)). valuesOf kind (readFields o)) (from-over s place r t q)
+    unfolding NamedAs valuesOf readFields
+    seek-over q = h .same ∙ by-fields kind s place (some []) (from-over s place r t q)
 
     pub seek-broken : r ≡ Broken → NamedAs kind s at Nothing
     seek-broken q = absurd (clear-whole s place r (h .clear) t q)
 
     module _ (n v e : ℕ) (q : r ≡ Field n v e) (b : Bool) (u : b ≡ isKind kind (take (n - place) (drop place s))) where
-      front : fieldsFrom s place ≡ inFront (fieldAt s place n v e) (fieldsFrom s e)
-      front = from-field s place r t n v e q
+      front : valuesFrom kind s at ≡ valuesOf kind (readFields (inFront (fieldAt s place n v e) (fieldsFrom s e)))
+      front = h .same ∙ by-fields kind s place (inFront (fieldAt s place n v e) (fieldsFrom s e)) (from-field s place r t n v e q)
 
       clear-behind : isSome (fieldsFrom s e) ≡ true
       clear-behind = clear-next s place r (h .clear) t n v e q
@@ -105,10 +109,7 @@ module _ (kind : Kind) (s : List ℕ) (at : ℕ) where
       unfolding NamedAs valuesFrom
       seek-found y =
           record {
-            first =
-                h .same
-                ∙ ap (λ (o : Option (List FieldText)). valuesOf kind (readFields o)) front
-                ∙ values-in kind (fieldAt s place n v e) (fieldsFrom s e) (sym u ∙ y) clear-behind;
+            first = front ∙ values-in kind (fieldAt s place n v e) (fieldsFrom s e) (sym u ∙ y) clear-behind;
             order = lies .behind;
             later = omega (arith, h .behind, lies);
             upto = lies .upto;
@@ -119,10 +120,7 @@ module _ (kind : Kind) (s : List ℕ) (at : ℕ) where
       unfolding valuesFrom
       seek-next y =
           record {
-            same =
-                h .same
-                ∙ ap (λ (o : Option (List FieldText)). valuesOf kind (readFields o)) front
-                ∙ values-out kind (fieldAt s place n v e) (fieldsFrom s e) (sym u ∙ y);
+            same = front ∙ values-out kind (fieldAt s place n v e) (fieldsFrom s e) (sym u ∙ y);
             clear = clear-behind;
             behind = omega (arith, h .behind, lies);
           }

@@ -5,13 +5,13 @@
 use Prim.Native.Nat.{ℕ, _≤_}
 use mathlib.Core.Path.{_≡_, ap, sym, _∙_}
 use mathlib.Core.Bool.{Bool, true}
-use mathlib.Core.List.{List, [], _∷_}
+use mathlib.Core.List.{List, _∷_}
 use mathlib.Core.Option.{Option, some, none}
 use borrow.Author.Needs.{needs}
 use lib.ListN.{length, take}
 use Rattle.header.specs.Header.{readable}
 use Rattle.slots.specs.Slot.{keyLimit}
-use Rattle.keyfield.specs.Field.{Field, validFields, counted}
+use Rattle.keyfield.specs.Field.{Field, validFields}
 use Rattle.keyfield.proofs.Counted.{counted-none, counted-one, counted-two}
 use Rattle.message.specs.Message.{fieldsIn, valuesOf, countedIn}
 use Rattle.message.specs.Answers.{validFrom, ValidAs, CountedAt, CountedAs}
@@ -42,16 +42,16 @@ module _ (sender s : List ℕ) (c : readable s ≡ true) (key : List ℕ) (k : V
     front : validFields sender values ≡ first ∷ validFrom sender s e
     front = all ∙ valid-first sender s 0 key k p m n e q
 
-    pub count-two : (m' : Bool) (n' e' : ℕ) → j ≡ KeyAt m' n' e' → CountedAs sender (countedIn (fieldsIn s) sender) key NoKey
+    pub count-two : (o : Bool) (w f : ℕ) → j ≡ KeyAt o w f → CountedAs sender (countedIn (fieldsIn s) sender) key NoKey
     unfolding CountedAs countedIn
-    count-two m' n' e' y =
+    count-two o w f y =
         counted-two
         sender
         values
         first
-        (record { address = sender; isMutual = m'; key = take n' spare })
-        (validFrom sender s e')
-        (front ∙ ap (λ (fs : List Field). first ∷ fs) (valid-first sender s e spare j r m' n' e' y))
+        (record { address = sender; isMutual = o; key = take w spare })
+        (validFrom sender s f)
+        (front ∙ ap (λ (fs : List Field). first ∷ fs) (valid-first sender s e spare j r o w f y))
 
     pub count-one : j ≡ NoMore → CountedAs sender (countedIn (fieldsIn s) sender) key (Key m n)
     unfolding CountedAs countedIn

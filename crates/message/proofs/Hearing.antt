@@ -1,6 +1,7 @@
 -- The next accepted gossip: the loop over the gossip fields.
 --     Hearing recipients s at place     no accepted gossip stands from `at` up to `place`
---     hear-begin .. hear-next           the loop's steps
+--     hear-begin .. hear-found          the loop's steps
+--     gossip-all                        all accepted gossip of a readable payload
 --     heard-first .. heard-over         what a caller asks of the answer
 -- Assumes nothing.
 use Prim.Native.Nat.{ℕ, _-_, _<_, _≤_}
@@ -10,16 +11,18 @@ use mathlib.Core.List.{List, [], _∷_}
 use mathlib.Core.Option.{some, none}
 use native.Mathlib.Omega.{arith}
 use borrow.Author.Needs.{needs}
-use lib.ListN.{length, take, drop}
+use lib.ListN.{length, take, drop, length-take}
 use Rattle.octets.specs.Written.{onto}
-use Rattle.header.specs.Header.{isSome}
+use Rattle.header.specs.Header.{isSome, readable}
 use Rattle.header.specs.Answers.{fieldsFrom}
 use Rattle.header.proofs.Unfolding.{value-within, value-there-from}
 use Rattle.address.specs.Address.{isCanonical}
+use Rattle.address.proofs.Sides.{plain-most}
+use Rattle.address.proofs.Spelling.{canonical-plain}
 use Rattle.slots.specs.Slot.{keyLimit}
 use Rattle.keyfield.specs.Field.{fieldOf}
 use Rattle.update.specs.Message.{Gossiped}
-use Rattle.message.specs.Message.{acceptedBy, accepted, gossipIn}
+use Rattle.message.specs.Message.{fieldsIn, acceptedBy, accepted, gossipIn}
 use Rattle.message.specs.Answers.{valueAt, valuesFrom, NamedAs, AcceptedAt, AcceptedAs, gossipFrom, HeardAt, HeardAs}
 use Rattle.message.specs.declared.Kind.the-variants.{AutocryptGossip}
 use Rattle.message.specs.declared.Named.{Named}
@@ -28,7 +31,7 @@ use Rattle.message.specs.declared.Accepted.{Accepted}
 use Rattle.message.specs.declared.Accepted.the-variants.{Gossip, NotAccepted}
 use Rattle.message.specs.declared.Heard.{Heard}
 use Rattle.message.specs.declared.Heard.the-variants.{Next, Over}
-use Rattle.message.proofs.Asking.{named-first, named-later, named-upto, named-readable, named-none, finding}
+use Rattle.message.proofs.Asking.{values-all, named-first, named-later, named-upto, named-readable, named-none, finding}
 
 -- the accepted gossip, from the front of the list
 module _ (recipients : List (List ℕ)) (s : List ℕ) (rest : List (List ℕ)) where
@@ -99,6 +102,11 @@ module _ (recipients : List (List ℕ)) (s : List ℕ) (at place : ℕ) (k : Nam
           readable = named-readable AutocryptGossip s place k p v e q;
         }
 
+-- from the first line on it is all that the payload has
+pub gossip-all : (recipients : List (List ℕ)) (s : List ℕ) → readable s ≡ true → gossipFrom recipients s 0 ≡ gossipIn recipients (fieldsIn s)
+unfolding gossipFrom gossipIn valuesFrom
+gossip-all recipients s c = ap (accepted recipients) (values-all AutocryptGossip s c)
+
 pub ruleset hearing = (hear-begin, hear-clear, hear-end, hear-next, hear-found, value-within, finding, needs)
 
 -- as a caller asks it of an answer r
@@ -116,6 +124,15 @@ module _ (recipients : List (List ℕ)) (s : List ℕ) (at : ℕ) (address key :
 
     pub heard-address-within : n ≤ length address
     heard-address-within = heard .address-within
+
+    pub heard-address-most : n ≤ 254
+    heard-address-most =
+        omega (
+          arith,
+          plain-most (take n address) (canonical-plain (take n address) heard-canonical),
+          length-take n address,
+          heard .address-within,
+        )
 
     pub heard-some-octet : 1 ≤ k
     heard-some-octet = heard .some-octet

@@ -1,14 +1,15 @@
 -- The sender: by the one From field, the one address in it, and its canonical form.
---     sender-canonical .. sender-octets     what a sender is: the canonical form of a plain address
---     values-octets                    the values that are asked for are octets, where all are
---     sent-..                          the answer, and what is left in the lent memory, by the answers of the code's three calls
---     answer-some .. left-open         what a caller reads off the answer
+--     sender-canonical .. sender-octets    what a sender is: the canonical form of a plain address
+--     sent-.., left-..                 the answer, and what is left in the lent memory, by the answers of the code's three calls
+--     answer-some .. left-within       what a caller reads off the answer and the lent memory
+--     sender-there ..                  the same of a block's sender, lent on
 -- Assumes nothing.
-use Prim.Native.Nat.{ℕ, _-_, _≤_, _<_}
+use Prim.Native.Nat.{ℕ, _-_, _≤_}
 use mathlib.Core.Path.{_≡_, refl, sym, ap, _∙_}
 use mathlib.Core.Bool.{true}
 use mathlib.Core.List.{List, [], _∷_}
 use mathlib.Core.Option.{Option, some, none}
+use native.Mathlib.Nat.{sub-zero}
 use native.Mathlib.Omega.{arith}
 use borrow.Author.Needs.{needs}
 use lib.ListN.{length, take, drop}
@@ -25,7 +26,7 @@ use Rattle.header.specs.Header.{FieldText, fieldsOf}
 use Rattle.header.proofs.Octetwise.{ValuesOctets, block-octets}
 use Rattle.header.proofs.Unfolding.{value-within, value-there, value-there-from}
 use Rattle.list.specs.List.{addresses}
-use Rattle.list.specs.Answers.{onlyOf, onlyIn, Within}
+use Rattle.list.specs.Answers.{between, onlyOf, onlyIn, Within}
 use Rattle.list.specs.declared.Only.{Only as ListOnly}
 use Rattle.list.specs.declared.Only.the-variants.{One as OneAddress, Other as NoOne}
 use Rattle.list.proofs.Readable.{only-some, readable-at}
@@ -87,7 +88,7 @@ value-octets [] v h e = let z : _≡_ {A = ℕ} 0 1 = cc in absurd (omega arith)
 value-octets (w ∷ []) v h e = let q : w ≡ v = cc in rw q at (h .0)
 value-octets (w ∷ x ∷ rest) v h e = let z : _≡_ {A = ℕ} 0 1 = cc in absurd (omega arith)
 
-fields-octets : (s : List ℕ) → AllOctets s → ValuesOctets (fieldsIn s)
+pub fields-octets : (s : List ℕ) → AllOctets s → ValuesOctets (fieldsIn s)
 unfolding fieldsIn readFields ValuesOctets
 fields-octets s o = go (fieldsOf s) refl
   where
@@ -151,36 +152,36 @@ module _ (s : List ℕ) (k : Only) (fs : List FieldText) (p : valueIn s k ≡ on
       pub sent-upto : to ≤ length text
       sent-upto = part-within (valueAt s v e) d text t from to sent-from (lies .1)
 
-      part : take (to - from) (drop from text) ≡ take (to - from) (drop from (valueAt s v e))
+      part : between text from to ≡ between (valueAt s v e) from to
       part = part-there (valueAt s v e) d text t from to sent-from (lies .1)
 
-      only : some (take (to - from) (drop from text)) ≡ onlyOf (addresses (valueAt s v e))
+      only : some (between text from to) ≡ onlyOf (addresses (valueAt s v e))
       unfolding onlyIn
       only = ap some part ∙ sym (ap (onlyIn (valueAt s v e)) z) ∙ one
 
-      is : senderIn fs ≡ some (canonical (take (to - from) (drop from text)))
+      is : senderIn fs ≡ some (canonical (between text from to))
       unfolding canonicalOf
       is = told ∙ ap canonicalOf (one ∙ sym only)
 
-      fits : (room : ℕ) → addressRoom ≤ room → length (canonical (take (to - from) (drop from text))) ≤ room
+      fits : (room : ℕ) → addressRoom ≤ room → length (canonical (between text from to)) ≤ room
       fits room h =
-          omega (arith, canonical-most (take (to - from) (drop from text)) (only-plain (valueAt s v e) (take (to - from) (drop from text)) only))
+          omega (arith, canonical-most (between text from to) (only-plain (valueAt s v e) (between text from to) only))
 
       module _ (out : List ℕ) (h : addressRoom ≤ length out) where
-        pub left-one : (left : List ℕ) → left ≡ ontoIfFits (canonical (take (to - from) (drop from text))) out → left ≡ leftBySender (senderIn fs) out
+        pub left-one : (left : List ℕ) → left ≡ ontoIfFits (canonical (between text from to)) out → left ≡ leftBySender (senderIn fs) out
         unfolding leftBySender
-        left-one left r = rw is (r ∙ onto-fits (canonical (take (to - from) (drop from text))) out (fits (length out) h))
+        left-one left r = rw is (r ∙ onto-fits (canonical (between text from to)) out (fits (length out) h))
 
-        module _ (g : Written) (u : g ≡ writtenOf (canonical (take (to - from) (drop from text))) (length out)) where
+        module _ (g : Written) (u : g ≡ writtenOf (canonical (between text from to)) (length out)) where
           pub sent-one : (m : ℕ) → g ≡ Length m → Address m ≡ senderOf (senderIn fs)
           unfolding senderOf
           sent-one m r =
-              rw is (ap Address (written-length (canonical (take (to - from) (drop from text))) (length out) m (sym r ∙ u) .0))
+              rw is (ap Address (written-length (canonical (between text from to)) (length out) m (sym r ∙ u) .0))
 
           -- there is room
           pub sent-no-room : g ≡ NoRoom → NotOne ≡ senderOf (senderIn fs)
           sent-no-room r =
-              absurd (omega (arith, written-no-room (canonical (take (to - from) (drop from text))) (length out) (sym r ∙ u), fits (length out) h))
+              absurd (omega (arith, written-no-room (canonical (between text from to)) (length out) (sym r ∙ u), fits (length out) h))
 
 pub ruleset sending =
     (sent-no-field, left-no-field, sent-no-one, left-no-one, sent-from, sent-upto, left-one, sent-one, sent-no-room, value-within, valued, needs)
@@ -215,3 +216,17 @@ module _ (o : Option (List ℕ)) (r : Sender) (t : r ≡ senderOf o) where
 
     pub left-within : n ≤ length out
     left-within = value-within (address .0) d out n (address .1 .1) holds
+
+-- the sender in the lent memory, lent on as `&out[0..n]`
+module _ (fs : List FieldText) (r : Sender) (t : r ≡ senderOf (senderIn fs)) (out d : List ℕ) (l : out ≡ leftBySender (senderIn fs) d) (n : ℕ)
+    (q : r ≡ Address n) where
+  pub sender-there : senderIn fs ≡ some (take (n - 0) (drop 0 out))
+  sender-there = rw sub-zero (left-is (senderIn fs) r t out d l n q)
+
+  pub sender-there-canonical : isCanonical (take (n - 0) (drop 0 out)) ≡ true
+  sender-there-canonical = sender-canonical fs (take (n - 0) (drop 0 out)) sender-there
+
+  pub sender-there-most : n ≤ 254
+  sender-there-most =
+      let p : (a : List ℕ) × ((senderIn fs ≡ some a) × (n ≡ length a)) = answer-some (senderIn fs) n (sym q ∙ t) in
+      omega (arith, p .1 .1, sender-most fs (p .0) (p .1 .0))

@@ -5,14 +5,16 @@ use Prim.Native.String.{String}
 use mathlib.Core.Path.{_≡_, refl}
 use mathlib.Core.Bool.{Bool, true, false}
 use mathlib.Core.List.{List, [], _∷_, map}
-use mathlib.Core.Option.{Option, some, none}
+use mathlib.Core.Option.{Option, some, none, bind}
 use Rattle.octets.specs.Octets.{ascii, lower, lowered, sameName, sameOctets}
 use Rattle.header.specs.Header as header
-use Rattle.tokens.specs.Tokens.{control, blank, kindOf, past, afterQuote, belongs}
+use Rattle.tokens.specs.Tokens.{control, blank, kindOf, past, afterQuote, belongs, runLength}
 use Rattle.address.specs.Pieces.{every, onFirst, pieces, before, behind, run}
 use Rattle.address.specs.Address.{addressOctet, atom, localPart, labelOctet, freeEnds, label, domain, plain, canonical}
 use Rattle.list.specs.List.{openingOf, holdsAt, runToken, quotedToken, tokenAt, firstToken, afterAddress, after, inFront, listedBy, listed, addresses, given}
 use Rattle.list.specs.Answers.{onlyOf}
+use Rattle.date.specs.Calendar as calendar
+use Rattle.date.specs.Date as date
 use Rattle.message.specs.Message.{
   readFields,
   fieldsIn,
@@ -25,10 +27,10 @@ use Rattle.message.specs.Message.{
   anyReport,
   isReported,
   dateBy,
+  dateIn,
   addressesIn,
   recipientsIn,
 }
-use Rattle.message.specs.declared.Kind.the-variants.{Date}
 
 abbrev senderOf : String → Option (List ℕ)
 senderOf s = senderIn (fieldsIn (ascii s))
@@ -63,14 +65,20 @@ reports :
 unfolding header.fieldsOf header.fields header.fieldsWithin header.inFront header.unfolded header.over header.ofEnding header.opensField header.runLength header.rawLength header.belongs header.closes header.isReport header.opensReport header.mayFollow sameName sameOctets lowered lower readFields fieldsIn isKind valuesOf anyReport isReported
 reports = refl
 
-abbrev dateValue : String → Option (List ℕ)
-dateValue s = onlyValue (valuesOf Date (fieldsIn (ascii s)))
+-- with the receipt time 100
+abbrev dateOf : String → ℕ
+dateOf s = dateIn (fieldsIn (ascii s)) 100
 
--- one Date field; none, and two
+-- one Date field; none, two, and one that is later than the receipt
 dates :
-    map dateValue ("date: Thu, 1 Jan\n 1970\n" ∷ "Dates: x" ∷ "Date: x\nDate: x" ∷ [])
-    ≡ some (ascii " Thu, 1 Jan 1970") ∷ none ∷ none ∷ []
-unfolding header.fieldsOf header.fields header.fieldsWithin header.inFront header.unfolded header.over header.ofEnding header.opensField header.runLength header.rawLength header.belongs header.closes sameName sameOctets lowered lower readFields fieldsIn isKind valuesOf onlyValue
+    map dateOf
+    ("date: Thu, 1 Jan\n 1970 00:01 GMT\n"
+    ∷ "Dates: 1 Jan 1970 00:01 GMT"
+    ∷ "Date: 1 Jan 1970 00:01 GMT\nDate: 1 Jan 1970 00:01 GMT"
+    ∷ "Date: 1 Jan 1970 00:02 GMT"
+    ∷ [])
+    ≡ 60 ∷ 100 ∷ 100 ∷ 100 ∷ []
+unfolding header.fieldsOf header.fields header.fieldsWithin header.inFront header.unfolded header.over header.ofEnding header.opensField header.runLength header.rawLength header.belongs header.closes sameName sameOctets lowered lower blank past kindOf control belongs runLength bind calendar.leap calendar.leapDay calendar.monthLength calendar.yearDays calendar.monthDays calendar.dayCount date.openingOf date.further date.tokenAt date.firstToken date.onlyIf date.digitOf date.valueFrom date.numberOf date.hereOr date.placeFrom date.markOf date.dayOf date.monthOf date.yearBy date.yearOf date.twoDigits date.offsetBy date.offsetOf date.hoursWest date.eastBy date.westBy date.meant date.readOf date.andThen date.next date.optional date.existing date.calendarDay date.timeOfDay date.localTime date.zoned date.ended date.dateOf date.effectiveDate readFields fieldsIn isKind valuesOf onlyValue dateBy dateIn
 dates = refl
 
 -- as they stand, in order; an unreadable list gives none, and takes none from the others

@@ -1,10 +1,9 @@
 -- Messages that are worked out: the Autocrypt field that counts, and the gossip that is accepted.
 -- Assumes nothing.
-use Prim.Native.Nat.{ℕ}
 use Prim.Native.String.{String}
 use mathlib.Core.Path.{_≡_, refl}
-use mathlib.Core.Bool.{true, false}
-use mathlib.Core.List.{List, [], _∷_, map}
+use mathlib.Core.Bool.{false}
+use mathlib.Core.List.{[], _∷_, map}
 use mathlib.Core.Option.{Option, some, none}
 use Rattle.octets.specs.Octets.{ascii, lower, lowered, sameName, sameOctets, startsWith}
 use Rattle.header.specs.Header as header

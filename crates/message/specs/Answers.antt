@@ -100,7 +100,7 @@ unfoldable pub CountedAs : List ℕ → Option Field → List ℕ → Counted �
 CountedAs sender counted key (Key m n) = CountedAt sender counted key m n
 CountedAs sender counted key NoKey = counted ≡ none
 
--- The gossip has this address and key, which open the two lent memories.
+-- The gossip has this address, in canonical form, and this key, which open the two lent memories.
 pub record AcceptedAt (gossip : Option Gossiped) (address key : List ℕ) (n k : ℕ) : Type 0 where
   pub is : gossip ≡ some (record { address = take n address; key = take k key })
   pub canonical : isCanonical (take n address) ≡ true
@@ -116,7 +116,7 @@ AcceptedAs gossip address key NotAccepted = gossip ≡ none
 unfoldable pub gossipFrom : List (List ℕ) → List ℕ → ℕ → List Gossiped
 gossipFrom recipients payload at = gossipIn recipients (readFields (fieldsFrom payload at))
 
--- The first accepted gossip has this address and key, which open the two lent memories, and the rest stand from e on.
+-- The first accepted gossip has this address, in canonical form, and this key, which open the two lent memories, and the rest stand from e on.
 pub record HeardAt (recipients : List (List ℕ)) (payload : List ℕ) (at : ℕ) (address key : List ℕ) (e n k : ℕ) : Type 0 where
   pub first : gossipFrom recipients payload at ≡ record { address = take n address; key = take k key } ∷ gossipFrom recipients payload e
   pub canonical : isCanonical (take n address) ≡ true

@@ -101,14 +101,14 @@ pub extern "C" fn probe_decode(text: &[u8], out: &mut [u8]) -> Answer {
 // kind 0: the place behind the lines; 2: too little room
 #[no_mangle]
 pub extern "C" fn probe_lines(key: &[u8], out: &mut [u8], at: usize) -> Answer {
-    let n = base64::lines_length(key);
+    let n = lines::lines_length(key);
     if out.len() < n {
         return Answer { kind: 2, value: 0 };
     }
     if out.len() - n < at {
         return Answer { kind: 2, value: 0 };
     }
-    let end = base64::write_lines(key, out, at);
+    let end = lines::write_lines(key, out, at);
     Answer {
         kind: 0,
         value: end as u64,

@@ -10,3 +10,10 @@ pub mod HandedOut
 pub mod WorkedTrip
 pub mod Outcomes
 pub mod Examples
+pub mod Later
+pub mod Halves
+pub mod Permuting
+pub mod EntryOrder
+pub mod FetchOrder
+pub mod EachPremise
+pub mod Unique

@@ -1,10 +1,11 @@
 -- Refusals 1 and 2, as facts: what the answer of the check says of the table, and back.
+--     by-check                           one of the three answers of the check
 --     Broken t i                         slot i is the lowest that is neither free nor sound, in a table of whole slots
 --     checked-broken, broken-checked     the check answers the slot i exactly where this holds
 --     checked-out                        and the length only where it is not that of 1 to 256 whole slots
 -- Assumes nothing.
 use Prim.Native.Nat.{ℕ, suc, zero, _+_, _<_, _≤_}
-use mathlib.Core.Path.{_≡_, sym, ap, _∙_}
+use mathlib.Core.Path.{_≡_, refl, sym, ap, _∙_}
 use mathlib.Core.Logic.{⊎-elim}
 use mathlib.Core.Bool.{true, false}
 use mathlib.Core.List.{List}
@@ -12,8 +13,14 @@ use native.Mathlib.Omega.{arith}
 use Rattle.octets.proofs.Lists.{lt-or-le}
 use Rattle.address.proofs.Every.{by-test}
 use Rattle.table.specs.Table.{slots, right, whole, judged, checked}
-use Rattle.table.specs.declared.Checked.the-variants.{Length, Slot}
+use Rattle.table.specs.declared.Checked.{Checked}
+use Rattle.table.specs.declared.Checked.the-variants.{Sound, Length, Slot}
 use Rattle.table.proofs.Judging.{judged-on, judged-here, checked-slots, checked-length}
+
+pub by-check : {P : Type 0} (c : Checked) → (c ≡ Sound → P) → (c ≡ Length → P) → ((i : ℕ) → c ≡ Slot i → P) → P
+by-check Sound a b d = a refl
+by-check Length a b d = b refl
+by-check (Slot i) a b d = d i refl
 
 pub record Broken (t : List ℕ) (i : ℕ) : Type 0 where
   pub whole-slots : whole t ≡ true

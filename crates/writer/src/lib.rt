@@ -58,7 +58,7 @@ fn put_attributes(mutual: bool, key: &[u8], out: &mut [u8], at: usize)
 {
     let preferred = append_preference(&mut *out, at, mutual);
     let opened = append(&mut *out, preferred, &KEYDATA);
-    base64::write_lines(key, &mut *out, opened);
+    lines::write_lines(key, &mut *out, opened);
 }
 
 // Writes a field, which has room, to the front of `out`.
@@ -85,7 +85,7 @@ fn field_length(name: &[u8], address: &[u8], mutual: bool, key: &[u8]) -> usize
         + address.len()
         + preference_length(mutual)
         + KEYDATA.len()
-        + base64::lines_length(key)
+        + lines::lines_length(key)
 }
 
 // Writes a field to the front of `out`, where it fits.

@@ -1,10 +1,12 @@
 -- `autocrypt::deliver` meets its contract: the laws of `Processing` answer every need. Assumes nothing.
+use borrow.Author.Needs.{needs}
 use Rattle.autocrypt.proofs.Processing.{delivering}
 use Rattle.autocrypt.proofs.deliver.Statement.{statement}
 use Rattle.autocrypt.proofs.deliver.Tie as tie
 
 deliver-requires : tie.Need-deliver-requires
-deliver-requires c κs = search delivering
+deliver-requires c κs =
+    (search needs, search needs, search needs, search delivering, search needs, search delivering, search needs)
 
 same-length : tie.Need-same-length
 same-length c = search delivering

@@ -3,8 +3,8 @@ use Rattle.base64.proofs.Alphabet.{finding}
 use Rattle.base64.proofs.sign_of.Statement.{statement}
 use Rattle.base64.proofs.sign_of.Tie as tie
 
-element-copy-out-value : tie.Need-element-copy-out-value
-element-copy-out-value c = search finding
+code-of-requires : tie.Need-code-of-requires
+code-of-requires c κs = search finding
 
 returns : tie.Need-returns
 returns c = search finding
@@ -16,4 +16,4 @@ returns-3 : tie.Need-returns-3
 returns-3 c = search finding
 
 pub sign-of-spec : {M : Type 1} → statement M
-sign-of-spec = tie.close (tie.spec element-copy-out-value returns returns-2 returns-3)
+sign-of-spec = tie.close (tie.spec code-of-requires returns returns-2 returns-3)

@@ -7,10 +7,13 @@ use Rattle.base64.proofs.signs.Statement.{statement}
 use Rattle.base64.proofs.signs.Tie as tie
 
 abbrev Inv-loop : tie.InvT-loop
-Inv-loop table₀ value₀ table value = (table ≡ tabled value) × (value ≤ 64)
+Inv-loop letters table₀ value₀ table value = (table ≡ tabled value) × (value ≤ 64)
 
 abbrev μ-loop : tie.MeasureT-loop
-μ-loop table₀ value₀ table value = 64 - value
+μ-loop letters table₀ value₀ table value = 64 - value
+
+letters-requires : tie.Need-letters-requires Inv-loop μ-loop
+letters-requires c κs = search tabling
 
 loop-holds : tie.Need-loop-holds Inv-loop μ-loop
 loop-holds c = (tabled-none, omega arith)
@@ -45,6 +48,7 @@ signs-spec =
     (tie.spec
     Inv-loop
     μ-loop
+    letters-requires
     loop-holds
     letter-of-requires
     cast-at
