@@ -14,3 +14,4 @@ pub mod Hearing
 pub mod Bringing
 pub mod WorkedFields
 pub mod Good
+pub mod Joining

@@ -2,6 +2,14 @@ pub mod Folded
 pub mod Among
 pub mod RoundTrip
 pub mod Worked
+pub mod Holding
+pub mod Through
+pub mod Standing
+pub mod WholeTrip
+pub mod HandedOut
+pub mod WorkedTrip
+pub mod Outcomes
+pub mod Examples
 pub mod Later
 pub mod Halves
 pub mod Permuting

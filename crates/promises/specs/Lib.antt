@@ -1,3 +1,6 @@
+pub mod Standing
+pub mod Outcomes
+pub mod Examples
 pub mod Brought
 pub mod Fetching
 pub mod Contracts

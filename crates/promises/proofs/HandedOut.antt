@@ -1,0 +1,68 @@
+-- The key that was written is the one to encrypt to afterwards.
+--     alone-taken       for a list of one plain address, the key handed back is that of its entry
+--     key-handed-out    after a message with a written field, unless a younger direct key was there, the sender's target key is the key of the field
+--     gossip-handed-out    after a payload with a written gossip field, unless younger gossip was there, so is that of an address without a direct key
+-- Assumes nothing.
+use Prim.Native.Nat.{ℕ}
+use mathlib.Core.Path.{_≡_, sym, ap, _∙_}
+use mathlib.Core.Bool.{Bool, true, false}
+use mathlib.Core.List.{List, []}
+use mathlib.Core.Option.{Option, some, none}
+use lib.ListN.{getD}
+use Rattle.octets.specs.Octets.{AllOctets}
+use Rattle.address.specs.Address.{plain, canonical}
+use Rattle.list.specs.List.{addresses, among, given}
+use Rattle.list.proofs.Readable.{plain-alone}
+use Rattle.keyfield.specs.Field.{validFields}
+use Rattle.slots.specs.Entry.{Direct}
+use Rattle.table.specs.Table.{checked}
+use Rattle.table.specs.Entries.{entryIn}
+use Rattle.table.specs.declared.Checked.{Checked}
+use Rattle.table.specs.declared.Checked.the-variants.{Sound}
+use Rattle.advice.specs.Advice.{directOf, gossipOf, targetBy, targetOf, targetIn, targets}
+use Rattle.update.specs.Update.{younger, youngerGossip}
+use Rattle.message.specs.Message.{fieldsIn, valuesOf, senderIn, dateIn, recipientsIn, gossipIn}
+use Rattle.message.specs.declared.Kind.the-variants.{Autocrypt}
+use Rattle.autocrypt.specs.Checking.{checkedAs}
+use Rattle.autocrypt.specs.Processing.{taken, processed}
+use Rattle.autocrypt.specs.Recommending.{recipientList, refusedBy, refusedRecommending, unlessRefused, targetKeyOf}
+use Rattle.autocrypt.specs.Writing.{autocryptField, gossipField}
+use Rattle.autocrypt.specs.declared.Gossip.{Gossip}
+use Rattle.autocrypt.specs.declared.Processed.the-variants.{Done}
+use Rattle.promises.specs.Standing.{directHalf, gossipHalf, noneAbout}
+use Rattle.promises.proofs.RoundTrip.{Writable}
+use Rattle.promises.proofs.Holding.{Holding, behind, others}
+use Rattle.promises.proofs.WholeTrip.{left-sound, autocrypt-processed, gossip-processed}
+
+pub alone-taken : (t a : List ℕ) → checked t ≡ Sound → plain a ≡ true → targetKeyOf t a 0 ≡ targetIn t a
+unfolding targetKeyOf refusedRecommending refusedBy checkedAs recipientList unlessRefused given targets
+alone-taken t a s p =
+    ap (λ (c : Checked). unlessRefused (refusedBy (checkedAs c) (addresses a)) [] (getD (targets t (given (addresses a))) 0 [])) s
+    ∙ ap (λ (list : Option (List (List ℕ))). unlessRefused (refusedBy (checkedAs Sound) list) [] (getD (targets t (given list)) 0 [])) (plain-alone a p)
+
+module _ (t : List ℕ) (receipt : ℕ) (outer payload : List ℕ) (setting : Gossip) (table-octets : AllOctets t) (outer-octets : AllOctets outer)
+    (payload-octets : AllOctets payload) (done : processed t receipt outer payload setting .answer ≡ Done) where
+  pub key-handed-out : (a k : List ℕ) (m : Bool) → Writable a k → (h : Holding outer (autocryptField a m k))
+      → senderIn (fieldsIn outer) ≡ some (canonical a) → validFields (canonical a) (valuesOf Autocrypt (others h)) ≡ []
+      → younger (dateIn (fieldsIn outer) receipt) (directHalf (entryIn t (canonical a))) ≡ false
+      → targetKeyOf (processed t receipt outer payload setting .table) a 0 ≡ k
+  unfolding targetIn targetOf targetBy directOf
+  key-handed-out a k m w h from alone newest =
+      let has = autocrypt-processed t receipt outer payload setting table-octets outer-octets payload-octets done a k m w h from alone in
+      alone-taken (processed t receipt outer payload setting .table) a (left-sound t receipt outer payload setting table-octets outer-octets payload-octets done) (w .plainly)
+      ∙ ap targetOf (has .there)
+      ∙ ap (λ (d : Option Direct). targetBy d (gossipOf (has .entry))) (has .set newest)
+
+  pub gossip-handed-out : (b k : List ℕ) → Writable b k → (h : Holding payload (gossipField b k)) → taken setting ≡ true
+      → among (canonical b) (recipientsIn (fieldsIn outer)) ≡ true → noneAbout (canonical b) (gossipIn (recipientsIn (fieldsIn outer)) (behind h)) ≡ true
+      → youngerGossip (dateIn (fieldsIn outer) receipt) (gossipHalf (entryIn t (canonical b))) ≡ false
+      → directHalf (entryIn (processed t receipt outer payload setting .table) (canonical b)) ≡ none
+      → targetKeyOf (processed t receipt outer payload setting .table) b 0 ≡ k
+  unfolding targetIn targetOf targetBy directOf gossipOf directHalf
+  gossip-handed-out b k w h take-gossip listed last newest keyless =
+      let has = gossip-processed t receipt outer payload setting table-octets outer-octets payload-octets done b k w h take-gossip listed last in
+      let no-key : has .entry .direct ≡ none = sym (ap directHalf (has .there)) ∙ keyless in
+      alone-taken (processed t receipt outer payload setting .table) b (left-sound t receipt outer payload setting table-octets outer-octets payload-octets done) (w .plainly)
+      ∙ ap targetOf (has .there)
+      ∙ ap (λ (d : Option Direct). targetBy d (has .entry .gossip)) no-key
+      ∙ ap (targetBy none) (has .set newest)
