@@ -16,4 +16,3 @@ pub mod Permuting
 pub mod EntryOrder
 pub mod FetchOrder
 pub mod EachPremise
-pub mod Unique

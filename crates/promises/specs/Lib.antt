@@ -3,4 +3,3 @@ pub mod Outcomes
 pub mod Examples
 pub mod Brought
 pub mod Fetching
-pub mod Contracts
