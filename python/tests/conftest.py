@@ -8,6 +8,9 @@ import pytest
 ROOT = Path(__file__).resolve().parents[2]
 sys.path.insert(0, str(ROOT / "tests" / "independent"))
 
+# Threads that never wait would else keep each call waiting 5 ms for the interpreter as it returns.
+sys.setswitchinterval(1e-4)
+
 
 @pytest.hookimpl(trylast=True)
 def pytest_unconfigure(config):
