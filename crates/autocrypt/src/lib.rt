@@ -1,6 +1,6 @@
 // The library as its callers see it. Everything is done in memory that the caller lends; no call keeps
 // anything, and none requires anything of its arguments. What each answers is said by specs/.
-ghost use Prim.Native.Nat.{_≤_};
+ghost use Prim.Native.Nat.{_≤_, min};
 ghost use mathlib.Core.Path.{_≡_};
 ghost use mathlib.Core.Bool.{true};
 ghost use mathlib.Core.Option.{some};
@@ -12,7 +12,8 @@ ghost use Rattle.address.specs.Address.{isCanonical};
 ghost use Rattle.slots.specs.Slot.{timeLimit};
 ghost use Rattle.table.specs.Table.{checked};
 ghost use Rattle.table.specs.declared.Checked.the-variants.{Sound};
-ghost use Rattle.message.specs.Message.{fieldsIn};
+ghost use Rattle.message.specs.Message.{fieldsIn, senderIn};
+ghost use Rattle.message.specs.Spans.{SurveyAs};
 ghost use Rattle.autocrypt.specs.Checking.{checkedAs};
 ghost use Rattle.autocrypt.specs.Processing.{taken, payloadFields, withSender, withPayload, broughtBy, putInto, processed};
 ghost use Rattle.autocrypt.specs.Writing.{autocryptField, gossipField, writtenOf, leftByWriting};
@@ -23,10 +24,13 @@ pub use advice::Advice;
 pub use advice::Part;
 use list::Counted;
 use message::Sender;
+use message::Survey;
+use message::Surveyed;
 use slots::Slot;
 
-// How long a block may be, and so a value in it.
-const BLOCK: usize = 65536;
+// How long the values of most messages are at most. Room for the longest has to be cleared first, which takes as long as
+// all else.
+const SHORT: usize = 8192;
 
 // Why a call refuses, named for the rows of "Refusal numbers", in their order.
 pub enum Refusal {
@@ -173,15 +177,16 @@ fn deliver(
     table: &mut [u8],
     receipt: u64,
     outer: &[u8],
+    survey: Survey,
     payload: &[u8],
     sender: &[u8],
     text: &mut [u8],
 ) -> Processed
-    requires { ⌜ (checked (now table) ≡ Sound) × (receipt ≤ timeLimit) × (readable (now outer) ≡ true) × (readable (now payload) ≡ true) × (isCanonical (now sender) ≡ true) × (limit ≤ length (now text)) ⌝ }
+    requires { ⌜ (checked (now table) ≡ Sound) × (receipt ≤ timeLimit) × SurveyAs (now outer) survey × (readable (now payload) ≡ true) × (isCanonical (now sender) ≡ true) × (length (now outer) ≤ length (now text)) × (length (now payload) ≤ length (now text)) ⌝ }
     ensures { λ r. ⌜ r ≡ putInto (now (table .entry)) (withPayload receipt (now (sender .entry)) (fieldsIn (now (outer .entry))) (some (fieldsIn (now (payload .entry))))) .answer ⌝ }
     ensures { λ _. ⌜ now (table .exit) ≡ putInto (now (table .entry)) (withPayload receipt (now (sender .entry)) (fieldsIn (now (outer .entry))) (some (fieldsIn (now (payload .entry))))) .table ⌝ }
 {
-    if delivery::deliver(table, receipt, outer, payload, sender, text) {
+    if delivery::deliver(table, receipt, outer, survey, payload, sender, text) {
         return Processed::Done;
     }
     Processed::Refused(Refusal::NoFreeSlot)
@@ -192,28 +197,80 @@ fn process_from(
     table: &mut [u8],
     receipt: u64,
     outer: &[u8],
+    survey: Survey,
     payload: &[u8],
     gossip: Gossip,
     sender: &[u8],
     text: &mut [u8],
 ) -> Processed
-    requires { ⌜ (checked (now table) ≡ Sound) × (receipt ≤ timeLimit) × (readable (now outer) ≡ true) × (isCanonical (now sender) ≡ true) × (limit ≤ length (now text)) ⌝ }
+    requires { ⌜ (checked (now table) ≡ Sound) × (receipt ≤ timeLimit) × SurveyAs (now outer) survey × (isCanonical (now sender) ≡ true) × (length (now outer) ≤ length (now text)) × (min (length (now payload)) limit ≤ length (now text)) ⌝ }
     ensures { λ r. ⌜ r ≡ putInto (now (table .entry)) (withSender receipt (some (now (sender .entry))) (fieldsIn (now (outer .entry))) (payloadFields gossip (now (payload .entry)))) .answer ⌝ }
     ensures { λ _. ⌜ now (table .exit) ≡ putInto (now (table .entry)) (withSender receipt (some (now (sender .entry))) (fieldsIn (now (outer .entry))) (payloadFields gossip (now (payload .entry)))) .table ⌝ }
 {
-    if message::is_report(outer, text) {
+    if message::is_report(outer, survey, text) {
         return Processed::Refused(Refusal::Report);
     }
     if !is_taken(gossip) {
-        return deliver(table, receipt, outer, &payload[0..0], sender, text);
+        return deliver(table, receipt, outer, survey, &payload[0..0], sender, text);
     }
     if !header::readable(payload) {
         return Processed::Refused(Refusal::PayloadBlock);
     }
-    deliver(table, receipt, outer, payload, sender, text)
+    deliver(table, receipt, outer, survey, payload, sender, text)
 }
 
-// Refusals 3, 4 and 5, with the table checked.
+// Refusals 5 to 8, with room for the values of both blocks.
+fn process_with(
+    table: &mut [u8],
+    receipt: u64,
+    outer: &[u8],
+    survey: Survey,
+    payload: &[u8],
+    gossip: Gossip,
+    text: &mut [u8],
+) -> Processed
+    requires { ⌜ (checked (now table) ≡ Sound) × (receipt ≤ timeLimit) × SurveyAs (now outer) survey × (length (now outer) ≤ length (now text)) × (min (length (now payload)) limit ≤ length (now text)) ⌝ }
+    ensures { λ r. ⌜ r ≡ putInto (now (table .entry)) (withSender receipt (senderIn (fieldsIn (now (outer .entry)))) (fieldsIn (now (outer .entry))) (payloadFields gossip (now (payload .entry)))) .answer ⌝ }
+    ensures { λ _. ⌜ now (table .exit) ≡ putInto (now (table .entry)) (withSender receipt (senderIn (fieldsIn (now (outer .entry)))) (fieldsIn (now (outer .entry))) (payloadFields gossip (now (payload .entry)))) .table ⌝ }
+{
+    let mut sender = [0u8; Slot::ADDRESS_ROOM];
+    match message::sender_of(outer, survey, text, &mut sender) {
+        Sender::Address(n) => process_from(
+            table,
+            receipt,
+            outer,
+            survey,
+            payload,
+            gossip,
+            &sender[0..n],
+            text,
+        ),
+        Sender::NotOne => Processed::Refused(Refusal::Sender),
+    }
+}
+
+// The same, with as much room as the blocks need.
+fn process_read(
+    table: &mut [u8],
+    receipt: u64,
+    outer: &[u8],
+    survey: Survey,
+    payload: &[u8],
+    gossip: Gossip,
+) -> Processed
+    requires { ⌜ (checked (now table) ≡ Sound) × (receipt ≤ timeLimit) × SurveyAs (now outer) survey ⌝ }
+    ensures { λ r. ⌜ r ≡ putInto (now (table .entry)) (withSender receipt (senderIn (fieldsIn (now (outer .entry)))) (fieldsIn (now (outer .entry))) (payloadFields gossip (now (payload .entry)))) .answer ⌝ }
+    ensures { λ _. ⌜ now (table .exit) ≡ putInto (now (table .entry)) (withSender receipt (senderIn (fieldsIn (now (outer .entry)))) (fieldsIn (now (outer .entry))) (payloadFields gossip (now (payload .entry)))) .table ⌝ }
+{
+    if (outer.len() <= SHORT) & (payload.len() <= SHORT) {
+        let mut text = [0u8; SHORT];
+        return process_with(table, receipt, outer, survey, payload, gossip, &mut text);
+    }
+    let mut text = [0u8; header::LIMIT];
+    process_with(table, receipt, outer, survey, payload, gossip, &mut text)
+}
+
+// Refusals 3 and 4, with the table checked.
 fn process_sound(
     table: &mut [u8],
     receipt: u64,
@@ -228,22 +285,11 @@ fn process_sound(
     if Slot::TIME_LIMIT < receipt {
         return Processed::Refused(Refusal::ReceiptTime);
     }
-    if !header::readable(outer) {
-        return Processed::Refused(Refusal::OuterBlock);
-    }
-    let mut text = [0u8; BLOCK];
-    let mut sender = [0u8; Slot::ADDRESS_ROOM];
-    match message::sender_of(outer, &mut text, &mut sender) {
-        Sender::Address(n) => process_from(
-            table,
-            receipt,
-            outer,
-            payload,
-            gossip,
-            &sender[0..n],
-            &mut text,
-        ),
-        Sender::NotOne => Processed::Refused(Refusal::Sender),
+    match message::walk(outer) {
+        Surveyed::Readable(survey) => {
+            process_read(table, receipt, outer, survey, payload, gossip)
+        }
+        Surveyed::Unreadable => Processed::Refused(Refusal::OuterBlock),
     }
 }
 

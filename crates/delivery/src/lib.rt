@@ -19,10 +19,12 @@ ghost use Rattle.update.specs.Update.{updated, put};
 ghost use Rattle.update.specs.Message.{gossipAddresses, newcomers, hasRoom, heardAll, applied};
 ghost use Rattle.message.specs.Message.{fieldsIn, countedIn, recipientsIn};
 ghost use Rattle.message.specs.Answers.{gossipFrom};
+ghost use Rattle.message.specs.Spans.{SurveyAs};
 ghost use Rattle.delivery.specs.Delivery.{directBy, messageBy, delivered};
 ghost use Rattle.delivery.specs.Counting.{Rolls, MetAs};
 use message::Counted;
 use message::Heard;
+use message::Survey;
 use slots::Slot;
 use table::Found;
 
@@ -154,13 +156,20 @@ fn hear_all(table: &mut [u8], date: u64, payload: &[u8], recipients: &[u8], text
 }
 
 // Updates the entry of the sender.
-fn update_sender(table: &mut [u8], outer: &[u8], sender: &[u8], date: u64, text: &mut [u8])
-    requires { ⌜ (checked (now table) ≡ Sound) × (readable (now outer) ≡ true) × (length (now outer) ≤ length (now text)) × (isCanonical (now sender) ≡ true) × (date ≤ timeLimit) ⌝ }
+fn update_sender(
+    table: &mut [u8],
+    outer: &[u8],
+    survey: Survey,
+    sender: &[u8],
+    date: u64,
+    text: &mut [u8],
+)
+    requires { ⌜ (checked (now table) ≡ Sound) × SurveyAs (now outer) survey × (length (now outer) ≤ length (now text)) × (isCanonical (now sender) ≡ true) × (date ≤ timeLimit) ⌝ }
     ensures { λ _. ⌜ now (table .exit) ≡ put (now (table .entry)) (now (sender .entry)) (updated date (directBy date (countedIn (fieldsIn (now (outer .entry))) (now (sender .entry))))) ⌝ }
     ensures { λ _. ⌜ checked (now (table .exit)) ≡ Sound ⌝ }
 {
     let mut key = [0u8; Slot::KEY_LIMIT];
-    match message::counted_field(outer, sender, text, &mut key) {
+    match message::counted_field(outer, survey, sender, text, &mut key) {
         Counted::Key { mutual, length } => {
             update::update_with_key(table, sender, date, &key[0..length], mutual);
         }
@@ -173,15 +182,16 @@ fn apply(
     table: &mut [u8],
     date: u64,
     outer: &[u8],
+    survey: Survey,
     payload: &[u8],
     sender: &[u8],
     recipients: &[u8],
     text: &mut [u8],
 )
-    requires { ⌜ (checked (now table) ≡ Sound) × (readable (now outer) ≡ true) × (length (now outer) ≤ length (now text)) × (isSome (fieldsFrom (now payload) 0) ≡ true) × (length (now payload) ≤ length (now text)) × (isCanonical (now sender) ≡ true) × (date ≤ timeLimit) ⌝ }
+    requires { ⌜ (checked (now table) ≡ Sound) × SurveyAs (now outer) survey × (length (now outer) ≤ length (now text)) × (isSome (fieldsFrom (now payload) 0) ≡ true) × (length (now payload) ≤ length (now text)) × (isCanonical (now sender) ≡ true) × (date ≤ timeLimit) ⌝ }
     ensures { λ _. ⌜ now (table .exit) ≡ heardAll date (gossipFrom (unrolled (now (recipients .entry))) (now (payload .entry)) 0) (put (now (table .entry)) (now (sender .entry)) (updated date (directBy date (countedIn (fieldsIn (now (outer .entry))) (now (sender .entry)))))) ⌝ }
 {
-    update_sender(table, outer, sender, date, text);
+    update_sender(table, outer, survey, sender, date, text);
     hear_all(table, date, payload, recipients, text);
 }
 
@@ -190,16 +200,26 @@ fn put_message(
     table: &mut [u8],
     receipt: u64,
     outer: &[u8],
+    survey: Survey,
     payload: &[u8],
     sender: &[u8],
     recipients: &[u8],
     text: &mut [u8],
 )
-    requires { ⌜ (checked (now table) ≡ Sound) × (receipt ≤ timeLimit) × (readable (now outer) ≡ true) × (length (now outer) ≤ length (now text)) × (readable (now payload) ≡ true) × (length (now payload) ≤ length (now text)) × (isCanonical (now sender) ≡ true) × (unrolled (now recipients) ≡ recipientsIn (fieldsIn (now outer))) ⌝ }
+    requires { ⌜ (checked (now table) ≡ Sound) × (receipt ≤ timeLimit) × SurveyAs (now outer) survey × (length (now outer) ≤ length (now text)) × (readable (now payload) ≡ true) × (length (now payload) ≤ length (now text)) × (isCanonical (now sender) ≡ true) × (unrolled (now recipients) ≡ recipientsIn (fieldsIn (now outer))) ⌝ }
     ensures { λ _. ⌜ now (table .exit) ≡ applied (now (table .entry)) (messageBy receipt (now (sender .entry)) (fieldsIn (now (outer .entry))) (fieldsIn (now (payload .entry)))) ⌝ }
 {
-    let date = date::effective_date(message::date(outer, text), receipt);
-    apply(table, date, outer, payload, sender, recipients, text);
+    let date = date::effective_date(message::date(outer, survey, text), receipt);
+    apply(
+        table,
+        date,
+        outer,
+        survey,
+        payload,
+        sender,
+        recipients,
+        text,
+    );
 }
 
 // Delivers the message, whose recipients are known, if there is room for it.
@@ -207,19 +227,60 @@ fn deliver_to(
     table: &mut [u8],
     receipt: u64,
     outer: &[u8],
+    survey: Survey,
     payload: &[u8],
     sender: &[u8],
     recipients: &[u8],
     text: &mut [u8],
 ) -> bool
-    requires { ⌜ (checked (now table) ≡ Sound) × (receipt ≤ timeLimit) × (readable (now outer) ≡ true) × (length (now outer) ≤ length (now text)) × (readable (now payload) ≡ true) × (length (now payload) ≤ length (now text)) × (isCanonical (now sender) ≡ true) × (unrolled (now recipients) ≡ recipientsIn (fieldsIn (now outer))) ⌝ }
+    requires { ⌜ (checked (now table) ≡ Sound) × (receipt ≤ timeLimit) × SurveyAs (now outer) survey × (length (now outer) ≤ length (now text)) × (readable (now payload) ≡ true) × (length (now payload) ≤ length (now text)) × (isCanonical (now sender) ≡ true) × (unrolled (now recipients) ≡ recipientsIn (fieldsIn (now outer))) ⌝ }
     ensures { λ r. ⌜ r ≡ hasRoom (now (table .entry)) (messageBy receipt (now (sender .entry)) (fieldsIn (now (outer .entry))) (fieldsIn (now (payload .entry)))) ⌝ }
     ensures { λ _. ⌜ now (table .exit) ≡ delivered (now (table .entry)) (messageBy receipt (now (sender .entry)) (fieldsIn (now (outer .entry))) (fieldsIn (now (payload .entry)))) ⌝ }
 {
     if !has_room(table, sender, payload, recipients, text) {
         return false;
     }
-    put_message(table, receipt, outer, payload, sender, recipients, text);
+    put_message(
+        table,
+        receipt,
+        outer,
+        survey,
+        payload,
+        sender,
+        recipients,
+        text,
+    );
+    true
+}
+
+// Is there a slot for the sender: his own, or a free one?
+fn has_room_alone(table: &[u8], sender: &[u8]) -> bool
+    ensures { λ r. ⌜ r ≡ leb (length (newcomers (now (table .entry)) [] (now (sender .entry) ∷ []))) (freeCount (now (table .entry))) ⌝ }
+{
+    match table::find(table, sender) {
+        Found::At(_) => true,
+        Found::Nothing => table::count_free(table) != 0,
+    }
+}
+
+// Delivers a message with no payload: nobody asks for its recipients.
+fn deliver_alone(
+    table: &mut [u8],
+    receipt: u64,
+    outer: &[u8],
+    survey: Survey,
+    sender: &[u8],
+    text: &mut [u8],
+) -> bool
+    requires { ⌜ (checked (now table) ≡ Sound) × (receipt ≤ timeLimit) × SurveyAs (now outer) survey × (length (now outer) ≤ length (now text)) × (isCanonical (now sender) ≡ true) ⌝ }
+    ensures { λ r. ⌜ r ≡ hasRoom (now (table .entry)) (messageBy receipt (now (sender .entry)) (fieldsIn (now (outer .entry))) []) ⌝ }
+    ensures { λ _. ⌜ now (table .exit) ≡ delivered (now (table .entry)) (messageBy receipt (now (sender .entry)) (fieldsIn (now (outer .entry))) []) ⌝ }
+{
+    if !has_room_alone(table, sender) {
+        return false;
+    }
+    let date = date::effective_date(message::date(outer, survey, text), receipt);
+    update_sender(table, outer, survey, sender, date, text);
     true
 }
 
@@ -228,20 +289,25 @@ pub fn deliver(
     table: &mut [u8],
     receipt: u64,
     outer: &[u8],
+    survey: Survey,
     payload: &[u8],
     sender: &[u8],
     text: &mut [u8],
 ) -> bool
-    requires { ⌜ (checked (now table) ≡ Sound) × (receipt ≤ timeLimit) × (readable (now outer) ≡ true) × (length (now outer) ≤ length (now text)) × (readable (now payload) ≡ true) × (length (now payload) ≤ length (now text)) × (isCanonical (now sender) ≡ true) ⌝ }
+    requires { ⌜ (checked (now table) ≡ Sound) × (receipt ≤ timeLimit) × SurveyAs (now outer) survey × (length (now outer) ≤ length (now text)) × (readable (now payload) ≡ true) × (length (now payload) ≤ length (now text)) × (isCanonical (now sender) ≡ true) ⌝ }
     ensures { λ r. ⌜ r ≡ hasRoom (now (table .entry)) (messageBy receipt (now (sender .entry)) (fieldsIn (now (outer .entry))) (fieldsIn (now (payload .entry)))) ⌝ }
     ensures { λ _. ⌜ now (table .exit) ≡ delivered (now (table .entry)) (messageBy receipt (now (sender .entry)) (fieldsIn (now (outer .entry))) (fieldsIn (now (payload .entry)))) ⌝ }
 {
+    if payload.len() == 0 {
+        return deliver_alone(table, receipt, outer, survey, sender, text);
+    }
     let mut roll = [0u8; ROLL];
-    let filled = message::recipients(outer, text, &mut roll);
+    let filled = message::recipients(outer, survey, text, &mut roll);
     deliver_to(
         table,
         receipt,
         outer,
+        survey,
         payload,
         sender,
         &roll[0..filled],

@@ -8,7 +8,7 @@ ghost use Rattle.header.specs.Header.{ofEnding, over, belongs, runLength
 ghost use Rattle.header.specs.Answers.{stepAt};
 
 // How long a block may be.
-const LIMIT: usize = 65536;
+pub const LIMIT: usize = 65536;
 
 // What stands at a place where a line begins: the block is over; the block is unreadable; or a field, whose name
 // lies from there to name_end and its value, not unfolded yet, from value to end, where the next line begins.
