@@ -5,6 +5,7 @@
 --     fields-are, fields-read      the fields of a readable block
 --     Seeking kind s at place      no such field stands from `at` up to `place`
 --     seek-begin .. seek-next      the steps of the loop that looks for the first one
+--     values-end                   none stands at the end of a block
 --     named-first .. named-none    what a caller asks of the answer
 -- Assumes nothing.
 use Prim.Native.Nat.{ℕ, _-_, _<_, _≤_}
@@ -15,13 +16,14 @@ use mathlib.Core.Option.{Option, some, none}
 use native.Mathlib.Omega.{arith}
 use borrow.Author.Needs.{needs}
 use lib.ListN.{length, take, drop, length-take, length-drop}
+use lib.Seq.{drop-length}
 use Rattle.octets.specs.Octets.{ascii, sameName}
-use Rattle.header.specs.Header.{FieldText, inFront, isSome, fieldsOf, readable}
+use Rattle.header.specs.Header.{FieldText, over, inFront, isSome, fieldsOf, readable}
 use Rattle.header.specs.Answers.{fieldsFrom, stepAt, fieldAt}
 use Rattle.header.specs.declared.Step.{Step}
 use Rattle.header.specs.declared.Step.the-variants.{Over, Broken, Field}
 use Rattle.header.proofs.Stepping.{Places, field-places, name-from, name-upto, field-less}
-use Rattle.header.proofs.Fields.{from-over, from-field, fields-fit, clear-fits, clear-begin, clear-next, clear-whole}
+use Rattle.header.proofs.Fields.{fields-over, from-over, from-field, fields-fit, clear-fits, clear-begin, clear-next, clear-whole}
 use Rattle.message.specs.Message.{readFields, fieldsIn, isKind, valuesOf}
 use Rattle.message.specs.Answers.{valueAt, valuesFrom, NamedAt, NamedAs}
 use Rattle.message.specs.declared.Kind.{Kind}
@@ -75,6 +77,10 @@ fields-read s c = go (fieldsOf s) refl
     go none e = absurd (false≢true (sym (ap isSome e) ∙ c))
     go (some fs) e = rw e
 
+pub values-end : (kind : Kind) (s : List ℕ) → valuesFrom kind s (length s) ≡ []
+unfolding valuesFrom fieldsFrom valuesOf readFields over
+values-end kind s = rw (drop-length s, fields-over [] refl)
+
 pub block-begin : (s : List ℕ) → readable s ≡ true → isSome (fieldsFrom s 0) ≡ true
 block-begin s c = clear-begin s true (sym c) refl
 
@@ -125,7 +131,11 @@ module _ (kind : Kind) (s : List ℕ) (at : ℕ) where
             behind = omega (arith, h .behind, lies);
           }
 
-pub ruleset seeking = (seek-begin, seek-over, seek-broken, seek-found, seek-next, name-from, name-upto, field-less, needs)
+  pub seek-last : (place last : ℕ) → Seeking kind s at place → valuesFrom kind s last ≡ [] → place ≡ last → NamedAs kind s at Nothing
+  unfolding NamedAs
+  seek-last place last h n e = h .same ∙ rw e n
+
+pub ruleset seeking = (seek-begin, seek-last, seek-over, seek-broken, seek-found, seek-next, name-from, name-upto, field-less, needs)
 
 module _ (kind : Kind) (s : List ℕ) (at : ℕ) (k : Named) (p : NamedAs kind s at k) where
   module _ (v e : ℕ) (q : k ≡ FieldAt v e) where

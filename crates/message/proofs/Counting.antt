@@ -5,42 +5,47 @@
 use Prim.Native.Nat.{ℕ, _≤_}
 use mathlib.Core.Path.{_≡_, ap, sym, _∙_}
 use mathlib.Core.Bool.{Bool, true}
-use mathlib.Core.List.{List, _∷_}
+use mathlib.Core.List.{List, [], _∷_}
 use mathlib.Core.Option.{Option, some, none}
 use borrow.Author.Needs.{needs}
 use lib.ListN.{length, take}
-use Rattle.header.specs.Header.{readable}
+use Rattle.header.specs.Header.{isSome}
+use Rattle.header.specs.Answers.{fieldsFrom}
 use Rattle.slots.specs.Slot.{keyLimit}
 use Rattle.keyfield.specs.Field.{Field, validFields}
 use Rattle.keyfield.proofs.Counted.{counted-none, counted-one, counted-two}
 use Rattle.message.specs.Message.{fieldsIn, valuesOf, countedIn}
-use Rattle.message.specs.Answers.{validFrom, ValidAs, CountedAt, CountedAs}
+use Rattle.message.specs.Answers.{valuesFrom, validFrom, ValidAs, CountedAt, CountedAs}
+use Rattle.message.specs.Spans.{SurveyAs}
 use Rattle.message.specs.declared.Kind.the-variants.{Autocrypt}
+use Rattle.message.specs.declared.Survey.{Survey}
 use Rattle.message.specs.declared.Valid.{Valid}
 use Rattle.message.specs.declared.Valid.the-variants.{Key as KeyAt, NoMore}
 use Rattle.message.specs.declared.Counted.{Counted}
 use Rattle.message.specs.declared.Counted.the-variants.{Key, NoKey}
-use Rattle.message.proofs.Asking.{values-all, block-begin}
 use Rattle.message.proofs.Trying.{valid-first, valid-some-octet, valid-most, valid-within, valid-readable, valid-none}
 
-module _ (sender s : List ℕ) (c : readable s ≡ true) (key : List ℕ) (k : Valid) (p : ValidAs sender s 0 key k) where
+module _ (sender s : List ℕ) (v : Survey) (c : SurveyAs s v) (key : List ℕ) (k : Valid) (p : ValidAs sender s (v .autocrypt .first) key k) where
   abbrev values : List (List ℕ)
   values = valuesOf Autocrypt (fieldsIn s)
 
-  all : validFields sender values ≡ validFrom sender s 0
+  abbrev begin : ℕ
+  begin = v .autocrypt .first
+
+  all : validFields sender values ≡ validFrom sender s begin
   unfolding validFrom
-  all = ap (validFields sender) (sym (values-all Autocrypt s c))
+  all = ap (validFields sender) (sym (c .autocrypt .all))
 
   pub count-none : k ≡ NoMore → CountedAs sender (countedIn (fieldsIn s) sender) key NoKey
   unfolding CountedAs countedIn
-  count-none q = counted-none sender values (all ∙ valid-none sender s 0 key k p q)
+  count-none q = counted-none sender values (all ∙ valid-none sender s begin key k p q)
 
   module _ (m : Bool) (n e : ℕ) (q : k ≡ KeyAt m n e) (spare : List ℕ) (j : Valid) (r : ValidAs sender s e spare j) where
     abbrev first : Field
     first = record { address = sender; isMutual = m; key = take n key }
 
     front : validFields sender values ≡ first ∷ validFrom sender s e
-    front = all ∙ valid-first sender s 0 key k p m n e q
+    front = all ∙ valid-first sender s begin key k p m n e q
 
     pub count-two : (o : Bool) (w f : ℕ) → j ≡ KeyAt o w f → CountedAs sender (countedIn (fieldsIn s) sender) key NoKey
     unfolding CountedAs countedIn
@@ -58,12 +63,18 @@ module _ (sender s : List ℕ) (c : readable s ≡ true) (key : List ℕ) (k : V
     count-one y =
         record {
           is = counted-one sender values first (front ∙ ap (λ (fs : List Field). first ∷ fs) (valid-none sender s e spare j r y));
-          some-octet = valid-some-octet sender s 0 key k p m n e q;
-          most = valid-most sender s 0 key k p m n e q;
-          within = valid-within sender s 0 key k p m n e q;
+          some-octet = valid-some-octet sender s begin key k p m n e q;
+          most = valid-most sender s begin key k p m n e q;
+          within = valid-within sender s begin key k p m n e q;
         }
 
-pub ruleset counting = (block-begin, valid-readable, count-none, count-two, count-one, needs)
+pub count-begin : (s : List ℕ) (v : Survey) → SurveyAs s v → isSome (fieldsFrom s (v .autocrypt .first)) ≡ true
+count-begin s v c = c .autocrypt .clear
+
+pub count-last : (s : List ℕ) (v : Survey) → SurveyAs s v → valuesFrom Autocrypt s (v .autocrypt .last) ≡ []
+count-last s v c = c .autocrypt .no-more
+
+pub ruleset counting = (count-begin, count-last, valid-readable, count-none, count-two, count-one, needs)
 
 -- as a caller asks it of an answer r
 module _ (sender : List ℕ) (o : Option Field) (key : List ℕ) (r : Counted) (p : CountedAs sender o key r) where

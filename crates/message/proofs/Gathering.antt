@@ -15,7 +15,7 @@ use lib.ListN.{length, take, drop, length-append}
 use Rattle.octets.specs.Written.{putAt, onto}
 use Rattle.octets.proofs.Writing.{Wrote, begin, kept, counted, puts, done}
 use Rattle.address.proofs.Every.{by-test}
-use Rattle.header.specs.Header.{FieldText, isSome, fieldsOf, readable}
+use Rattle.header.specs.Header.{FieldText, isSome, fieldsOf}
 use Rattle.header.specs.Answers.{fieldsFrom}
 use Rattle.header.proofs.Total.{total, total-none, total-one, total-less, total-block}
 use Rattle.header.proofs.Unfolding.{value-within, value-there-from}
@@ -24,11 +24,13 @@ use Rattle.roll.proofs.Rolls.{rolled-none, rolled-append, unrolled-rolled}
 use Rattle.roll.proofs.Room.{lists-room}
 use Rattle.message.specs.Message.{readFields, fieldsIn, isKind, valuesOf, addressesIn, recipientsIn}
 use Rattle.message.specs.Answers.{valueAt, valuesFrom, NamedAs}
+use Rattle.message.specs.Spans.{SurveyAs}
 use Rattle.message.specs.declared.Kind.{Kind}
+use Rattle.message.specs.declared.Survey.{Survey}
 use Rattle.message.specs.declared.Kind.the-variants.{Recipients}
 use Rattle.message.specs.declared.Named.{Named}
 use Rattle.message.specs.declared.Named.the-variants.{Field, Nothing}
-use Rattle.message.proofs.Asking.{values-all, block-begin, named-first, named-readable, named-none, finding}
+use Rattle.message.proofs.Asking.{named-first, named-readable, named-none, finding}
 
 -- the addresses of the first of some values
 addresses-one : (v : List ℕ) (rest : List (List ℕ)) → addressesIn (v ∷ rest) ≡ listedIn v ++ addressesIn rest
@@ -57,15 +59,18 @@ pub record Gathering (s d out : List ℕ) (o at : ℕ) : Type 0 where
   pub so-far : Wrote (rolled (recipientsIn (fieldsIn s))) d out o (rolled (addressesIn (valuesFrom Recipients s at)))
   pub clear : isSome (fieldsFrom s at) ≡ true
 
-pub gather-begin : (s d : List ℕ) → readable s ≡ true → length s ≤ length d → Gathering s d d 0 0
+pub gather-begin : (s d : List ℕ) (v : Survey) → SurveyAs s v → length s ≤ length d → Gathering s d d 0 (v .recipients .first)
 unfolding recipientsIn
-gather-begin s d c h =
+gather-begin s d v c h =
     record {
       so-far =
-          rw (values-all Recipients s c)
+          rw (c .recipients .all)
           (begin (rolled (addressesIn (valuesOf Recipients (fieldsIn s)))) d (omega (arith, block-room Recipients s)));
-      clear = block-begin s c;
+      clear = c .recipients .clear;
     }
+
+pub gather-last : (s : List ℕ) (v : Survey) → SurveyAs s v → valuesFrom Recipients s (v .recipients .last) ≡ []
+gather-last s v c = c .recipients .no-more
 
 module _ (s d out : List ℕ) (o at : ℕ) (h : Gathering s d out o at) where
   pub gather-clear : isSome (fieldsFrom s at) ≡ true
@@ -124,7 +129,7 @@ module _ (s d out : List ℕ) (o at : ℕ) (h : Gathering s d out o at) where
             clear = named-readable Recipients s at k p v e q;
           }
 
-pub ruleset rolling = (gather-begin, gather-clear, gather-kept, gather-end, gather-written, gather-room, gather-on, value-within, finding, needs)
+pub ruleset rolling = (gather-begin, gather-last, gather-clear, gather-kept, gather-end, gather-written, gather-room, gather-on, value-within, finding, needs)
 
 -- what a caller reads off the roll: the recipients
 module _ (s d out : List ℕ) (n : ℕ) (c : n ≡ length (rolled (recipientsIn (fieldsIn s)))) (o : out ≡ onto (rolled (recipientsIn (fieldsIn s))) d) where

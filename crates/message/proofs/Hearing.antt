@@ -31,7 +31,7 @@ use Rattle.message.specs.declared.Accepted.{Accepted}
 use Rattle.message.specs.declared.Accepted.the-variants.{Gossip, NotAccepted}
 use Rattle.message.specs.declared.Heard.{Heard}
 use Rattle.message.specs.declared.Heard.the-variants.{Next, Over}
-use Rattle.message.proofs.Asking.{values-all, named-first, named-later, named-upto, named-readable, named-none, finding}
+use Rattle.message.proofs.Asking.{values-all, values-end, named-first, named-later, named-upto, named-readable, named-none, finding}
 
 -- the accepted gossip, from the front of the list
 module _ (recipients : List (List ℕ)) (s : List ℕ) (rest : List (List ℕ)) where
@@ -107,7 +107,7 @@ pub gossip-all : (recipients : List (List ℕ)) (s : List ℕ) → readable s �
 unfolding gossipFrom gossipIn valuesFrom
 gossip-all recipients s c = ap (accepted recipients) (values-all AutocryptGossip s c)
 
-pub ruleset hearing = (hear-begin, hear-clear, hear-end, hear-next, hear-found, value-within, finding, needs)
+pub ruleset hearing = (values-end, hear-begin, hear-clear, hear-end, hear-next, hear-found, value-within, finding, needs)
 
 -- as a caller asks it of an answer r
 module _ (recipients : List (List ℕ)) (s : List ℕ) (at : ℕ) (address key : List ℕ) (r : Heard) (p : HeardAs recipients s at address key r) where

@@ -1,4 +1,5 @@
 pub mod Asking
+pub mod Walking
 pub mod Single
 pub mod Dating
 pub mod Reporting

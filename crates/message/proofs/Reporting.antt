@@ -5,27 +5,32 @@
 use Prim.Native.Nat.{ℕ, _-_}
 use mathlib.Core.Path.{_≡_, sym, ap, _∙_}
 use mathlib.Core.Bool.{Bool, true, false, _||_}
-use mathlib.Core.List.{List}
+use mathlib.Core.List.{List, []}
 use borrow.Author.Needs.{needs}
 use lib.ListN.{length, take, drop}
 use Rattle.octets.specs.Written.{onto}
-use Rattle.header.specs.Header.{isSome, readable, isReport}
+use Rattle.header.specs.Header.{isSome, isReport}
 use Rattle.header.specs.Answers.{fieldsFrom}
 use Rattle.header.proofs.Unfolding.{value-within, value-there-from}
 use Rattle.message.specs.Message.{fieldsIn, anyReport, isReported}
 use Rattle.message.specs.Answers.{valueAt, valuesFrom, NamedAs}
+use Rattle.message.specs.Spans.{SurveyAs}
 use Rattle.message.specs.declared.Kind.the-variants.{ContentType}
+use Rattle.message.specs.declared.Survey.{Survey}
 use Rattle.message.specs.declared.Named.{Named}
 use Rattle.message.specs.declared.Named.the-variants.{Field, Nothing}
-use Rattle.message.proofs.Asking.{values-all, block-begin, named-first, named-readable, named-none, finding}
+use Rattle.message.proofs.Asking.{named-first, named-readable, named-none, finding}
 
 pub record Looking (s : List ℕ) (at : ℕ) : Type 0 where
   pub same : isReported (fieldsIn s) ≡ anyReport (valuesFrom ContentType s at)
   pub clear : isSome (fieldsFrom s at) ≡ true
 
-pub look-begin : (s : List ℕ) → readable s ≡ true → Looking s 0
+pub look-begin : (s : List ℕ) (v : Survey) → SurveyAs s v → Looking s (v .content .first)
 unfolding isReported
-look-begin s c = record { same = ap anyReport (sym (values-all ContentType s c)); clear = block-begin s c }
+look-begin s v c = record { same = ap anyReport (sym (c .content .all)); clear = c .content .clear }
+
+pub look-last : (s : List ℕ) (v : Survey) → SurveyAs s v → valuesFrom ContentType s (v .content .last) ≡ []
+look-last s v c = c .content .no-more
 
 pub look-clear : (s : List ℕ) (at : ℕ) → Looking s at → isSome (fieldsFrom s at) ≡ true
 look-clear s at h = h .clear
@@ -47,4 +52,4 @@ module _ (s : List ℕ) (at : ℕ) (k : Named) (h : Looking s at) (p : NamedAs C
     pub look-next : b ≡ false → Looking s e
     look-next y = record { same = rw y at first; clear = named-readable ContentType s at k p v e q }
 
-pub ruleset looking = (look-begin, look-clear, look-end, look-found, look-next, value-within, finding, needs)
+pub ruleset looking = (look-begin, look-last, look-clear, look-end, look-found, look-next, value-within, finding, needs)

@@ -11,27 +11,28 @@ use mathlib.Core.Option.{Option, some, none}
 use native.Mathlib.Omega.{arith}
 use borrow.Author.Needs.{needs}
 use lib.ListN.{length, take, drop, length-take, length-drop}
-use Rattle.header.specs.Header.{readable}
 use Rattle.message.specs.Message.{fieldsIn, valuesOf, onlyValue}
 use Rattle.message.specs.Answers.{valueAt, valuesFrom, NamedAs, valueIn, OnlyWithin}
+use Rattle.message.specs.Spans.{SpanAs}
 use Rattle.message.specs.declared.Kind.{Kind}
+use Rattle.message.specs.declared.Span.{Span}
 use Rattle.message.specs.declared.Named.{Named}
 use Rattle.message.specs.declared.Named.the-variants.{Field, Nothing}
 use Rattle.message.specs.declared.Only.{Only}
 use Rattle.message.specs.declared.Only.the-variants.{One, Other}
-use Rattle.message.proofs.Asking.{values-all, block-begin, named-first, named-order, named-upto, named-readable, named-none}
+use Rattle.message.proofs.Asking.{named-first, named-order, named-upto, named-readable, named-none}
 
-module _ (kind : Kind) (s : List ℕ) (c : readable s ≡ true) (k : Named) (p : NamedAs kind s 0 k) where
-  all : onlyValue (valuesFrom kind s 0) ≡ onlyValue (valuesOf kind (fieldsIn s))
-  all = ap onlyValue (values-all kind s c)
+module _ (kind : Kind) (s : List ℕ) (x : Span) (c : SpanAs kind s x) (k : Named) (p : NamedAs kind s (x .first) k) where
+  all : onlyValue (valuesFrom kind s (x .first)) ≡ onlyValue (valuesOf kind (fieldsIn s))
+  all = ap onlyValue (c .all)
 
   pub single-none : k ≡ Nothing → valueIn s Other ≡ onlyValue (valuesOf kind (fieldsIn s))
   unfolding onlyValue valueIn
-  single-none q = rw (named-none kind s 0 k p q) at all
+  single-none q = rw (named-none kind s (x .first) k p q) at all
 
   module _ (v e : ℕ) (q : k ≡ Field v e) (j : Named) (r : NamedAs kind s e j) where
     first : onlyValue (valueAt s v e ∷ valuesFrom kind s e) ≡ onlyValue (valuesOf kind (fieldsIn s))
-    first = rw (named-first kind s 0 k p v e q) at all
+    first = rw (named-first kind s (x .first) k p v e q) at all
 
     pub single-one : j ≡ Nothing → valueIn s (One v e) ≡ onlyValue (valuesOf kind (fieldsIn s))
     unfolding onlyValue valueIn
@@ -41,15 +42,15 @@ module _ (kind : Kind) (s : List ℕ) (c : readable s ≡ true) (k : Named) (p :
     unfolding onlyValue valueIn
     single-two w f y = rw (named-first kind s e j r w f y) at first
 
-pub single-within : (kind : Kind) (s : List ℕ) (k : Named) (v e : ℕ) → NamedAs kind s 0 k → k ≡ Field v e → OnlyWithin s (One v e)
+pub single-within : (kind : Kind) (s : List ℕ) (at : ℕ) (k : Named) (v e : ℕ) → NamedAs kind s at k → k ≡ Field v e → OnlyWithin s (One v e)
 unfolding OnlyWithin
-single-within kind s k v e p q = (named-order kind s 0 k p v e q, named-upto kind s 0 k p v e q)
+single-within kind s at k v e p q = (named-order kind s at k p v e q, named-upto kind s at k p v e q)
 
 pub other-within : (s : List ℕ) → OnlyWithin s Other
 unfolding OnlyWithin
 other-within s = tt
 
-pub ruleset single = (block-begin, named-readable, single-none, single-one, single-two, single-within, other-within, needs)
+pub ruleset single = (named-readable, single-none, single-one, single-two, single-within, other-within, needs)
 
 -- as a caller asks it of an answer k
 module _ (s : List ℕ) (k : Only) where

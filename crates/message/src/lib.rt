@@ -131,16 +131,16 @@ impl Span {
     {
         let first = self.first;
         let last = self.last;
-        if !named {
-            return Self { first, last };
+        if named {
+            if last == 0 {
+                return Self {
+                    first: at,
+                    last: end,
+                };
+            }
+            return Self { first, last: end };
         }
-        if last == 0 {
-            return Self {
-                first: at,
-                last: end,
-            };
-        }
-        Self { first, last: end }
+        Self { first, last }
     }
 }
 

@@ -13,7 +13,7 @@ slice-aggregate-next-valid : tie.Need-slice-aggregate-next-valid
 slice-aggregate-next-valid c = search counting
 
 next-valid-requires-2 : tie.Need-next-valid-requires-2
-next-valid-requires-2 c κs = search counting
+next-valid-requires-2 c κs = (search counting, search counting, search counting, search counting, search counting)
 
 enum-told : tie.Need-enum-told
 enum-told c = search counting

@@ -6,13 +6,16 @@ use Rattle.message.proofs.find.Tie as tie
 use Rattle.message.proofs.Asking.{Seeking, seeking}
 
 abbrev Inv-loop : tie.InvT-loop
-Inv-loop block at kind place₀ place = Seeking kind block at place
+Inv-loop block at last kind place₀ place = Seeking kind block at place
 
 abbrev μ-loop : tie.MeasureT-loop
-μ-loop block at kind place₀ place = length block - place
+μ-loop block at last kind place₀ place = length block - place
 
 loop-holds : tie.Need-loop-holds Inv-loop μ-loop
 loop-holds c = search seeking
+
+returns : tie.Need-returns Inv-loop μ-loop
+returns c = search seeking
 
 field-at-requires : tie.Need-field-at-requires Inv-loop μ-loop
 field-at-requires c κs = search seeking
@@ -20,14 +23,14 @@ field-at-requires c κs = search seeking
 enum-told : tie.Need-enum-told Inv-loop μ-loop
 enum-told c = search seeking
 
-returns : tie.Need-returns Inv-loop μ-loop
-returns c = search seeking
+returns-2 : tie.Need-returns-2 Inv-loop μ-loop
+returns-2 c = search seeking
 
 enum-told-2 : tie.Need-enum-told-2 Inv-loop μ-loop
 enum-told-2 c = search seeking
 
-returns-2 : tie.Need-returns-2 Inv-loop μ-loop
-returns-2 c = search seeking
+returns-3 : tie.Need-returns-3 Inv-loop μ-loop
+returns-3 c = search seeking
 
 enum-known-name-end : tie.Need-enum-known-name-end Inv-loop μ-loop
 enum-known-name-end c = search seeking
@@ -44,8 +47,8 @@ part-is-kind-end c = search seeking
 is-kind-requires : tie.Need-is-kind-requires Inv-loop μ-loop
 is-kind-requires c κs = search seeking
 
-returns-3 : tie.Need-returns-3 Inv-loop μ-loop
-returns-3 c = search seeking
+returns-4 : tie.Need-returns-4 Inv-loop μ-loop
+returns-4 c = search seeking
 
 loop-less : tie.Need-loop-less Inv-loop μ-loop
 loop-less c = search seeking
@@ -60,16 +63,17 @@ find-spec =
     Inv-loop
     μ-loop
     loop-holds
+    returns
     field-at-requires
     enum-told
-    returns
-    enum-told-2
     returns-2
+    enum-told-2
+    returns-3
     enum-known-name-end
     sub-is-kind
     part-is-kind-start
     part-is-kind-end
     is-kind-requires
-    returns-3
+    returns-4
     loop-less
     loop-again)

@@ -1,16 +1,19 @@
 -- `message::is_report` meets its contract: the laws of `Reporting` answer every need. Assumes nothing.
 use Prim.Native.Nat.{_-_}
 use mathlib.Core.Path.{_≡_}
+use mathlib.Core.List.{[]}
 use lib.ListN.{length}
+use Rattle.message.specs.Answers.{valuesFrom}
+use Rattle.message.specs.declared.Kind.the-variants.{ContentType}
 use Rattle.message.proofs.is_report.Statement.{statement}
 use Rattle.message.proofs.is_report.Tie as tie
 use Rattle.message.proofs.Reporting.{Looking, looking}
 
 abbrev Inv-loop : tie.InvT-loop
-Inv-loop block text₀ at₀ text at = (Looking block at) × (length text ≡ length text₀)
+Inv-loop block text₀ last at₀ text at = (Looking block at) × (valuesFrom ContentType block last ≡ []) × (length text ≡ length text₀)
 
 abbrev μ-loop : tie.MeasureT-loop
-μ-loop block text₀ at₀ text at = length block - at
+μ-loop block text₀ last at₀ text at = length block - at
 
 loop-holds : tie.Need-loop-holds Inv-loop μ-loop
 loop-holds c = search looking
@@ -55,7 +58,7 @@ loop-less : tie.Need-loop-less Inv-loop μ-loop
 loop-less c = search looking
 
 loop-again : tie.Need-loop-again Inv-loop μ-loop
-loop-again c = search looking
+loop-again c = (search looking, search looking, search looking)
 
 enum-told : tie.Need-enum-told Inv-loop μ-loop
 enum-told c = search looking

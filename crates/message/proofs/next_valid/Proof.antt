@@ -7,10 +7,10 @@ use Rattle.message.proofs.next_valid.Tie as tie
 use Rattle.message.proofs.Trying.{Trying, trying}
 
 abbrev Inv-loop : tie.InvT-loop
-Inv-loop block at sender text₀ key₀ place₀ text key place = (Trying sender block at place) × (length text ≡ length text₀) × (length key ≡ length key₀)
+Inv-loop block at last sender text₀ key₀ place₀ text key place = (Trying sender block at place) × (length text ≡ length text₀) × (length key ≡ length key₀)
 
 abbrev μ-loop : tie.MeasureT-loop
-μ-loop block at sender text₀ key₀ place₀ text key place = length block - place
+μ-loop block at last sender text₀ key₀ place₀ text key place = length block - place
 
 loop-holds : tie.Need-loop-holds Inv-loop μ-loop
 loop-holds c = search trying

@@ -1,17 +1,21 @@
 -- `message::recipients` meets its contract: the laws of `Gathering` answer every need. Assumes nothing.
 use Prim.Native.Nat.{_-_}
 use mathlib.Core.Path.{_≡_}
+use mathlib.Core.List.{[]}
 use lib.ListN.{length}
+use Rattle.message.specs.Answers.{valuesFrom}
+use Rattle.message.specs.declared.Kind.the-variants.{Recipients}
+use borrow.Author.Needs.{needs}
 use Rattle.message.proofs.recipients.Statement.{statement}
 use Rattle.message.proofs.recipients.Tie as tie
-use borrow.Author.Needs.{needs}
-use Rattle.message.proofs.Gathering.{Gathering, rolling}
+use Rattle.message.proofs.Gathering.{Gathering, gather-room, rolling}
 
 abbrev Inv-loop : tie.InvT-loop
-Inv-loop block text₀ roll₀ filled₀ at₀ text roll filled at = (Gathering block roll₀ roll filled at) × (length text ≡ length text₀)
+Inv-loop block text₀ roll₀ last filled₀ at₀ text roll filled at =
+    (Gathering block roll₀ roll filled at) × (valuesFrom Recipients block last ≡ []) × (length text ≡ length text₀)
 
 abbrev μ-loop : tie.MeasureT-loop
-μ-loop block text₀ roll₀ filled₀ at₀ text roll filled at = length block - at
+μ-loop block text₀ roll₀ last filled₀ at₀ text roll filled at = length block - at
 
 loop-holds : tie.Need-loop-holds Inv-loop μ-loop
 loop-holds c = search rolling
@@ -44,13 +48,13 @@ part-add-list-end : tie.Need-part-add-list-end Inv-loop μ-loop
 part-add-list-end c = search rolling
 
 add-list-requires : tie.Need-add-list-requires Inv-loop μ-loop
-add-list-requires c κs = search rolling
+add-list-requires c κs = search (gather-room, needs, c .before .before .before .before .before .before .before .before .before .before .before .before .loop .inv .0)
 
 loop-less : tie.Need-loop-less Inv-loop μ-loop
 loop-less c = search rolling
 
 loop-again : tie.Need-loop-again Inv-loop μ-loop
-loop-again c = (search rolling, search needs)
+loop-again c = (search rolling, search rolling, search rolling)
 
 enum-told : tie.Need-enum-told Inv-loop μ-loop
 enum-told c = search rolling

@@ -1,0 +1,12 @@
+-- `message::Survey::new` meets its contract. Assumes nothing.
+use borrow.Author.Needs.{needs}
+use Rattle.message.specs.Spans.{unseen, surveyNew}
+use Rattle.message.proofs.Survey.new.Statement.{statement}
+use Rattle.message.proofs.Survey.new.Tie as tie
+
+returns : tie.Need-returns
+unfolding surveyNew unseen
+returns c = search needs
+
+pub new-spec : {M : Type 1} → statement M
+new-spec = tie.close (tie.spec returns)
