@@ -4,6 +4,7 @@
 --     meet-filled .. meet-new       one more address
 --     Counts, count-begin .. count-end     the loop over the gossip
 --     room-begins .. beside-told           the sender first
+--     own-alone .. free-alone              the sender and no other
 -- Assumes nothing.
 use Prim.Native.Nat.{ℕ, _+_, _*_, _-_, _^_, _<_, _≤_}
 use mathlib.Core.Path.{_≡_, refl, sym, ap, _∙_}
@@ -270,6 +271,28 @@ pub room-begins : (t known : List ℕ) → checked t ≡ Sound → length known 
 room-begins t known s k = record { known = known-none known; enough = omega arith; few = free-few t s; room = k }
 
 pub ruleset seating = (room-begins, room-own, room-beside, needs)
+
+-- no other address
+module _ (t sender : List ℕ) (f : Found) (e : f ≡ found t sender) where
+  abbrev many : ℕ
+  many = length (newcomers t [] (sender ∷ []))
+
+  pub own-alone : (i : ℕ) → f ≡ At i → true ≡ leb many (freeCount t)
+  unfolding newcomers
+  own-alone i q = let z : many ≡ 0 = ap length (newcomer-not t [] sender [] (rw (← e, q) refl)) in sym (le-leb many (freeCount t) (omega (arith, z)))
+
+  module _ (q : f ≡ Nothing) (free : ℕ) (h : free ≡ freeCount t) where
+    one : many ≡ 1
+    unfolding newcomers among
+    one = ap length (newcomer-one t [] sender [] (rw (← e, q) refl))
+
+    pub none-alone : free ≡ 0 → false ≡ leb many (freeCount t)
+    none-alone z = sym (lt-leb many (freeCount t) (omega (arith, one, h, z)))
+
+    pub free-alone : (free ≡ 0 → ⊥) → true ≡ leb many (freeCount t)
+    free-alone z = sym (le-leb many (freeCount t) (omega (arith, one, h, z)))
+
+pub ruleset alone = (own-alone, none-alone, free-alone, needs)
 
 -- a sender who has no entry
 module _ (t sender : List ℕ) (gossiped : List (List ℕ)) (n : ℕ) (h : n ≡ freeCount t) where

@@ -259,7 +259,12 @@ fn has_room_alone(table: &[u8], sender: &[u8]) -> bool
 {
     match table::find(table, sender) {
         Found::At(_) => true,
-        Found::Nothing => table::count_free(table) != 0,
+        Found::Nothing => {
+            if table::count_free(table) == 0 {
+                return false;
+            }
+            true
+        }
     }
 }
 
