@@ -2,21 +2,23 @@
 --     taken-..                          the gossip setting
 --     put-..                            what is answered and left, by what the message brings
 --     brought-.., sent-.., fields-..    what it brings, by the tests in their order
---     the rulesets                      taking, for `is_taken`; delivering, for `deliver`; sending, for `process_from`; opening, for
---                                       `process_sound`; processing, for `process`
+--     the rulesets                      taking, for `is_taken`; delivering, for `deliver`; sending, for `process_from`; asking, for
+--                                       `process_with`; making-room, for `process_read`; opening, for `process_sound`; processing, for `process`
 -- Assumes nothing.
-use Prim.Native.Nat.{ℕ, _-_, _<_, _≤_}
+use Prim.Native.Nat.{ℕ, _-_, _<_, _≤_, min}
 use mathlib.Core.Path.{_≡_, refl, sym, ap, _∙_}
-use mathlib.Core.Bool.{Bool, true, false, not}
+use mathlib.Core.Bool.{Bool, true, false, not, _&&_}
 use mathlib.Core.List.{List, []}
 use mathlib.Core.Option.{Option, some, none}
 use native.Mathlib.Omega.{arith}
 use borrow.Author.Needs.{needs}
-use borrow.Author.Tests.{le-leb, lt-leb, not-true, not-false}
+use borrow.Author.Tests.{le-leb, lt-leb, leb-true, not-true, not-false}
+use lib.Dec.{leb}
 use lib.ListN.{length, take, drop}
 use Rattle.header.specs.Header.{FieldText, isSome, fieldsOf, readable, limit}
-use Rattle.header.proofs.Fields.{fields-empty, clear-fits, unclear}
+use Rattle.header.proofs.Fields.{fields-empty, unclear}
 use Rattle.address.specs.Address.{isCanonical}
+use Rattle.address.proofs.Every.{and-left, and-right}
 use Rattle.slots.specs.Slot.{timeLimit}
 use Rattle.table.specs.Table.{checked}
 use Rattle.table.specs.declared.Checked.{Checked as OfTable}
@@ -26,7 +28,12 @@ use Rattle.message.specs.Message.{fieldsIn, senderIn, isReported}
 use Rattle.message.specs.Answers.{senderOf, leftBySender}
 use Rattle.message.specs.declared.Sender.{Sender as Sent}
 use Rattle.message.specs.declared.Sender.the-variants.{Address, NotOne}
+use Rattle.message.specs.Spans.{SurveyAs, SurveyedAs}
+use Rattle.message.specs.declared.Survey.{Survey}
+use Rattle.message.specs.declared.Surveyed.{Surveyed}
+use Rattle.message.specs.declared.Surveyed.the-variants.{Readable, Unreadable}
 use Rattle.message.proofs.Asking.{fields-are, fields-read}
+use Rattle.message.proofs.Walking.{survey-readable, surveyed-as}
 use Rattle.message.proofs.Sending.{sender-canonical, answer-none, left-is, left-within}
 use Rattle.delivery.specs.Delivery.{messageBy, delivered}
 use Rattle.delivery.proofs.Delivering.{block-short}
@@ -114,11 +121,7 @@ module _ (t : List ℕ) (receipt : ℕ) (sender : List ℕ) (outer payload : Lis
     unfolding delivered
     full-left left d = (d ∙ rw (delivered, sym e ∙ q)) ∙ refused-left t NoFreeSlot outcome full
 
--- a readable block has room in a text that is as long as a block may be
-pub block-fits : (s text : List ℕ) → readable s ≡ true → limit ≤ length text → length s ≤ length text
-block-fits s text h l = omega (arith, block-short s h, l)
-
-pub ruleset delivering = (block-fits, room-answered, room-left, full-answered, full-left, needs)
+pub ruleset delivering = (room-answered, room-left, full-answered, full-left, needs)
 
 -- the fields of the payload
 module _ (g : Gossip) (payload : List ℕ) where
@@ -140,20 +143,19 @@ module _ (receipt : ℕ) (sender : List ℕ) (outer : List FieldText) (payload :
   unfolding withSender
   sent-on e = rw (withSender, e)
 
--- a block that was found to be readable, and a text that is long enough for it
-module _ (s : List ℕ) (b : Bool) (e : b ≡ isSome (fieldsOf s)) (n : not b ≡ false) where
-  pub found-readable : readable s ≡ true
-  found-readable = sym e ∙ not-false b n
+-- a payload that was found to be readable
+pub found-readable : (s : List ℕ) (b : Bool) → b ≡ isSome (fieldsOf s) → not b ≡ false → readable s ≡ true
+found-readable s b e n = sym e ∙ not-false b n
 
-  pub found-fits : (text : List ℕ) → length text ≡ 65536 → length s ≤ length text
-  found-fits text l = omega (arith, clear-fits s b e (not-false b n))
+-- a text that was written to is as long as it came: the blocks have room in it
+pub text-kept : (n : ℕ) (d text : List ℕ) → n ≤ length d → length text ≡ length d → n ≤ length text
+text-kept n d text l e = omega arith
 
-pub text-long : (text : List ℕ) → length text ≡ 65536 → limit ≤ length text
-text-long text e = omega arith
+pub payload-fits : (s d text : List ℕ) → readable s ≡ true → min (length s) limit ≤ length d → length text ≡ length d → length s ≤ length text
+payload-fits s d text h l e = omega (arith, block-short s h, l, e)
 
--- a text that was written to is as long as it came
-pub text-kept : (d text : List ℕ) → limit ≤ length d → length text ≡ length d → limit ≤ length text
-text-kept d text l e = omega arith
+pub none-fits : (payload text : List ℕ) → length (take (0 - 0) (drop 0 payload)) ≤ length text
+none-fits payload text = omega arith
 
 -- `process_from`
 module _ (t : List ℕ) (receipt : ℕ) (sender outer payload : List ℕ) (g : Gossip) (r : Bool) (e : r ≡ isReported (fieldsIn outer)) where
@@ -221,7 +223,7 @@ unfolding isSome
 none-readable payload = ap isSome fields-empty
 
 pub ruleset sending =
-    (six-answered, six-left, skip-answered, skip-left, seven-answered, seven-left, take-answered, take-left, found-readable, block-fits, text-kept, needs)
+    (six-answered, six-left, skip-answered, skip-left, seven-answered, seven-left, take-answered, take-left, found-readable, payload-fits, none-fits, text-kept, needs)
 
 -- what a message brings: "3", "4", "5"
 module _ (receipt : ℕ) (outer payload : List ℕ) (g : Gossip) where
@@ -261,6 +263,55 @@ module _ (fs : List FieldText) (k : Sent) (h : k ≡ senderOf (senderIn fs)) (ou
   pub from-within : i ≤ length out
   from-within = left-within (senderIn fs) k h out d w i q
 
+-- `process_with`
+module _ (t : List ℕ) (receipt : ℕ) (fs : List FieldText) (payload : Option (List FieldText)) (k : Sent) (h : k ≡ senderOf (senderIn fs)) where
+  abbrev said : Brought
+  said = withSender receipt (senderIn fs) fs payload
+
+  module _ (q : k ≡ NotOne) where
+    five : putInto t said ≡ refusing Sender t
+    unfolding withSender
+    five = put-refused t Sender said (ap (λ (o : Option (List ℕ)). withSender receipt o fs payload) (answer-none (senderIn fs) (sym q ∙ h)))
+
+    pub five-answered : Refused Sender ≡ putInto t said .answer
+    five-answered = refused-answer t Sender (putInto t said) five
+
+    pub five-left : t ≡ putInto t said .table
+    five-left = refused-left t Sender (putInto t said) five
+
+  module _ (out d : List ℕ) (w : out ≡ leftBySender (senderIn fs) d) (i : ℕ) (q : k ≡ Address i) where
+    abbrev sent-by : Brought
+    sent-by = withSender receipt (some (take (i - 0) (drop 0 out))) fs payload
+
+    from : sent-by ≡ said
+    from = ap (λ (o : Option (List ℕ)). withSender receipt o fs payload) (sym (from-is fs k h out d w i q))
+
+    pub from-answered : (a : Processed) → a ≡ putInto t sent-by .answer → a ≡ putInto t said .answer
+    from-answered a y = y ∙ ap (λ (x : Brought). putInto t x .answer) from
+
+    pub from-left : (left : List ℕ) → left ≡ putInto t sent-by .table → left ≡ putInto t said .table
+    from-left left y = y ∙ ap (λ (x : Brought). putInto t x .table) from
+
+pub ruleset asking = (five-answered, five-left, from-answered, from-left, from-canonical, from-within, text-kept, needs)
+
+-- `process_read`: a text that is as long as the blocks need
+module _ (outer payload text : List ℕ) where
+  module _ (e : (leb (length outer) 8192 && leb (length payload) 8192) ≡ true) (l : length text ≡ 8192) where
+    pub outer-short : length outer ≤ length text
+    outer-short = omega (arith, leb-true (length outer) 8192 (and-left (leb (length outer) 8192) (leb (length payload) 8192) e), l)
+
+    pub payload-short : min (length payload) limit ≤ length text
+    payload-short = omega (arith, leb-true (length payload) 8192 (and-right (leb (length outer) 8192) (leb (length payload) 8192) e), l)
+
+  module _ (l : length text ≡ 65536) where
+    pub outer-long : (v : Survey) → SurveyAs outer v → length outer ≤ length text
+    outer-long v h = omega (arith, block-short outer (survey-readable outer v h), l)
+
+    pub payload-long : min (length payload) limit ≤ length text
+    payload-long = omega (arith, l)
+
+pub ruleset making-room = (outer-short, payload-short, outer-long, payload-long, needs)
+
 -- `process_sound`
 module _ (t : List ℕ) (receipt : ℕ) (outer payload : List ℕ) (g : Gossip) where
   abbrev brought : Brought
@@ -276,10 +327,14 @@ module _ (t : List ℕ) (receipt : ℕ) (outer payload : List ℕ) (g : Gossip) 
     pub three-left : t ≡ putInto t brought .table
     three-left = refused-left t ReceiptTime (putInto t brought) three
 
-  module _ (l : receipt ≤ timeLimit) (b : Bool) (e : b ≡ isSome (fieldsOf outer)) where
-    module _ (n : not b ≡ true) where
+  module _ (l : receipt ≤ timeLimit) (k : Surveyed) (h : SurveyedAs outer k) where
+    module _ (q : k ≡ Unreadable) where
+      closed : readable outer ≡ false
+      unfolding SurveyedAs
+      closed = rw q at h
+
       four : putInto t brought ≡ refusing OuterBlock t
-      four = put-refused t OuterBlock brought (brought-unreadable receipt outer payload g l (unclear outer b e (not-true b n)))
+      four = put-refused t OuterBlock brought (brought-unreadable receipt outer payload g l (unclear outer false (sym closed) refl))
 
       pub four-answered : Refused OuterBlock ≡ putInto t brought .answer
       four-answered = refused-answer t OuterBlock (putInto t brought) four
@@ -287,41 +342,20 @@ module _ (t : List ℕ) (receipt : ℕ) (outer payload : List ℕ) (g : Gossip) 
       pub four-left : t ≡ putInto t brought .table
       four-left = refused-left t OuterBlock (putInto t brought) four
 
-    module _ (n : not b ≡ false) where
-      read : fieldsOf outer ≡ some (fieldsIn outer)
-      read = fields-read outer (found-readable outer b e n)
+    module _ (v : Survey) (q : k ≡ Readable v) where
+      abbrev opened : Brought
+      opened = withSender receipt (senderIn (fieldsIn outer)) (fieldsIn outer) (payloadFields g payload)
 
-      module _ (k : Sent) (h : k ≡ senderOf (senderIn (fieldsIn outer))) where
-        module _ (q : k ≡ NotOne) where
-          five : putInto t brought ≡ refusing Sender t
-          five =
-              put-refused t Sender brought
-              (brought-unsent receipt outer payload g l (fieldsIn outer) read (answer-none (senderIn (fieldsIn outer)) (sym q ∙ h)))
+      same : opened ≡ brought
+      same = sym (brought-read receipt outer payload g l (fieldsIn outer) (fields-read outer (survey-readable outer v (surveyed-as outer k h v q))))
 
-          pub five-answered : Refused Sender ≡ putInto t brought .answer
-          five-answered = refused-answer t Sender (putInto t brought) five
+      pub open-answered : (a : Processed) → a ≡ putInto t opened .answer → a ≡ putInto t brought .answer
+      open-answered a y = y ∙ ap (λ (x : Brought). putInto t x .answer) same
 
-          pub five-left : t ≡ putInto t brought .table
-          five-left = refused-left t Sender (putInto t brought) five
+      pub open-left : (left : List ℕ) → left ≡ putInto t opened .table → left ≡ putInto t brought .table
+      open-left left y = y ∙ ap (λ (x : Brought). putInto t x .table) same
 
-        module _ (out d : List ℕ) (w : out ≡ leftBySender (senderIn (fieldsIn outer)) d) (i : ℕ) (q : k ≡ Address i) where
-          is : senderIn (fieldsIn outer) ≡ some (take (i - 0) (drop 0 out))
-          is = from-is (fieldsIn outer) k h out d w i q
-
-          abbrev sent-by : Brought
-          sent-by = withSender receipt (some (take (i - 0) (drop 0 out))) (fieldsIn outer) (payloadFields g payload)
-
-          from : sent-by ≡ brought
-          from = sym (brought-from receipt outer payload g l (fieldsIn outer) read (take (i - 0) (drop 0 out)) is)
-
-          pub from-answered : (a : Processed) → a ≡ putInto t sent-by .answer → a ≡ putInto t brought .answer
-          from-answered a y = y ∙ ap (λ (x : Brought). putInto t x .answer) from
-
-          pub from-left : (left : List ℕ) → left ≡ putInto t sent-by .table → left ≡ putInto t brought .table
-          from-left left y = y ∙ ap (λ (x : Brought). putInto t x .table) from
-
-pub ruleset opening =
-    (three-answered, three-left, four-answered, four-left, five-answered, five-left, from-answered, from-left, found-readable, found-fits, from-canonical, from-within, text-long, needs)
+pub ruleset opening = (three-answered, three-left, four-answered, four-left, surveyed-as, open-answered, open-left, needs)
 
 -- `process`: "1", "2"
 by-check : (t : List ℕ) (c : OfTable) → Sound ≡ checkedAs c → c ≡ Whole

@@ -3,7 +3,7 @@
 --     Passed kind s v at           the span v is that of the fields of a kind up to the place `at`
 --     Walked s v at                of each kind that is asked for; the block is readable if it is from `at` on
 --     walk-begin .. walk-next      the walk's steps
---     survey-readable              what a caller asks of the answer
+--     survey-readable, surveyed-as what a caller asks of the answer
 -- Assumes nothing.
 use Prim.Native.Nat.{ℕ, _-_, _<_, _≤_}
 use mathlib.Core.Path.{_≡_, refl, sym, ap, _∙_}
@@ -29,6 +29,7 @@ use Rattle.message.specs.declared.Kind.{Kind}
 use Rattle.message.specs.declared.Kind.the-variants.{From, ContentType, Date, Autocrypt, Recipients}
 use Rattle.message.specs.declared.Span.{Span}
 use Rattle.message.specs.declared.Survey.{Survey}
+use Rattle.message.specs.declared.Surveyed.{Surveyed}
 use Rattle.message.specs.declared.Surveyed.the-variants.{Readable, Unreadable}
 use Rattle.message.proofs.Asking.{values-out, values-all}
 
@@ -179,3 +180,7 @@ pub ruleset walking = (walk-long, walk-begin, walk-over, walk-broken, walk-next,
 
 pub survey-readable : (s : List ℕ) (v : Survey) → SurveyAs s v → readable s ≡ true
 survey-readable s v h = h .readably
+
+pub surveyed-as : (s : List ℕ) (k : Surveyed) → SurveyedAs s k → (v : Survey) → k ≡ Readable v → SurveyAs s v
+unfolding SurveyedAs
+surveyed-as s k h v q = rw q at h

@@ -6,7 +6,7 @@ use Rattle.autocrypt.proofs.deliver.Tie as tie
 
 deliver-requires : tie.Need-deliver-requires
 deliver-requires c κs =
-    (search needs, search needs, search needs, search delivering, search needs, search delivering, search needs)
+    (search needs, search needs, search needs, search needs, search needs, search needs, search needs)
 
 same-length : tie.Need-same-length
 same-length c = search delivering

@@ -1,5 +1,6 @@
 -- `autocrypt::process_from` meets its contract: the laws of `Processing` answer every need. Assumes nothing.
-use Rattle.autocrypt.proofs.Processing.{none-readable, found-readable, sending}
+use borrow.Author.Needs.{needs}
+use Rattle.autocrypt.proofs.Processing.{none-readable, found-readable, payload-fits, text-kept, sending}
 use Rattle.autocrypt.proofs.process_from.Statement.{statement}
 use Rattle.autocrypt.proofs.process_from.Tie as tie
 
@@ -45,16 +46,18 @@ same-length-4 c = search sending
 returns-3 : tie.Need-returns-3
 returns-3 c = search sending
 
--- one search for all six breaks off
+-- one search for all seven breaks off
 deliver-requires-2 : tie.Need-deliver-requires-2
-deliver-requires-2 c κs = (
-  search sending,
-  search sending,
-  search sending,
-  found-readable _ _ (c .before .before .before .readable .ensures) (c .before .before .if3 .left),
-  search sending,
-  search sending,
-)
+deliver-requires-2 c κs =
+    let readable = found-readable _ _ (c .before .before .before .readable .ensures) (c .before .before .if3 .left) in (
+      search needs,
+      search needs,
+      search needs,
+      readable,
+      search needs,
+      search (text-kept, needs),
+      search (payload-fits, readable, needs),
+    )
 
 same-length-5 : tie.Need-same-length-5
 same-length-5 c = search sending
