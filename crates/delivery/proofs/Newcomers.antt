@@ -286,10 +286,10 @@ module _ (t sender : List ℕ) (f : Found) (e : f ≡ found t sender) where
     unfolding newcomers among
     one = ap length (newcomer-one t [] sender [] (rw (← e, q) refl))
 
-    pub none-alone : free ≡ 0 → false ≡ leb many (freeCount t)
+    pub none-alone : free ≤ 0 → false ≡ leb many (freeCount t)
     none-alone z = sym (lt-leb many (freeCount t) (omega (arith, one, h, z)))
 
-    pub free-alone : (free ≡ 0 → ⊥) → true ≡ leb many (freeCount t)
+    pub free-alone : 0 < free → true ≡ leb many (freeCount t)
     free-alone z = sym (le-leb many (freeCount t) (omega (arith, one, h, z)))
 
 pub ruleset alone = (own-alone, none-alone, free-alone, needs)

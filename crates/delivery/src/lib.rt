@@ -260,10 +260,10 @@ fn has_room_alone(table: &[u8], sender: &[u8]) -> bool
     match table::find(table, sender) {
         Found::At(_) => true,
         Found::Nothing => {
-            if table::count_free(table) == 0 {
-                return false;
+            if 0 < table::count_free(table) {
+                return true;
             }
-            true
+            false
         }
     }
 }
