@@ -3,7 +3,8 @@
 --     run-in .. raw-last        one step of what is counted
 --     begin                     where each loop begins
 --     run-next .. run-end       the loop's steps for a run of one class
---     skip-next .. skip-end     the same for a line that is passed in pieces
+--     Skipping, skip-begin .. skip-end    the same for a line that is passed in pieces
+--     line-past                 where no line is left
 --     raw-line                  the rest of a field is that of its first line and what follows
 --     raw-begin .. raw-end      the loop's steps for the rest of a field, from LF to LF
 --     run-short, raw-short      neither counts more than there is
@@ -98,27 +99,37 @@ module _ (class : Class) (s : List ℕ) (at i : ℕ) (h : Going (runLength class
 
 pub ruleset running = (begin, run-next, run-stop, run-end, needs)
 
-module _ (s : List ℕ) (at width i : ℕ) (h : Going lineLength s at i) where
-  pub skip-end : 0 < width → length s ≤ i → Skipped s at width i
-  unfolding lineLength
-  skip-end w l = record { same = h .same; near = rw (drop-done s i l) w }
+pub record Skipping (s : List ℕ) (at i : ℕ) : Type 0 where
+  pub going : Going lineLength s at i
+  pub upto : i ≤ length s
 
-  pub skip-short : length s - i < width → Skipped s at width i
-  skip-short w = record { same = h .same; near = omega (arith, line-short (by-lf (drop i s)), length-drop i s) }
+pub skip-begin : (s : List ℕ) (at : ℕ) → at ≤ length s → Skipping s at at
+skip-begin s at l = record { going = begin lineLength s at; upto = l }
+
+module _ (s : List ℕ) (at width i : ℕ) (h : Skipping s at i) where
+  skipped : lineLength (drop i s) < width → Skipped s at width i
+  skipped n = record { same = h .going .same; upto = h .upto; near = n }
+
+  pub skip-end : length s - i < width → Skipped s at width i
+  skip-end w = skipped (omega (arith, line-short (by-lf (drop i s)), length-drop i s))
 
   piece : i + width - i ≡ width
   piece = omega arith
 
   pub skip-stop : (b : Bool) → b ≡ true → b ≡ hasLf (take (i + width - i) (drop i s)) → Skipped s at width i
-  skip-stop b e t = record { same = h .same; near = piece-with width (by-lf (drop i s)) (sym (rw piece at t) ∙ e) }
+  skip-stop b e t = skipped (piece-with width (by-lf (drop i s)) (sym (rw piece at t) ∙ e))
 
-  pub skip-next : (b : Bool) → b ≡ false → b ≡ hasLf (take (i + width - i) (drop i s)) → width ≤ length s - i → Going lineLength s at (i + width)
+  pub skip-next : (b : Bool) → b ≡ false → b ≡ hasLf (take (i + width - i) (drop i s)) → width ≤ length s - i → Skipping s at (i + width)
   skip-next b e t w =
       let n : lineLength (drop i s) ≡ width + lineLength (drop (i + width) s) =
       rw (← drop-drop width i s) (piece-without width (by-lf (drop i s)) (rw length-drop w) (sym (rw piece at t) ∙ e)) in
-      record { same = omega (arith, h .same) }
+      record { going = record { same = omega (arith, h .going .same) }; upto = omega (arith, h .upto) }
 
-pub ruleset skipping = (begin, skip-next, skip-stop, skip-short, skip-end, needs)
+pub ruleset skipping = (skip-begin, skip-next, skip-stop, skip-end, needs)
+
+-- no line is left
+pub line-past : (s : List ℕ) (at : ℕ) → length s ≤ at → at ≡ at + lineLength (drop at s)
+line-past s at l = omega (arith, line-short (by-lf (drop at s)), length-drop at s)
 
 raw-line : {s : List ℕ} → ByLf s → rawLength s ≡ lineLength s + rawLength (drop (lineLength s) s)
 unfolding lineLength rawLength

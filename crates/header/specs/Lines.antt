@@ -3,12 +3,12 @@
 --     lineLength      how many octets come before the first LF, or before the end where there is none
 --     textLength      how many come before the first octet of a line ending
 --     Skipped         a place that is reached over octets of one line, with less than so many of them left
-use Prim.Native.Nat.{ℕ, suc, _+_, _<_}
+use Prim.Native.Nat.{ℕ, suc, _+_, _<_, _≤_}
 use mathlib.Core.Path.{_≡_}
 use mathlib.Core.Bool.{Bool, true, false, _||_}
 use mathlib.Core.List.{List, [], _∷_}
 use lib.Dec.{eqb}
-use lib.ListN.{getD, drop}
+use lib.ListN.{length, getD, drop}
 use Rattle.header.specs.Header.{lf, ofEnding}
 
 unfoldable pub hasLf : List ℕ → Bool
@@ -27,4 +27,5 @@ textLength (x ∷ s) = elim (ofEnding x (getD s 0 0)) [ true ↦ 0 | false ↦ s
 -- r lies in the line that the place `at` is in, and fewer than `width` of its octets follow
 pub record Skipped (s : List ℕ) (at width r : ℕ) : Type 0 where
   pub same : at + lineLength (drop at s) ≡ r + lineLength (drop r s)
+  pub upto : r ≤ length s
   pub near : lineLength (drop r s) < width

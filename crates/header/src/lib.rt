@@ -102,14 +102,11 @@ fn holds_lf(piece: &[u8]) -> bool
 // From the place `at` on, skips pieces of `width` octets that hold no LF, up to where the next LF or the end is less
 // than `width` octets away.
 fn skip(s: &[u8], at: usize, width: usize) -> usize
-    requires { ⌜ 0 < width ⌝ }
+    requires { ⌜ (0 < width) × (at ≤ length (now s)) ⌝ }
     ensures { λ r. ⌜ Skipped (now (s .entry)) at width r ⌝ }
 {
     let mut i = at;
-    while i < s.len() {
-        if s.len() - i < width {
-            return i;
-        }
+    while width <= s.len() - i {
         if holds_lf(&s[i..i + width]) {
             return i;
         }
@@ -118,11 +115,14 @@ fn skip(s: &[u8], at: usize, width: usize) -> usize
     i
 }
 
-// The place of the next LF from the place `at` on, or the end. Lines have up to 78 octets, and most of them are
-// skipped by 32.
+// The place of the next LF from the place `at` on, or the end. Most octets of a line are skipped by 32, of the rest
+// most by 8.
 fn next_lf(s: &[u8], at: usize) -> usize
     ensures { λ r. ⌜ r ≡ at + lineLength (drop at (now (s .entry))) ⌝ }
 {
+    if s.len() <= at {
+        return at;
+    }
     let near = skip(s, at, 32);
     let nearer = skip(s, near, 8);
     skip(s, nearer, 1)
