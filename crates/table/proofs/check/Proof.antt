@@ -1,14 +1,15 @@
 -- `table::check` meets its contract: the laws of `Judging` keep the loop's invariant and answer every need. Assumes nothing.
 use Prim.Native.Nat.{_-_}
+use Rattle.table.specs.Digests.{Digests}
 use Rattle.table.proofs.Judging.{Judged, judging}
 use Rattle.table.proofs.check.Statement.{statement}
 use Rattle.table.proofs.check.Tie as tie
 
 abbrev Inv-loop : tie.InvT-loop
-Inv-loop table n i₀ i = Judged table n i
+Inv-loop table n digests₀ i₀ digests i = Judged table n i × Digests table digests i
 
 abbrev μ-loop : tie.MeasureT-loop
-μ-loop table n i₀ i = n - i
+μ-loop table n digests₀ i₀ digests i = n - i
 
 is-whole-requires : tie.Need-is-whole-requires Inv-loop μ-loop
 is-whole-requires c κs = search judging
@@ -21,6 +22,18 @@ count-requires c κs = search judging
 
 loop-holds : tie.Need-loop-holds Inv-loop μ-loop
 loop-holds c = search judging
+
+address-requires : tie.Need-address-requires Inv-loop μ-loop
+address-requires c κs = search judging
+
+digest-requires : tie.Need-digest-requires Inv-loop μ-loop
+digest-requires c κs = search judging
+
+mul-digests : tie.Need-mul-digests Inv-loop μ-loop
+mul-digests c = search judging
+
+array-write-digests : tie.Need-array-write-digests Inv-loop μ-loop
+array-write-digests c = search judging
 
 is-right-requires : tie.Need-is-right-requires Inv-loop μ-loop
 is-right-requires c κs = search judging
@@ -50,6 +63,10 @@ check-spec =
     returns
     count-requires
     loop-holds
+    address-requires
+    digest-requires
+    mul-digests
+    array-write-digests
     is-right-requires
     returns-2
     add-i
