@@ -1,11 +1,12 @@
--- The digests of addresses: made in a loop, looked through in another, and what they tell of the lower slots.
---     Digested s k d            d is the digest of the first k octets
---     digesting                 the loop over an address
---     among-begin .. apart      the loop over the digests; a number that is not among them is none of them
+-- The digests of addresses: how one is made, how they are looked through, and what they tell of the lower slots.
+--     Digested s k d                 d is the digest of the first k octets
+--     digest-begin .. digest-end     the loop over an address
+--     among-begin .. among-end       the loop over the digests
+--     among-at                       a number that stands there is among them
 --     digests-begin, digests-next    the digests of no slot, and of one slot more
---     lower-apart               a slot whose digest is not among the lower ones has its address in no lower slot
+--     lower-apart                    a digest that is not among the lower ones is that of an address in no lower slot
 -- Assumes nothing.
-use Prim.Native.Nat.{ℕ, zero, suc, _+_, _*_, _%_, _<_, _≤_}
+use Prim.Native.Nat.{ℕ, zero, suc, _+_, _<_, _≤_}
 use mathlib.Core.Path.{_≡_, refl, sym, ap, _∙_}
 use mathlib.Core.Logic.{⊎-elim}
 use mathlib.Core.Bool.{Bool, true, false, not, _||_, or-true, false≢true}
@@ -20,8 +21,8 @@ use lib.Seq.{getD-set-same, getD-set-other}
 use Rattle.octets.proofs.Lists.{lt-or-le, drop-one, drop-done}
 use Rattle.address.proofs.Every.{by-test}
 use Rattle.slots.specs.Slot.{addressOf}
-use Rattle.table.specs.Table.{slots, slotAt, holds, lowest, isAt, inLower}
-use Rattle.table.specs.Digests.{digestAfter, digestOf, among, Digests}
+use Rattle.table.specs.Table.{slotAt, holds, isAt, inLower}
+use Rattle.table.specs.Digests.{withOctet, digestAfter, digestOf, among, Digests}
 use Rattle.table.proofs.Finding.{lowest-none, holds-address}
 
 pub record Digested (s : List ℕ) (k d : ℕ) : Type 0 where
@@ -33,7 +34,7 @@ unfolding digestOf
 digest-begin s = record { upto = omega arith; so-far = refl }
 
 module _ (s : List ℕ) (k d : ℕ) (h : Digested s k d) where
-  pub digest-next : (e : ℕ) → k < length s → e ≡ (d * 33 + getD s k 0) % 4294967296 → Digested s (k + 1) e
+  pub digest-next : (e : ℕ) → k < length s → e ≡ withOctet d (getD s k 0) → Digested s (k + 1) e
   unfolding digestAfter
   digest-next e l p = record { upto = omega arith; so-far = h .so-far ∙ rw (drop-one s k l, digestAfter, ← p) }
 
@@ -68,8 +69,8 @@ pub ruleset looking-through = (among-begin, among-next, among-end, needs)
 pub digests-begin : (t ds : List ℕ) → length ds ≡ 256 → Digests t ds 0
 digests-begin t ds e = record { few = omega arith; room = e; each = λ k l. absurd (omega arith) }
 
-pub digests-next : (t ds a : List ℕ) (i d : ℕ) → Digests t ds i → i < 256 → a ≡ addressOf (slotAt t i) → d ≡ digestOf a → Digests t (set ds i d) (i + 1)
-digests-next t ds a i d h l ea ed =
+pub digests-next : (t ds a : List ℕ) (i d : ℕ) → d ≡ digestOf a → a ≡ addressOf (slotAt t i) → Digests t ds i → i < 256 → Digests t (set ds i d) (i + 1)
+digests-next t ds a i d ed ea h l =
     record {
       few = omega arith;
       room = simp length-set (h .room);
@@ -79,16 +80,20 @@ digests-next t ds a i d h l ea ed =
           (lt-or-le k i);
     }
 
-pub lower-apart : (t ds : List ℕ) (i : ℕ) (b : Bool) → Digests t ds (i + 1) → b ≡ among (getD ds i 0) ds i → not b ≡ true → false ≡ inLower t i
-unfolding inLower
-lower-apart t ds i b h e q =
-    sym
-    (ap isAt
-    (lowest-none (holds (addressOf (slotAt t i))) t 0 i
-    (λ m _ l.
-    by-test (holds (addressOf (slotAt t i)) (slotAt t m))
-    (λ p.
-    let same : getD ds m 0 ≡ getD ds i 0 =
-    h .each m (omega arith) ∙ ap digestOf (holds-address (addressOf (slotAt t i)) (slotAt t m) p) ∙ sym (h .each i (omega arith)) in
-    absurd (false≢true (sym (sym e ∙ not-true b q) ∙ among-at (getD ds i 0) ds i m (omega arith) same)))
-    (λ p. p))))
+-- the digest of slot i is that of each slot with the same address
+module _ (t ds : List ℕ) (i : ℕ) (h : Digests t ds (i + 1)) where
+  told : (m : ℕ) → m < i → holds (addressOf (slotAt t i)) (slotAt t m) ≡ true → among (getD ds i 0) ds i ≡ true
+  told m l p =
+      among-at (getD ds i 0) ds i m l
+      (h .each m (omega arith) ∙ ap digestOf (holds-address (addressOf (slotAt t i)) (slotAt t m) p) ∙ sym (h .each i (omega arith)))
+
+  pub lower-apart : (b : Bool) → b ≡ among (getD ds i 0) ds i → not b ≡ true → false ≡ inLower t i
+  unfolding inLower
+  lower-apart b e q =
+      sym
+      (ap isAt
+      (lowest-none (holds (addressOf (slotAt t i))) t 0 i
+      (λ m _ l.
+      by-test (holds (addressOf (slotAt t i)) (slotAt t m))
+      (λ p. absurd (false≢true (sym (sym e ∙ not-true b q) ∙ told m (omega arith) p)))
+      (λ p. p))))

@@ -1,9 +1,9 @@
 -- Refusals 1 and 2: whether a slot is right, and the scan for the lowest that is not.
 --     right-free .. right-used        the answers on one slot
 --     lower-at, lower-none            whether its address stands in a lower one
---     whole-is                        the answer on the length
+--     whole-is, whole-few             the answer on the length, and what it says of the number of slots
 --     judged-on .. checked-length     one slot, and the whole
---     Judged t n i                    the answer on n slots is that on those from i on
+--     Judged t n i                    the answer on n slots, at most 256, is that on those from i on
 --     judge-begin .. judge-end        the loop's steps
 -- Assumes nothing.
 use Prim.Native.Nat.{ℕ, suc, _+_, _-_, _%_, _<_, _≤_}
@@ -127,4 +127,7 @@ module _ (t : List ℕ) (n i : ℕ) (h : Judged t n i) where
 pub judge-within : (t : List ℕ) (n i : ℕ) → n ≡ slots t → i < n → i < slots t
 judge-within t n i e l = omega arith
 
-pub ruleset judging = (whole-is, judge-length, judge-begin, judge-within, judge-next, judge-stop, judge-end, digests-begin, digests-next, needs)
+pub judge-room : (t : List ℕ) (n i : ℕ) → Judged t n i → i < n → i < 256
+judge-room t n i h l = omega (arith, h .few)
+
+pub ruleset judging = (whole-is, judge-length, judge-begin, judge-within, judge-room, judge-next, judge-stop, judge-end, digests-begin, digests-next, needs)

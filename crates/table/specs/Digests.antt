@@ -1,8 +1,8 @@
 -- What the check compares before it compares addresses: a number of 32 bits for each slot, made of its address.
---     digestOf         the digest of an address: to each octet on itself, moved up five places and added, with the octet, modulo 2 to the 32
+--     digestOf         the digest of an address: for each octet itself plus itself moved up five places plus the octet, modulo 2 to the 32
 --     among            is a number one of the first n of a list?
---     Digests t ds n   ds has the digests of the first n slots, of which there are at most 256
-use Prim.Native.Nat.{ℕ, zero, suc, _+_, _*_, _%_, _<_, _≤_}
+--     Digests t ds n   ds has the digests of the addresses of the first n slots, and room for those of a whole table
+use Prim.Native.Nat.{ℕ, zero, suc, _+_, _*_, _%_, _^_, _<_, _≤_}
 use mathlib.Core.Path.{_≡_}
 use mathlib.Core.Bool.{Bool, false, _||_}
 use mathlib.Core.List.{List, [], _∷_}
@@ -11,10 +11,14 @@ use lib.ListN.{length, getD}
 use Rattle.slots.specs.Slot.{addressOf}
 use Rattle.table.specs.Table.{mostSlots, slotAt}
 
--- the octets s after those whose digest is d
+-- one octet more
+abbrev pub withOctet : ℕ → ℕ → ℕ
+withOctet d x = (d * 33 + x) % 2 ^ 32
+
+-- the octets s behind those whose digest is d
 unfoldable pub digestAfter : ℕ → List ℕ → ℕ
 digestAfter d [] = d
-digestAfter d (x ∷ s) = digestAfter ((d * 33 + x) % 4294967296) s
+digestAfter d (x ∷ s) = digestAfter (withOctet d x) s
 
 unfoldable pub digestOf : List ℕ → ℕ
 digestOf s = digestAfter 0 s

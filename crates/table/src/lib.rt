@@ -1,14 +1,14 @@
 // The table of slots: whether it is sound, where an address stands, the free slots, what a slot holds, and the one slot
 // that is lent on to a writer.
-ghost use Prim.Native.Nat.{_+_, _*_, _%_, _<_, _≤_};
+ghost use Prim.Native.Nat.{_+_, _<_, _≤_};
 ghost use mathlib.Core.Path.{_≡_};
 ghost use mathlib.Core.Bool.{true, _&&_};
 ghost use lib.Dec.{eqb};
 ghost use lib.ListN.{length, getD};
 ghost use Rattle.slots.specs.Slot.{slotLength, addressRoom, keyLimit, numbersOf, marked, addressOf, directKeyOf, gossipKeyOf, sound};
 ghost use Rattle.slots.specs.Entry.{entryOf, slotOf, newcomer, seenBy, withDirect, withGossip};
-ghost use Rattle.table.specs.Table.{slots as slotsOf, slotAt, withSlot, unused, holds, lowest, found, lowestFree, freeCount, inLower, right, whole, checked, mostSlots};
-ghost use Rattle.table.specs.Digests.{digestOf, among, Digests};
+ghost use Rattle.table.specs.Table.{mostSlots, slots as slotsOf, slotAt, withSlot, unused, holds, lowest, found, lowestFree, freeCount, inLower, right, whole, checked};
+ghost use Rattle.table.specs.Digests.{withOctet, digestOf, among, Digests};
 use slots::Slot;
 
 // Whether a table is one: refusal 1 for its length, 2 with the lowest slot that is neither free nor sound.
@@ -123,15 +123,16 @@ pub fn count_free(table: &[u8]) -> usize
     many
 }
 
-// The digest of octets, with one more behind them.
+// The digest of some octets with one more behind them: itself plus itself moved up five places plus the octet.
 fn with_octet(digest: u32, octet: u8) -> u32
-    ensures { λ r. ⌜ r ≡ (digest * 33 + octet) % 4294967296 ⌝ }
+    ensures { λ r. ⌜ r ≡ withOctet digest octet ⌝ }
 {
-    let doubled = std::num::wrapping_add_u32(digest, digest << 5);
-    std::num::wrapping_add_u32(doubled, octet as u32)
+    let moved = std::num::wrapping_add_u32(digest, digest << 5);
+    std::num::wrapping_add_u32(moved, octet as u32)
 }
 
-// What an address is known by in the check: equal addresses have equal digests.
+// The digest of an address. Equal addresses have equal ones, and addresses that differ hardly ever do, also where they
+// differ in a digit or two only.
 fn digest(address: &[u8]) -> u32
     ensures { λ r. ⌜ r ≡ digestOf (now (address .entry)) ⌝ }
 {
@@ -144,7 +145,8 @@ fn digest(address: &[u8]) -> u32
     digest
 }
 
-// Is the digest of slot i among the lower ones? All of them are looked at: without a way out the loop compares eight at once.
+// Is the digest of the slot among those of the lower ones? The loop looks at all of them: with no way out of it, several
+// are compared at once.
 fn is_among_lower(digests: &[u32; Slot::MOST], i: usize) -> bool
     requires { ⌜ i < mostSlots ⌝ }
     ensures { λ r. ⌜ r ≡ among (getD (now (digests .entry)) i 0) (now (digests .entry)) i ⌝ }
@@ -159,7 +161,8 @@ fn is_among_lower(digests: &[u32; Slot::MOST], i: usize) -> bool
     among
 }
 
-// Does the address of the slot stand in a lower one? Addresses are looked at only where there is such a digest.
+// Does the address of the slot stand in a lower one? The lower slots are looked through only where one of them has the
+// same digest: the digests stand side by side, the slots far apart.
 fn in_lower(table: &[u8], i: usize, digests: &[u32; Slot::MOST]) -> bool
     requires { ⌜ (i < slotsOf (now table)) × Digests (now table) (now digests) (i + 1) ⌝ }
     ensures { λ r. ⌜ r ≡ inLower (now (table .entry)) i ⌝ }
