@@ -1,6 +1,7 @@
 -- The digests of addresses: how one is made, how they are looked through, and what they tell of the lower slots.
 --     Digested s k d                 d is the digest of the first k octets
 --     digest-begin .. digest-end     the loop over an address
+--     digest-same                    the digest of an address that is equal to it
 --     among-begin .. among-end       the loop over the digests
 --     among-at                       a number that stands there is among them
 --     digests-begin, digests-next    the digests of no slot, and of one slot more
@@ -44,6 +45,9 @@ module _ (s : List ℕ) (k d : ℕ) (h : Digested s k d) where
 
 pub ruleset digesting = (digest-begin, digest-next, digest-end, needs)
 
+pub digest-same : (a b : List ℕ) (d : ℕ) → d ≡ digestOf a → a ≡ b → d ≡ digestOf b
+digest-same a b d e p = e ∙ ap digestOf p
+
 module _ (x : ℕ) (ds : List ℕ) where
   pub among-begin : false ≡ among x ds 0
   unfolding among
@@ -69,14 +73,14 @@ pub ruleset looking-through = (among-begin, among-next, among-end, needs)
 pub digests-begin : (t ds : List ℕ) → length ds ≡ 256 → Digests t ds 0
 digests-begin t ds e = record { few = omega arith; room = e; each = λ k l. absurd (omega arith) }
 
-pub digests-next : (t ds a : List ℕ) (i d : ℕ) → d ≡ digestOf a → a ≡ addressOf (slotAt t i) → Digests t ds i → i < 256 → Digests t (set ds i d) (i + 1)
-digests-next t ds a i d ed ea h l =
+pub digests-next : (t ds : List ℕ) (i d : ℕ) → Digests t ds i → i < 256 → d ≡ digestOf (addressOf (slotAt t i)) → Digests t (set ds i d) (i + 1)
+digests-next t ds i d h l e =
     record {
       few = omega arith;
       room = simp length-set (h .room);
       each = λ k b.
           ⊎-elim (λ (m : k < i). getD-set-other ds i k d 0 (omega arith) ∙ h .each k m)
-          (λ (m : i ≤ k). let q : k ≡ i = omega arith in rw q (getD-set-same ds i d 0 (omega (arith, h .room)) ∙ ed ∙ ap digestOf ea))
+          (λ (m : i ≤ k). let q : k ≡ i = omega arith in rw q (getD-set-same ds i d 0 (omega (arith, h .room)) ∙ e))
           (lt-or-le k i);
     }
 

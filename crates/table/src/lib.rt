@@ -127,12 +127,14 @@ pub fn count_free(table: &[u8]) -> usize
 fn with_octet(digest: u32, octet: u8) -> u32
     ensures { λ r. ⌜ r ≡ withOctet digest octet ⌝ }
 {
-    let moved = std::num::wrapping_add_u32(digest, digest << 5);
-    std::num::wrapping_add_u32(moved, octet as u32)
+    std::num::wrapping_add_u32(
+        std::num::wrapping_add_u32(digest, digest << 5),
+        octet as u32,
+    )
 }
 
-// The digest of an address. Equal addresses have equal ones, and addresses that differ hardly ever do, also where they
-// differ in a digit or two only.
+// The digest of an address. Equal addresses have equal digests, and addresses that differ hardly ever, even where they
+// differ only in a digit or in the order of their letters.
 fn digest(address: &[u8]) -> u32
     ensures { λ r. ⌜ r ≡ digestOf (now (address .entry)) ⌝ }
 {
@@ -143,6 +145,14 @@ fn digest(address: &[u8]) -> u32
         k += 1;
     }
     digest
+}
+
+// The digest of the slot's address.
+fn digest_at(table: &[u8], i: usize) -> u32
+    requires { ⌜ i < slotsOf (now table) ⌝ }
+    ensures { λ r. ⌜ r ≡ digestOf (addressOf (slotAt (now (table .entry)) i)) ⌝ }
+{
+    digest(address(table, i))
 }
 
 // Is the digest of the slot among those of the lower ones? The loop looks at all of them: with no way out of it, several
@@ -199,7 +209,7 @@ fn is_whole(table: &[u8]) -> bool
     (table.len() % Slot::LEN == 0) & (1 <= n) & (n <= Slot::MOST)
 }
 
-// Is it a table? Every call asks this first.
+// Is it a table? Every call asks this first. The digests of the slots that it has passed are kept for those above.
 pub fn check(table: &[u8]) -> Checked
     ensures { λ r. ⌜ r ≡ checked (now (table .entry)) ⌝ }
 {
@@ -210,7 +220,7 @@ pub fn check(table: &[u8]) -> Checked
     let mut digests = [0u32; Slot::MOST];
     let mut i = 0;
     while i < n {
-        digests[i] = digest(address(table, i));
+        digests[i] = digest_at(table, i);
         if !is_right(table, i, &digests) {
             return Checked::Slot(i);
         }

@@ -23,11 +23,8 @@ count-requires c κs = search judging
 loop-holds : tie.Need-loop-holds Inv-loop μ-loop
 loop-holds c = search judging
 
-address-requires : tie.Need-address-requires Inv-loop μ-loop
-address-requires c κs = search judging
-
-digest-requires : tie.Need-digest-requires Inv-loop μ-loop
-digest-requires c κs = search judging
+digest-at-requires : tie.Need-digest-at-requires Inv-loop μ-loop
+digest-at-requires c κs = search judging
 
 mul-digests : tie.Need-mul-digests Inv-loop μ-loop
 mul-digests c = search judging
@@ -36,7 +33,7 @@ array-write-digests : tie.Need-array-write-digests Inv-loop μ-loop
 array-write-digests c = search judging
 
 is-right-requires : tie.Need-is-right-requires Inv-loop μ-loop
-is-right-requires c κs = search judging
+is-right-requires c κs = (search judging, search judging)
 
 returns-2 : tie.Need-returns-2 Inv-loop μ-loop
 returns-2 c = search judging
@@ -48,7 +45,7 @@ loop-less : tie.Need-loop-less Inv-loop μ-loop
 loop-less c = search judging
 
 loop-again : tie.Need-loop-again Inv-loop μ-loop
-loop-again c = search judging
+loop-again c = (search judging, search judging)
 
 returns-3 : tie.Need-returns-3 Inv-loop μ-loop
 returns-3 c = search judging
@@ -63,8 +60,7 @@ check-spec =
     returns
     count-requires
     loop-holds
-    address-requires
-    digest-requires
+    digest-at-requires
     mul-digests
     array-write-digests
     is-right-requires
