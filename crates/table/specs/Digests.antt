@@ -1,5 +1,5 @@
 -- What the check compares before it compares addresses: a number of 32 bits for each slot, made of its address.
---     digestOf         the digest of an address: for each octet itself plus itself moved up five places plus the octet, modulo 2 to the 32
+--     digestOf         the digest of an address: for each octet itself plus itself moved up seven places plus the octet, modulo 2 to the 32
 --     among            is a number one of the first n of a list?
 --     Digests t ds n   ds has the digests of the addresses of the first n slots, and room for those of a whole table
 use Prim.Native.Nat.{ℕ, zero, suc, _+_, _*_, _%_, _^_, _<_, _≤_}
@@ -13,7 +13,7 @@ use Rattle.table.specs.Table.{mostSlots, slotAt}
 
 -- one octet more
 abbrev pub withOctet : ℕ → ℕ → ℕ
-withOctet d x = (d * 33 + x) % 2 ^ 32
+withOctet d x = (d * 129 + x) % 2 ^ 32
 
 -- the octets s behind those whose digest is d
 unfoldable pub digestAfter : ℕ → List ℕ → ℕ

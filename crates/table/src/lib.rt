@@ -123,18 +123,18 @@ pub fn count_free(table: &[u8]) -> usize
     many
 }
 
-// The digest of some octets with one more behind them: itself plus itself moved up five places plus the octet.
+// The digest of some octets with one more behind them: itself plus itself moved up seven places plus the octet.
 fn with_octet(digest: u32, octet: u8) -> u32
     ensures { λ r. ⌜ r ≡ withOctet digest octet ⌝ }
 {
     std::num::wrapping_add_u32(
-        std::num::wrapping_add_u32(digest, digest << 5),
+        std::num::wrapping_add_u32(digest, digest << 7),
         octet as u32,
     )
 }
 
-// The digest of an address. Equal addresses have equal digests, and addresses that differ hardly ever, even where they
-// differ only in a digit or in the order of their letters.
+// The digest of an address. Equal addresses have equal digests, others hardly ever, not even numbered ones of one domain:
+// ASCII octets are below 129, so that no change of an octet is made up for by the next.
 fn digest(address: &[u8]) -> u32
     ensures { λ r. ⌜ r ≡ digestOf (now (address .entry)) ⌝ }
 {
