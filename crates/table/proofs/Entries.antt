@@ -3,22 +3,19 @@
 --     entry-sound                that slot is sound
 --     slots-most                 a checked table has at most 256 slots
 -- Assumes nothing.
-use Prim.Native.Nat.{ℕ, _%_, _≤_}
+use Prim.Native.Nat.{ℕ, _≤_}
 use mathlib.Core.Path.{_≡_}
-use mathlib.Core.Bool.{true, _&&_}
+use mathlib.Core.Bool.{true}
 use mathlib.Core.List.{List}
 use mathlib.Core.Option.{some, none}
-use borrow.Author.Tests.{leb-true}
-use lib.Dec.{leb, eqb}
-use lib.ListN.{length}
-use Rattle.address.proofs.Every.{and-right}
 use Rattle.slots.specs.Slot.{sound}
 use Rattle.slots.specs.Entry.{entryOf}
-use Rattle.table.specs.Table.{slots, slotAt, found, whole, checked}
+use Rattle.table.specs.Table.{slots, slotAt, found, checked}
 use Rattle.table.specs.Entries.{entryIn}
 use Rattle.table.specs.declared.Checked.the-variants.{Sound}
 use Rattle.table.specs.declared.Found.the-variants.{At, Nothing}
 use Rattle.table.proofs.Finding.{found-at, found-used}
+use Rattle.table.proofs.Judging.{whole-few}
 use Rattle.table.proofs.Keeping.{table-sound, used-sound}
 
 module _ (t a : List ℕ) where
@@ -34,6 +31,4 @@ module _ (t a : List ℕ) where
   entry-sound s i e = used-sound t (table-sound t s) i (found-at t a i e .0) (found-used t a i e) .0
 
 pub slots-most : (t : List ℕ) → checked t ≡ Sound → slots t ≤ 256
-unfolding whole
-slots-most t s =
-    leb-true (slots t) 256 (and-right (eqb (length t % 4392) 0 && leb 1 (slots t)) (leb (slots t) 256) (table-sound t s .whole-slots))
+slots-most t s = whole-few t (table-sound t s .whole-slots)

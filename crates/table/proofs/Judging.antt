@@ -1,9 +1,9 @@
 -- Refusals 1 and 2: whether a slot is right, and the scan for the lowest that is not.
 --     right-free .. right-used        the answers on one slot
 --     lower-at, lower-none            whether its address stands in a lower one
---     whole-is                        the answer on the length
+--     whole-is, whole-few             the answer on the length, and what it says of the number of slots
 --     judged-on .. checked-length     one slot, and the whole
---     Judged t n i                    the answer on n slots is that on those from i on
+--     Judged t n i                    the answer on n slots, at most 256, is that on those from i on
 --     judge-begin .. judge-end        the loop's steps
 -- Assumes nothing.
 use Prim.Native.Nat.{ℕ, suc, _+_, _-_, _%_, _<_, _≤_}
@@ -12,17 +12,19 @@ use mathlib.Core.Bool.{Bool, true, false, not, _&&_, or-false}
 use mathlib.Core.List.{List}
 use native.Mathlib.Nat.{sub-zero}
 use native.Mathlib.Omega.{arith}
-use borrow.Author.Tests.{not-true, not-false}
+use borrow.Author.Tests.{leb-true, not-true, not-false}
 use borrow.Author.Needs.{needs}
 use lib.Dec.{leb, eqb}
 use lib.ListN.{length}
 use Rattle.octets.proofs.Lists.{left-one}
+use Rattle.address.proofs.Every.{and-right}
 use Rattle.slots.specs.Slot.{slotLength, marked, free, sound, addressOf}
 use Rattle.slots.proofs.Sounds.{marked-not-free, unmarked-not-sound}
 use Rattle.table.specs.Table.{slots, slotAt, holds, lowest, isAt, inLower, right, whole, judged, checked}
 use Rattle.table.specs.declared.Checked.the-variants.{Sound, Length, Slot}
 use Rattle.table.specs.declared.Found.{Found}
 use Rattle.table.specs.declared.Found.the-variants.{At, Nothing}
+use Rattle.table.proofs.Digesting.{digests-begin, digests-next, lower-apart}
 
 module _ (t s : List ℕ) (i : ℕ) (m : Bool) (e : (s ≡ slotAt t i) × (length s ≡ slotLength)) (p : m ≡ marked s) where
   pub right-free : (b : Bool) → not m ≡ true → b ≡ free s → b ≡ right t i
@@ -64,13 +66,14 @@ module _ (t a : List ℕ) (i : ℕ) (r : Found) (ea : a ≡ addressOf (slotAt t 
 pub lower-few : (t : List ℕ) (i : ℕ) → i < slots t → i ≤ slots t
 lower-few t i l = omega arith
 
-pub ruleset looking-lower = (lower-at, lower-none, lower-few, needs)
+pub ruleset looking-lower = (lower-apart, lower-at, lower-none, lower-few, needs)
 
 pub whole-is : (t : List ℕ) (n : ℕ) → n ≡ slots t → (eqb (length t % 4392) 0 && leb 1 n && leb n 256) ≡ whole t
 unfolding whole
 whole-is t n e = rw e
 
 pub record Judged (t : List ℕ) (n i : ℕ) : Type 0 where
+  pub few : n ≤ 256
   pub upto : i ≤ n
   pub so-far : judged t 0 n ≡ judged t i (n - i)
 
@@ -95,13 +98,18 @@ checked-length t e = rw (checked, e)
 pub judge-length : (t : List ℕ) (b : Bool) → b ≡ whole t → not b ≡ true → Length ≡ checked t
 judge-length t b e n = sym (checked-length t (sym e ∙ not-true b n))
 
-pub judge-begin : (t : List ℕ) (n : ℕ) → Judged t n 0
-judge-begin t n = record { upto = omega arith; so-far = rw (sub-zero n) }
+pub whole-few : (t : List ℕ) → whole t ≡ true → slots t ≤ 256
+unfolding whole
+whole-few t e = leb-true (slots t) 256 (and-right (eqb (length t % 4392) 0 && leb 1 (slots t)) (leb (slots t) 256) e)
+
+pub judge-begin : (t : List ℕ) (n : ℕ) (w : Bool) → w ≡ whole t → not w ≡ false → n ≡ slots t → Judged t n 0
+judge-begin t n w ew nw en =
+    record { few = omega (arith, whole-few t (sym ew ∙ not-false w nw)); upto = omega arith; so-far = rw (sub-zero n) }
 
 module _ (t : List ℕ) (n i : ℕ) (h : Judged t n i) where
   pub judge-next : (b : Bool) → i < n → b ≡ right t i → not b ≡ false → Judged t n (i + 1)
   judge-next b l e q =
-      record { upto = omega arith; so-far = h .so-far ∙ rw (left-one n i l) (judged-on t i (n - (i + 1)) (sym e ∙ not-false b q)) }
+      record { few = h .few; upto = omega arith; so-far = h .so-far ∙ rw (left-one n i l) (judged-on t i (n - (i + 1)) (sym e ∙ not-false b q)) }
 
   module _ (w : Bool) (ew : w ≡ whole t) (nw : not w ≡ false) (en : n ≡ slots t) where
     all : checked t ≡ judged t i (n - i)
@@ -119,4 +127,7 @@ module _ (t : List ℕ) (n i : ℕ) (h : Judged t n i) where
 pub judge-within : (t : List ℕ) (n i : ℕ) → n ≡ slots t → i < n → i < slots t
 judge-within t n i e l = omega arith
 
-pub ruleset judging = (whole-is, judge-length, judge-begin, judge-within, judge-next, judge-stop, judge-end, needs)
+pub judge-room : (t : List ℕ) (n i : ℕ) → Judged t n i → i < n → i < 256
+judge-room t n i h l = omega (arith, h .few)
+
+pub ruleset judging = (whole-is, judge-length, judge-begin, judge-within, judge-room, judge-next, judge-stop, judge-end, digests-begin, digests-next, needs)

@@ -1,5 +1,6 @@
 pub mod Slots
 pub mod Scanning
+pub mod Digesting
 pub mod Judging
 pub mod Finding
 pub mod Keeping

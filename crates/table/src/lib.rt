@@ -1,13 +1,14 @@
 // The table of slots: whether it is sound, where an address stands, the free slots, what a slot holds, and the one slot
 // that is lent on to a writer.
-ghost use Prim.Native.Nat.{_<_, _≤_};
+ghost use Prim.Native.Nat.{_+_, _<_, _≤_};
 ghost use mathlib.Core.Path.{_≡_};
 ghost use mathlib.Core.Bool.{true, _&&_};
 ghost use lib.Dec.{eqb};
-ghost use lib.ListN.{length};
+ghost use lib.ListN.{length, getD};
 ghost use Rattle.slots.specs.Slot.{slotLength, addressRoom, keyLimit, numbersOf, marked, addressOf, directKeyOf, gossipKeyOf, sound};
 ghost use Rattle.slots.specs.Entry.{entryOf, slotOf, newcomer, seenBy, withDirect, withGossip};
-ghost use Rattle.table.specs.Table.{slots as slotsOf, slotAt, withSlot, unused, holds, lowest, found, lowestFree, freeCount, inLower, right, whole, checked};
+ghost use Rattle.table.specs.Table.{mostSlots, slots as slotsOf, slotAt, withSlot, unused, holds, lowest, found, lowestFree, freeCount, inLower, right, whole, checked};
+ghost use Rattle.table.specs.Digests.{withOctet, digestOf, among, Digests};
 use slots::Slot;
 
 // Whether a table is one: refusal 1 for its length, 2 with the lowest slot that is neither free nor sound.
@@ -122,11 +123,63 @@ pub fn count_free(table: &[u8]) -> usize
     many
 }
 
-// Does the address of the slot stand in a lower one?
-fn in_lower(table: &[u8], i: usize) -> bool
+// The digest of some octets with one more behind them: itself plus itself moved up seven places plus the octet.
+fn with_octet(digest: u32, octet: u8) -> u32
+    ensures { λ r. ⌜ r ≡ withOctet digest octet ⌝ }
+{
+    std::num::wrapping_add_u32(
+        std::num::wrapping_add_u32(digest, digest << 7),
+        octet as u32,
+    )
+}
+
+// The digest of an address. Equal addresses have equal digests, others hardly ever, not even numbered ones of one domain:
+// ASCII octets are below 129, so that no change of an octet is made up for by the next.
+fn digest(address: &[u8]) -> u32
+    ensures { λ r. ⌜ r ≡ digestOf (now (address .entry)) ⌝ }
+{
+    let mut digest: u32 = 0;
+    let mut k = 0;
+    while k < address.len() {
+        digest = with_octet(digest, address[k]);
+        k += 1;
+    }
+    digest
+}
+
+// The digest of the slot's address.
+fn digest_at(table: &[u8], i: usize) -> u32
     requires { ⌜ i < slotsOf (now table) ⌝ }
+    ensures { λ r. ⌜ r ≡ digestOf (addressOf (slotAt (now (table .entry)) i)) ⌝ }
+{
+    digest(address(table, i))
+}
+
+// Is the digest of the slot among those of the lower ones? The loop looks at all of them: with no way out of it, several
+// are compared at once.
+fn is_among_lower(digests: &[u32; Slot::MOST], i: usize) -> bool
+    requires { ⌜ i < mostSlots ⌝ }
+    ensures { λ r. ⌜ r ≡ among (getD (now (digests .entry)) i 0) (now (digests .entry)) i ⌝ }
+{
+    let own = digests[i];
+    let mut among = false;
+    let mut k = 0;
+    while k < i {
+        among = among | (digests[k] == own);
+        k += 1;
+    }
+    among
+}
+
+// Does the address of the slot stand in a lower one? The lower slots are looked through only where one of them has the
+// same digest: the digests stand side by side, the slots far apart.
+fn in_lower(table: &[u8], i: usize, digests: &[u32; Slot::MOST]) -> bool
+    requires { ⌜ (i < slotsOf (now table)) × Digests (now table) (now digests) (i + 1) ⌝ }
     ensures { λ r. ⌜ r ≡ inLower (now (table .entry)) i ⌝ }
 {
+    if !is_among_lower(digests, i) {
+        return false;
+    }
     match search(table, address(table, i), i) {
         Found::At(_) => true,
         Found::Nothing => false,
@@ -134,8 +187,8 @@ fn in_lower(table: &[u8], i: usize) -> bool
 }
 
 // Is the slot free, or sound with its address in no lower slot?
-fn is_right(table: &[u8], i: usize) -> bool
-    requires { ⌜ i < slotsOf (now table) ⌝ }
+fn is_right(table: &[u8], i: usize, digests: &[u32; Slot::MOST]) -> bool
+    requires { ⌜ (i < slotsOf (now table)) × Digests (now table) (now digests) (i + 1) ⌝ }
     ensures { λ r. ⌜ r ≡ right (now (table .entry)) i ⌝ }
 {
     let slot = slot_at(table, i);
@@ -145,7 +198,7 @@ fn is_right(table: &[u8], i: usize) -> bool
     if !slots::is_sound(slot) {
         return false;
     }
-    !in_lower(table, i)
+    !in_lower(table, i, digests)
 }
 
 // Is the length that of 1 to 256 whole slots?
@@ -156,7 +209,7 @@ fn is_whole(table: &[u8]) -> bool
     (table.len() % Slot::LEN == 0) & (1 <= n) & (n <= Slot::MOST)
 }
 
-// Is it a table? Every call asks this first.
+// Is it a table? Every call asks this first. The digests of the slots that it has passed are kept for those above.
 pub fn check(table: &[u8]) -> Checked
     ensures { λ r. ⌜ r ≡ checked (now (table .entry)) ⌝ }
 {
@@ -164,9 +217,11 @@ pub fn check(table: &[u8]) -> Checked
         return Checked::Length;
     }
     let n = count(table);
+    let mut digests = [0u32; Slot::MOST];
     let mut i = 0;
     while i < n {
-        if !is_right(table, i) {
+        digests[i] = digest_at(table, i);
+        if !is_right(table, i, &digests) {
             return Checked::Slot(i);
         }
         i += 1;

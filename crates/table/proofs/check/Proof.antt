@@ -1,14 +1,15 @@
 -- `table::check` meets its contract: the laws of `Judging` keep the loop's invariant and answer every need. Assumes nothing.
 use Prim.Native.Nat.{_-_}
+use Rattle.table.specs.Digests.{Digests}
 use Rattle.table.proofs.Judging.{Judged, judging}
 use Rattle.table.proofs.check.Statement.{statement}
 use Rattle.table.proofs.check.Tie as tie
 
 abbrev Inv-loop : tie.InvT-loop
-Inv-loop table n i₀ i = Judged table n i
+Inv-loop table n digests₀ i₀ digests i = Judged table n i × Digests table digests i
 
 abbrev μ-loop : tie.MeasureT-loop
-μ-loop table n i₀ i = n - i
+μ-loop table n digests₀ i₀ digests i = n - i
 
 is-whole-requires : tie.Need-is-whole-requires Inv-loop μ-loop
 is-whole-requires c κs = search judging
@@ -22,8 +23,17 @@ count-requires c κs = search judging
 loop-holds : tie.Need-loop-holds Inv-loop μ-loop
 loop-holds c = search judging
 
+digest-at-requires : tie.Need-digest-at-requires Inv-loop μ-loop
+digest-at-requires c κs = search judging
+
+mul-digests : tie.Need-mul-digests Inv-loop μ-loop
+mul-digests c = search judging
+
+array-write-digests : tie.Need-array-write-digests Inv-loop μ-loop
+array-write-digests c = search judging
+
 is-right-requires : tie.Need-is-right-requires Inv-loop μ-loop
-is-right-requires c κs = search judging
+is-right-requires c κs = (search judging, search judging)
 
 returns-2 : tie.Need-returns-2 Inv-loop μ-loop
 returns-2 c = search judging
@@ -35,7 +45,7 @@ loop-less : tie.Need-loop-less Inv-loop μ-loop
 loop-less c = search judging
 
 loop-again : tie.Need-loop-again Inv-loop μ-loop
-loop-again c = search judging
+loop-again c = (search judging, search judging)
 
 returns-3 : tie.Need-returns-3 Inv-loop μ-loop
 returns-3 c = search judging
@@ -50,6 +60,9 @@ check-spec =
     returns
     count-requires
     loop-holds
+    digest-at-requires
+    mul-digests
+    array-write-digests
     is-right-requires
     returns-2
     add-i
