@@ -1,5 +1,6 @@
 """The library that is shipped, called through ctypes as include/vienghulac.h declares it."""
 import ctypes
+from pathlib import Path
 
 from probe import READ, ROOT, WRITE, Bound, Lent
 
@@ -21,11 +22,17 @@ class Written(ctypes.Structure):
 
 
 class Library(Bound):
-    def __init__(self):
-        super().__init__(ROOT / "build" / "libvienghulac.so")
+    """The functions of the header, or those of another library that has them under another prefix."""
+
+    def __init__(self, file: Path = ROOT / "build" / "libvienghulac.so", prefix: str = "vienghulac"):
+        super().__init__(file)
+        self._prefix = prefix
+
+    def _call(self, name: str, *rest):
+        return super()._call(f"{self._prefix}_{name}", *rest)
 
     def check(self, table: bytes) -> tuple[int, int]:
-        r = self._call("vienghulac_check", Answer, READ, table, len(table))
+        r = self._call("check", Answer, READ, table, len(table))
         return r.number, r.index
 
     def process(self, table: bytes, receipt: int, outer: bytes, payload: bytes, gossip: int) -> tuple[int, int, bytes]:
@@ -33,7 +40,7 @@ class Library(Bound):
         lent = Lent(table)
         kinds = WRITE + [ctypes.c_uint64] + READ + READ + [ctypes.c_uint8]
         words = [*lent.words(), receipt, outer, len(outer), payload, len(payload), gossip]
-        r = self._call("vienghulac_process", Answer, kinds, *words)
+        r = self._call("process", Answer, kinds, *words)
         return r.number, r.index, lent.now()
 
     def _write(self, name: str, kinds: list, words: list, out: bytes) -> tuple[int, int, bytes]:
@@ -45,22 +52,22 @@ class Library(Bound):
         """The number, the length, and what the output then holds."""
         kinds = READ + READ + [ctypes.c_bool]
         words = [address, len(address), key, len(key), mutual]
-        return self._write("vienghulac_write_autocrypt", kinds, words, out)
+        return self._write("write_autocrypt", kinds, words, out)
 
     def write_gossip(self, address: bytes, key: bytes, out: bytes) -> tuple[int, int, bytes]:
         """As above."""
         words = [address, len(address), key, len(key)]
-        return self._write("vienghulac_write_gossip", READ + READ, words, out)
+        return self._write("write_gossip", READ + READ, words, out)
 
     def recommend(self, table: bytes, recipients: bytes, mutual: bool, reply: bool) -> tuple[int, int, int]:
         """The number, the index, and the advice."""
         kinds = READ + READ + [ctypes.c_bool, ctypes.c_bool]
-        r = self._call("vienghulac_recommend", Advice, kinds, table, len(table), recipients, len(recipients), mutual, reply)
+        r = self._call("recommend", Advice, kinds, table, len(table), recipients, len(recipients), mutual, reply)
         return r.number, r.index, r.advice
 
     def target_key(self, table: bytes, recipients: bytes, mutual: bool, reply: bool, place: int) -> tuple[int, int]:
         """Start and length of the part of the table."""
         kinds = READ + READ + [ctypes.c_bool, ctypes.c_bool, ctypes.c_uint64]
         words = [table, len(table), recipients, len(recipients), mutual, reply, place]
-        r = self._call("vienghulac_target_key", Part, kinds, *words)
+        r = self._call("target_key", Part, kinds, *words)
         return r.start, r.length

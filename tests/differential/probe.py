@@ -233,9 +233,6 @@ class Probe(Bound):
         r = self._call("probe_only", ListPlaces, _read, s, len(s))
         return s[r.from_ : r.to] if r.kind == 0 else None
 
-    def holds(self, s: bytes, wanted: bytes) -> bool:
-        return self._call("probe_holds", ctypes.c_bool, _read + _read, s, len(s), wanted, len(wanted))
-
     # table
 
     def _slot(self, name: str, kinds: list, *words) -> int | None:

@@ -1,4 +1,5 @@
 -- Processing: each number exactly when its row holds and no earlier row does, and what comes with it.
+--     payload-octets                 the payload's values are octets
 --     InTime .. Readied              what holds where the earlier rows do not
 --     Row                            the rows 1 to 8, each where no earlier one holds, and success
 --     exactly                        the number answered is n exactly when the row of n holds
@@ -40,6 +41,14 @@ use Rattle.autocrypt.specs.declared.Refusal.the-variants.{TableLength, B
 use Rattle.autocrypt.specs.declared.Gossip.{Gossip}
 use Rattle.autocrypt.specs.declared.Processed.the-variants.{Done, Refused}
 use Rattle.autocrypt.proofs.Processing.{put-refused, put-room, put-full, fields-taken, fields-skipped, sent-report, sent-on, brought-late, brought-unreadable, brought-unsent, brought-from, processed-sound, processed-refused}
+
+-- the fields in which gossip is looked for
+pub payload-octets : (g : Gossip) (payload : List ℕ) → AllOctets payload → (ps : List FieldText) → payloadFields g payload ≡ some ps → ValuesOctets ps
+unfolding ValuesOctets
+payload-octets g payload o ps e =
+    by-test (taken g)
+    (λ k. block-octets payload o ps (sym (fields-taken g payload k) ∙ e))
+    (λ k. let q : some [] ≡ some ps = sym (fields-skipped g payload k) ∙ e in let r : [] ≡ ps = cc in rw (← r) tt)
 
 -- rows 1 to 3 do not hold,
 pub record InTime (t : List ℕ) (receipt : ℕ) : Type 0 where
@@ -241,17 +250,10 @@ module _ (t : List ℕ) (receipt : ℕ) (outer payload : List ℕ) (g : Gossip) 
 
   -- blocks of octets
   module _ (o : AllOctets t) (u : AllOctets outer) (v : AllOctets payload) where
-    payload-octets : (ps : List FieldText) → payloadFields g payload ≡ some ps → ValuesOctets ps
-    unfolding ValuesOctets
-    payload-octets ps e =
-        by-test (taken g)
-        (λ k. block-octets payload v ps (sym (fields-taken g payload k) ∙ e))
-        (λ k. let q : some [] ≡ some ps = sym (fields-skipped g payload k) ∙ e in let r : [] ≡ ps = cc in rw (← r) tt)
-
     pub readied-good :
         (fs : List FieldText) (sender : List ℕ) (ps : List FieldText) → Readied t receipt outer payload g fs sender ps → GoodMessage (messageBy receipt sender fs ps)
     readied-good fs sender ps h =
-        message-good receipt (h .sent .opened .in-time .in-range) outer u fs (h .sent .opened .read) sender (h .sent .sent) ps (payload-octets ps (h .gossip))
+        message-good receipt (h .sent .opened .in-time .in-range) outer u fs (h .sent .opened .read) sender (h .sent .sent) ps (payload-octets g payload v ps (h .gossip))
 
     -- what holds of the table as it came, and of one to which a good message is applied
     after : (P : List ℕ → Type 0) → P t → ((m : Message) → GoodMessage m → P (applied t m)) → {n : ℕ} → Comes n → P (outcome .table)

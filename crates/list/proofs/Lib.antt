@@ -5,7 +5,6 @@ pub mod Listing
 pub mod Moving
 pub mod Handing
 pub mod Counting
-pub mod Holding
 pub mod Lone
 pub mod Readable
 pub mod Room

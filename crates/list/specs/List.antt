@@ -3,7 +3,7 @@
 --     openingOf, runToken .. firstToken    tokens
 --     afterAddress, after, mayEnd          the grammar
 --     listed, addresses                    the addresses of a list, none where it is unreadable
---     occurs                               an address occurs in a readable list
+--     among                                an address is one of some
 --     given, isGiven                       the addresses of a readable list, and whether it is one
 use Prim.Native.Nat.{ℕ, zero, suc}
 use mathlib.Core.Bool.{Bool, true, false, cond, not, _||_}
@@ -188,11 +188,6 @@ addresses s = listed Place false s
 unfoldable pub among : List ℕ → List (List ℕ) → Bool
 among a [] = false
 among a (b ∷ rest) = sameOctets (canonical b) (canonical a) || among a rest
-
--- "its address occurs in a readable .."
-unfoldable pub occurs : List ℕ → Option (List (List ℕ)) → Bool
-occurs a none = false
-occurs a (some list) = among a list
 
 -- "a readable To, Cc or Reply-To": the addresses of a list that is readable, and whether it is
 unfoldable pub given : Option (List (List ℕ)) → List (List ℕ)

@@ -7,7 +7,7 @@ use grammar::Stage;
 use grammar::Step;
 use token::Found;
 ghost use mathlib.Core.Path.{_≡_};
-ghost use Rattle.list.specs.List.{addresses, occurs};
+ghost use Rattle.list.specs.List.{addresses};
 ghost use Rattle.list.specs.Answers.{beginning, Hands, Moved, countedOf, onlyIn, onlyOf, Within};
 
 pub struct Cursor {
@@ -146,23 +146,5 @@ pub fn only_address(list: &[u8]) -> Only
         },
         Handed::End => Only::Other,
         Handed::Unreadable => Only::Other,
-    }
-}
-
-// Is the list readable, and is one of its addresses the one that is wanted? All of it is read: what follows may be unreadable.
-pub fn holds(list: &[u8], wanted: &[u8]) -> bool
-    ensures { λ r. ⌜ r ≡ occurs (now (wanted .entry)) (addresses (now (list .entry))) ⌝ }
-{
-    let mut found = false;
-    let mut here = start();
-    loop {
-        match next_address(list, here) {
-            Handed::Address { from, to, next } => {
-                found = found | address::same_address(&list[from..to], wanted);
-                here = next;
-            }
-            Handed::End => return found,
-            Handed::Unreadable => return false,
-        }
     }
 }

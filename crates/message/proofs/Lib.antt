@@ -12,7 +12,6 @@ pub mod Trying
 pub mod Counting
 pub mod Accepting
 pub mod Hearing
-pub mod Bringing
 pub mod WorkedFields
 pub mod Good
 pub mod Joining

@@ -388,11 +388,6 @@ pub extern "C" fn probe_only(s: &[u8]) -> ListPlaces {
     }
 }
 
-#[no_mangle]
-pub extern "C" fn probe_holds(s: &[u8], wanted: &[u8]) -> bool {
-    list::holds(s, wanted)
-}
-
 fn slot_found(r: table::Found) -> Answer {
     match r {
         table::Found::At(i) => Answer {

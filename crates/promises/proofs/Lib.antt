@@ -15,4 +15,5 @@ pub mod Halves
 pub mod Permuting
 pub mod EntryOrder
 pub mod FetchOrder
+pub mod FetchCalls
 pub mod EachPremise

@@ -3,3 +3,4 @@ pub mod Outcomes
 pub mod Examples
 pub mod Brought
 pub mod Fetching
+pub mod Calls

@@ -8,7 +8,7 @@
 --     entry-written, entry-kept         the same for the entries
 --     free-fewer, free-same             a free slot taken, and a used one written again
 --     some-free                         where a slot is free there is a lowest one
---     entry-at, entry-none, entry-good  what a table holds of an address is a good entry of that address
+--     found-good, entry-good            what a table holds of an address is a good entry of that address
 -- Assumes nothing.
 use Prim.Native.Nat.{ℕ, suc, zero, _+_, _*_, _<_, _≤_}
 use mathlib.Core.Path.{_≡_, refl, sym, _∙_}
@@ -25,7 +25,7 @@ use Rattle.octets.proofs.Comparing.{same-refl}
 use Rattle.octets.proofs.Joined.{put-octets}
 use Rattle.octets.proofs.Lists.{lt-or-le}
 use Rattle.address.proofs.Every.{by-test}
-use Rattle.slots.specs.Slot.{slotLength, marked, sound}
+use Rattle.slots.specs.Slot.{slotLength, marked}
 use Rattle.slots.specs.Entry.{Entry, entryOf, slotOf, Good}
 use Rattle.slots.proofs.Parts.{put-again, put-back}
 use Rattle.slots.proofs.Sounds.{sound-parts, unmarked-not-sound}
@@ -38,8 +38,8 @@ use Rattle.table.specs.declared.Found.{Found}
 use Rattle.table.specs.declared.Found.the-variants.{At, Nothing}
 use Rattle.table.proofs.Slots.{room, slots-kept, slot-same, slot-other, slot-octets, slot-long as part-long}
 use Rattle.table.proofs.Scanning.{lowest-here, lowest-later, many-more, many-same}
-use Rattle.table.proofs.Finding.{found-at, found-used, found-address}
-use Rattle.table.proofs.Keeping.{table-sound, used-sound}
+use Rattle.table.proofs.Finding.{found-at, found-address}
+use Rattle.table.proofs.Entries.{entry-at, entry-nothing, entry-sound}
 
 pub by-found : {P : Type 0} (f : Found) → ((i : ℕ) → f ≡ At i → P) → (f ≡ Nothing → P) → P
 by-found (At i) h k = h i refl
@@ -134,15 +134,6 @@ module _ (e : Entry) (g : Good e) where
   unfolding holds
   made-holds-not b n = rw (made-marked, address-kept e g, n)
 
-module _ (t a : List ℕ) where
-  pub entry-at : (i : ℕ) → found t a ≡ At i → entryIn t a ≡ some (entryOf (slotAt t i))
-  unfolding entryIn
-  entry-at i e = rw (entryIn, e)
-
-  pub entry-none : found t a ≡ Nothing → entryIn t a ≡ none
-  unfolding entryIn
-  entry-none e = rw (entryIn, e)
-
 -- a good entry written to slot i
 module _ (t : List ℕ) (i : ℕ) (l : i < slots t) (e : Entry) (g : Good e) where
   here : slotAt (withSlot t i (slotOf e)) i ≡ slotOf e
@@ -182,7 +173,7 @@ module _ (t : List ℕ) (i : ℕ) (l : i < slots t) (e : Entry) (g : Good e) whe
         (λ j h.
         let d : j ≡ i → ⊥ = λ q. false≢true (sym (rw (← q) at f) ∙ found-at t b j h .1) in
         entry-at (withSlot t i (slotOf e)) b j (found-kept ∙ h) ∙ rw (there j d) (sym (entry-at t b j h)))
-        (λ h. entry-none (withSlot t i (slotOf e)) b (found-kept ∙ h) ∙ sym (entry-none t b h))
+        (λ h. entry-nothing (withSlot t i (slotOf e)) b (found-kept ∙ h) ∙ sym (entry-nothing t b h))
 
   used-now : unused (slotAt (withSlot t i (slotOf e)) i) ≡ false
   unfolding unused
@@ -207,13 +198,10 @@ some-free t h =
     by-found (lowest unused t 0 (slots t)) (λ i e. rw e) (λ e. absurd (omega (arith, none-many unused t 0 (slots t) e)))
 
 module _ (t a : List ℕ) (s : checked t ≡ Sound) where
-  pub found-sound : (i : ℕ) → found t a ≡ At i → sound (slotAt t i) ≡ true
-  found-sound i e = used-sound t (table-sound t s) i (found-at t a i e .0) (found-used t a i e) .0
-
   module _ (o : AllOctets t) where
     pub found-good : (i : ℕ) → found t a ≡ At i → Good (entryOf (slotAt t i))
     found-good i e =
-        good-entry (slotAt t i) (part-long t i (found-at t a i e .0)) (sound-parts (slotAt t i) (found-sound i e)) (slot-octets t i o)
+        good-entry (slotAt t i) (part-long t i (found-at t a i e .0)) (sound-parts (slotAt t i) (entry-sound t a s i e)) (slot-octets t i o)
 
     pub entry-good : (e : Entry) → entryIn t a ≡ some e → Good e × (e .address ≡ a)
     unfolding entryOf
@@ -224,7 +212,7 @@ module _ (t a : List ℕ) (s : checked t ≡ Sound) where
         let r : entryOf (slotAt t i) ≡ e = cc in
         rw (← r) (found-good i f, found-address t a i f))
         (λ f.
-        let q : none ≡ some e = sym (entry-none t a f) ∙ p in
+        let q : none ≡ some e = sym (entry-nothing t a f) ∙ p in
         let z : _≡_ {A = ℕ} 0 1 = cc in
         absurd (omega arith))
 

@@ -30,7 +30,8 @@ use Rattle.table.specs.declared.Found.the-variants.{At}
 use Rattle.table.proofs.Slots.{slot-same}
 use Rattle.table.proofs.Finding.{found-at, found-address, free-at}
 use Rattle.table.proofs.Keeping.{table-sound, others-not, write-own}
-use Rattle.table.proofs.Replaced.{by-found, written-octets, entry-at, entry-none, entry-written, entry-kept, found-good}
+use Rattle.table.proofs.Replaced.{by-found, written-octets, entry-written, entry-kept, found-good}
+use Rattle.table.proofs.Entries.{entry-at, entry-nothing}
 use Rattle.update.specs.Update.{younger, withField, updated, youngerGossip, heard, begun, put}
 use Rattle.update.specs.Message.{entryPut, GoodBrought}
 use Rattle.update.proofs.Placing.{begun-own, begun-new, begun-full, begun-found, begun-sound, begun-octets, put-at, put-nothing}
@@ -108,7 +109,7 @@ module _ (t a : List ℕ) (c : isCanonical a ≡ true) (p : AllOctets a) where
       (λ i f.
       let l : i < slots t = free-at t i f .0 in
       let r : slotAt (begun t a) i ≡ slotOf (newcomer a) = rw (begun-new t a e i f) (slot-same t (slotOf (newcomer a)) i l (slot-long (newcomer a) new)) in
-      entry-at (begun t a) a i (begun-found t a c p i e f) ∙ rw (r, entry-back (newcomer a) new, entry-none t a e))
+      entry-at (begun t a) a i (begun-found t a c p i e f) ∙ rw (r, entry-back (newcomer a) new, entry-nothing t a e))
       (λ f. absurd (false≢true (rw (e, f) at h))))
 
   pub begun-other : (b : List ℕ) → sameOctets a b ≡ false → entryIn (begun t a) b ≡ entryIn t b
@@ -167,7 +168,7 @@ module _ (t a : List ℕ) (c : isCanonical a ≡ true) (p : AllOctets a) where
         let x : entryOf (slotAt (begun t a) i) ≡ e = cc in
         rw (← x) (changed-entry i f))
         (λ f.
-        let r : none ≡ some e = sym (entry-none (begun t a) a f) ∙ q in
+        let r : none ≡ some e = sym (entry-nothing (begun t a) a f) ∙ q in
         let z : _≡_ {A = ℕ} 0 1 = cc in
         absurd (omega arith))
 

@@ -2,7 +2,6 @@
 --     stands-present                who has an entry
 --     put-free-own, put-free-new    the free slots after a change was put
 --     put-found                     who has an entry then
---     canonical-is                  a canonical address is its own canonical form
 --     newcomer-not, newcomer-one    one address of a message
 --     newcomers-same                the newcomers to two tables, where the known ones make up for what differs
 --     room-first, room-rest         the first address has its place, and the others have room behind it
@@ -17,8 +16,9 @@ use lib.ListN.{length}
 use Rattle.octets.specs.Octets.{AllOctets, sameOctets}
 use Rattle.octets.proofs.Comparing.{same-true}
 use Rattle.address.specs.Pieces.{every}
-use Rattle.address.specs.Address.{plain, canonical, isCanonical}
+use Rattle.address.specs.Address.{canonical, isCanonical}
 use Rattle.address.proofs.Every.{and-left, and-right, by-test}
+use Rattle.address.proofs.Spelling.{canonical-same}
 use Rattle.list.specs.List.{among}
 use Rattle.slots.specs.Entry.{Entry, isPresent, entryOf, newcomer}
 use Rattle.slots.proofs.Goodness.{good-newcomer}
@@ -27,7 +27,8 @@ use Rattle.table.specs.Entries.{entryIn}
 use Rattle.table.specs.declared.Checked.the-variants.{Sound}
 use Rattle.table.specs.declared.Found.the-variants.{At, Nothing}
 use Rattle.table.proofs.Finding.{found-at, found-used, free-at}
-use Rattle.table.proofs.Replaced.{by-found, entry-at, entry-none, free-fewer, free-same, some-free}
+use Rattle.table.proofs.Replaced.{by-found, free-fewer, free-same, some-free}
+use Rattle.table.proofs.Entries.{entry-at, entry-nothing}
 use Rattle.update.specs.Update.{begun, put}
 use Rattle.update.specs.Message.{newcomers, entryPut}
 use Rattle.update.proofs.Placing.{begun-own, begun-new, put-at, put-nothing}
@@ -35,7 +36,7 @@ use Rattle.update.proofs.Putting.{Keeps, hasPlace, changed-good, put-en
 
 -- an address has an entry where it stands somewhere
 pub stands-present : (t a : List ℕ) → isAt (found t a) ≡ isPresent (entryIn t a)
-stands-present t a = by-found (found t a) (λ i e. rw (e, entry-at t a i e)) (λ e. rw (e, entry-none t a e))
+stands-present t a = by-found (found t a) (λ i e. rw (e, entry-at t a i e)) (λ e. rw (e, entry-nothing t a e))
 
 present-put : (a b : List ℕ) (change : Entry → Entry) (e : Option Entry) → isPresent (entryPut a change b e) ≡ (isPresent e || sameOctets a b)
 unfolding entryPut
@@ -63,14 +64,9 @@ module _ (t a : List ℕ) (c : isCanonical a ≡ true) (p : AllOctets a) (change
   put-found h b =
       rw (stands-present (put t a change) b, stands-present t b, put-entry t a c p change k s o h b) (present-put a b change (entryIn t b))
 
--- a canonical address is its own canonical form
-pub canonical-is : (a : List ℕ) → isCanonical a ≡ true → canonical a ≡ a
-unfolding isCanonical
-canonical-is a h = same-true (canonical a) a (and-right (plain a) (sameOctets (canonical a) a) h)
-
 among-one : (a b : List ℕ) → isCanonical a ≡ true → isCanonical b ≡ true → among b (a ∷ []) ≡ sameOctets a b
 unfolding among
-among-one a b c d = rw (canonical-is a c, canonical-is b d) (or-false (sameOctets a b))
+among-one a b c d = rw (canonical-same a c, canonical-same b d) (or-false (sameOctets a b))
 
 among-append : (b : List ℕ) (x y : List (List ℕ)) → among b (x ++ y) ≡ (among b x || among b y)
 unfolding among

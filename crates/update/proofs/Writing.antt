@@ -36,7 +36,8 @@ use Rattle.table.specs.declared.Found.{Found}
 use Rattle.table.specs.declared.Found.the-variants.{At, Nothing}
 use Rattle.table.proofs.Slots.{slots-kept, slot-same, slot-octets, slot-long as part-long}
 use Rattle.table.proofs.Finding.{found-at}
-use Rattle.table.proofs.Replaced.{written-over, written-back, found-sound, found-good}
+use Rattle.table.proofs.Replaced.{written-over, written-back, found-good}
+use Rattle.table.proofs.Entries.{entry-sound}
 use Rattle.update.specs.Update.{younger, withField, updated, youngerGossip, heard, begun, put}
 use Rattle.update.proofs.Placing.{begun-sound, put-at, put-nothing}
 
@@ -126,7 +127,7 @@ pub ruleset setting = (within-still, sound-still, written-twice, needs)
 pub entry-over : (t a : List ℕ) (i : ℕ) → found t a ≡ At i → checked t ≡ Sound → AllOctets t → withSlot t i (slotOf (entryOf (slotAt t i))) ≡ t
 entry-over t a i e s o =
     let l : i < slots t = found-at t a i e .0 in
-    rw (slot-back (slotAt t i) (part-long t i l) (sound-parts (slotAt t i) (found-sound t a s i e)) (slot-octets t i o)) (written-back t i l)
+    rw (slot-back (slotAt t i) (part-long t i l) (sound-parts (slotAt t i) (entry-sound t a s i e)) (slot-octets t i o)) (written-back t i l)
 
 -- as the code has it: f and u are what `place` answered and left
 module _ (t a u : List ℕ) (f : Found) (i : ℕ) (ef : f ≡ found (begun t a) a) (eu : u ≡ begun t a) (ei : f ≡ At i) where
@@ -141,7 +142,7 @@ module _ (t a u : List ℕ) (f : Found) (i : ℕ) (ef : f ≡ found (begun t a) 
 
   module _ (s : checked t ≡ Sound) (c : isCanonical a ≡ true) (o : (j : ℕ) → Fits w8 (getD a j 0)) where
     pub sound-place : sound (slotAt u i) ≡ true
-    sound-place = rw eu (found-sound (begun t a) a (begun-sound t a c (given-octets a o) s) i here)
+    sound-place = rw eu (entry-sound (begun t a) a (begun-sound t a c (given-octets a o) s) i here)
 
     module _ (p : (j : ℕ) → Fits w8 (getD u j 0)) where
       octets : AllOctets (begun t a)
