@@ -294,7 +294,7 @@ fn read_key(text: &[u8], out: &mut [u8]) -> Key
     ensures { λ _. ⌜ now (out .exit) ≡ leftIn (keyOf (now (text .entry))) (now (out .entry)) ⌝ }
 {
     let mut room = [0u8; Slot::KEY_LIMIT];
-    match base64::decode(text, &mut room) {
+    match base64::decode_once(text, &mut room) {
         Decoded::Octets(n) => {
             if n == 0 {
                 return Key::NoKey;
