@@ -1,6 +1,6 @@
 // Base64 as key data has it: a text is decoded with its blanks left out. What is right is said by
 // specs/Base64.antt. Octets are written as the lines of a field by the crate `lines`.
-ghost use Prim.Native.Nat.{_+_, _≤_, _<_};
+ghost use Prim.Native.Nat.{_+_, _*_, _≤_, _<_};
 ghost use mathlib.Core.Path.{_≡_};
 ghost use mathlib.Core.List.{[], _∷_};
 ghost use lib.ListN.{length, drop};
@@ -273,6 +273,14 @@ fn next_group(table: &[u8; 256], src: &[u8], at: usize) -> Next
     step(src, group_of(table, a, b, c, d), n)
 }
 
+// The 24 bits of four values.
+fn bits(p: u8, q: u8, r: u8, s: u8) -> u32
+    requires { ⌜ (p < 64) × (q < 64) × (r < 64) × (s < 64) ⌝ }
+    ensures { λ n. ⌜ (n ≡ p * 262144 + q * 4096 + r * 64 + s) × (n < 16777216) ⌝ }
+{
+    (p as u32) * 262144 + (q as u32) * 4096 + (r as u32) * 64 + (s as u32)
+}
+
 // The octets of the four characters from the place `at` on, where all are letters. Nearly all groups of a text are such: its
 // loops take them by this, where no character is compared with a blank and no answer goes through memory, and call `next_group`
 // for the others.
@@ -299,7 +307,8 @@ fn whole_group(table: &[u8; 256], src: &[u8], at: usize) -> Whole
     if 64 <= s {
         return Whole::Other;
     }
-    Whole::Three(p * 4 + q / 16, q % 16 * 16 + r / 4, r % 4 * 64 + s)
+    let n = bits(p, q, r, s);
+    Whole::Three((n / 65536) as u8, (n / 256 % 256) as u8, (n % 256) as u8)
 }
 
 // How many octets the text stands for.
