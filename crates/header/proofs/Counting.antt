@@ -1,8 +1,12 @@
--- Loops that count the octets of a run, or of the rest of a field.
+-- Loops that count the octets of a run, of a line, or of the rest of a field.
 --     Going f s at i            what f counts from the place `at` on ends where what it counts from i on does
 --     run-in .. raw-last        one step of what is counted
---     run-begin .. run-end      the loop's steps for a run of one class
---     raw-begin .. raw-end      the same for the rest of a field
+--     begin                     where each loop begins
+--     run-next .. run-end       the loop's steps for a run of one class
+--     Skipping, skip-begin .. skip-end    the same for a line that is passed in pieces
+--     line-past                 where no line is left
+--     raw-line                  the rest of a field is that of its first line and what follows
+--     raw-begin .. raw-end      the loop's steps for the rest of a field, from LF to LF
 --     run-short, raw-short      neither counts more than there is
 --     run-upto, raw-upto        so that they end no later than the text
 -- Assumes nothing.
@@ -10,19 +14,24 @@ use Prim.Native.Nat.{ℕ, suc, _+_, _-_, _<_, _≤_, zero-le, suc-le-suc}
 use mathlib.Core.Path.{_≡_, refl, sym, _∙_}
 use mathlib.Core.Bool.{Bool, true, false}
 use mathlib.Core.List.{List, [], _∷_}
+use native.Mathlib.Nat.{zero-add}
 use native.Mathlib.Omega.{arith}
 use borrow.Author.Needs.{needs}
-use lib.ListN.{length, getD, drop, length-drop}
+use borrow.Author.Tests.{eqb-false}
+use lib.ListN.{length, getD, take, drop, length-drop}
+use lib.Seq.{drop-drop}
 use Rattle.octets.proofs.Lists.{drop-one, drop-done}
-use Rattle.header.specs.Header.{belongs, runLength, closes, rawLength}
+use Rattle.header.specs.Header.{lf, belongs, runLength, closes, rawLength}
+use Rattle.header.specs.Lines.{hasLf, lineLength, Skipped}
 use Rattle.header.specs.declared.Class.{Class}
-use Rattle.header.proofs.Telling.{next-octet}
+use Rattle.header.proofs.Telling.{next-octet, closes-other}
+use Rattle.header.proofs.Lines.{ByLf, none, one, other, by-lf, line-on, line-short, piece-without, piece-with}
 
 pub record Going (f : List ℕ → ℕ) (s : List ℕ) (at i : ℕ) : Type 0 where
   pub same : at + f (drop at s) ≡ i + f (drop i s)
 
 module _ (f : List ℕ → ℕ) (s : List ℕ) (at : ℕ) where
-  begin : Going f s at at
+  pub begin : Going f s at at
   begin = record { same = refl }
 
   next : (i : ℕ) → Going f s at i → f (drop i s) ≡ suc (f (drop (i + 1) s)) → Going f s at (i + 1)
@@ -78,9 +87,6 @@ module _ (s : List ℕ) (i : ℕ) where
     raw-over : closes (getD s i 0) (getD s (i + 1) 0) ≡ true → rawLength (drop i s) ≡ 1
     raw-over e = rw (drop-one s i h) (raw-last (getD s i 0) (drop (i + 1) s) (rw (next-octet s (i + 1)) e))
 
-pub run-begin : (class : Class) (s : List ℕ) (at : ℕ) → Going (runLength class) s at at
-run-begin class s at = begin (runLength class) s at
-
 module _ (class : Class) (s : List ℕ) (at i : ℕ) (h : Going (runLength class) s at i) where
   pub run-next : (b : Bool) → i < length s → b ≡ belongs class (getD s i 0) → b ≡ true → Going (runLength class) s at (i + 1)
   run-next b l t e = next (runLength class) s at i h (run-more s i l class (sym t ∙ e))
@@ -91,14 +97,60 @@ module _ (class : Class) (s : List ℕ) (at i : ℕ) (h : Going (runLength class
   pub run-end : length s ≤ i → i ≡ at + runLength class (drop at s)
   run-end l = done (runLength class) s at i h (run-past s i class l)
 
-pub ruleset running = (run-begin, run-next, run-stop, run-end, needs)
+pub ruleset running = (begin, run-next, run-stop, run-end, needs)
 
-pub raw-begin : (s : List ℕ) (at : ℕ) → Going rawLength s at at
-raw-begin s at = begin rawLength s at
+pub record Skipping (s : List ℕ) (at i : ℕ) : Type 0 where
+  pub going : Going lineLength s at i
+  pub upto : i ≤ length s
+
+pub skip-begin : (s : List ℕ) (at : ℕ) → at ≤ length s → Skipping s at at
+skip-begin s at l = record { going = begin lineLength s at; upto = l }
+
+module _ (s : List ℕ) (at width i : ℕ) (h : Skipping s at i) where
+  skipped : lineLength (drop i s) < width → Skipped s at width i
+  skipped n = record { same = h .going .same; upto = h .upto; near = n }
+
+  pub skip-end : length s - i < width → Skipped s at width i
+  skip-end w = skipped (omega (arith, line-short (by-lf (drop i s)), length-drop i s))
+
+  piece : i + width - i ≡ width
+  piece = omega arith
+
+  pub skip-stop : (b : Bool) → b ≡ true → b ≡ hasLf (take (i + width - i) (drop i s)) → Skipped s at width i
+  skip-stop b e t = skipped (piece-with width (by-lf (drop i s)) (sym (rw piece at t) ∙ e))
+
+  pub skip-next : (b : Bool) → b ≡ false → b ≡ hasLf (take (i + width - i) (drop i s)) → width ≤ length s - i → Skipping s at (i + width)
+  skip-next b e t w =
+      let n : lineLength (drop i s) ≡ width + lineLength (drop (i + width) s) =
+      rw (← drop-drop width i s) (piece-without width (by-lf (drop i s)) (rw length-drop w) (sym (rw piece at t) ∙ e)) in
+      record { going = record { same = omega (arith, h .going .same) }; upto = omega (arith, h .upto) }
+
+pub ruleset skipping = (skip-begin, skip-next, skip-stop, skip-end, needs)
+
+-- no line is left
+pub line-past : (s : List ℕ) (at : ℕ) → length s ≤ at → at ≡ at + lineLength (drop at s)
+line-past s at l = omega (arith, line-short (by-lf (drop at s)), length-drop at s)
+
+raw-line : {s : List ℕ} → ByLf s → rawLength s ≡ lineLength s + rawLength (drop (lineLength s) s)
+unfolding lineLength rawLength
+raw-line none = refl
+raw-line (one {s} v) = sym (zero-add (rawLength (lf ∷ s)))
+raw-line (other {x} {s} e v) =
+    rw (raw-on x s (sym (closes-other x (getD s 0 0) (eqb-false x lf e))), line-on x s e) (omega (arith, raw-line v))
+
+-- to the next LF
+raw-jump : (s : List ℕ) (at i e : ℕ) → Going rawLength s at i → e ≡ i + lineLength (drop i s) → Going rawLength s at e
+raw-jump s at i e h q =
+    let n : rawLength (drop i s) ≡ lineLength (drop i s) + rawLength (drop e s) =
+    rw (q, ← drop-drop (lineLength (drop i s)) i s) (raw-line (by-lf (drop i s))) in
+    record { same = omega (arith, h .same) }
+
+pub raw-begin : (s : List ℕ) (at e : ℕ) → e ≡ at + lineLength (drop at s) → Going rawLength s at e
+raw-begin s at e q = raw-jump s at at e (begin rawLength s at) q
 
 module _ (s : List ℕ) (at i : ℕ) (h : Going rawLength s at i) where
-  pub raw-next : (b : Bool) → i < length s → b ≡ closes (getD s i 0) (getD s (i + 1) 0) → b ≡ false → Going rawLength s at (i + 1)
-  raw-next b l t e = next rawLength s at i h (raw-more s i l (sym t ∙ e))
+  pub raw-next : (b : Bool) (e : ℕ) → i < length s → b ≡ closes (getD s i 0) (getD s (i + 1) 0) → b ≡ false → e ≡ i + 1 + lineLength (drop (i + 1) s) → Going rawLength s at e
+  raw-next b e l t f q = raw-jump s at (i + 1) e (next rawLength s at i h (raw-more s i l (sym t ∙ f))) q
 
   pub raw-stop : (b : Bool) → i < length s → b ≡ closes (getD s i 0) (getD s (i + 1) 0) → b ≡ true → i + 1 ≡ at + rawLength (drop at s)
   raw-stop b l t e = stop rawLength s at i 1 h (raw-over s i l (sym t ∙ e))

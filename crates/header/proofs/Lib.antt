@@ -1,6 +1,8 @@
 mod Telling
+mod Lines
 mod Counting
 pub mod Unfolding
+mod LineByLine
 pub mod Stepping
 pub mod Fields
 pub mod Total

@@ -1,29 +1,24 @@
--- Values unfolded: the loop that drops line endings, and laws of `unfolded`.
+-- Values unfolded: laws of `unfolded`.
 --     unfolded-short            it gets no longer
 --     unfolded-out, unfolded-in     one step
---     Unfolds raw d out n i     n octets of the unfolded value stand in the buffer, and what is left of it is that of raw from i on
---     unfold-begin .. unfold-end    the loop's steps
 --     value-within, value-there, value-there-from    what a caller reads off the buffer
 --     NoLf, unfolded-plain      a text without LF is itself
 --     unfolded-lf, unfolded-crlf    a text that opens with a line ending
 --     unfolded-append, unfolded-before    two texts, one after the other: no CRLF may begin in the one and end in the other
 -- Assumes nothing.
-use Prim.Native.Nat.{ℕ, suc, _+_, _-_, _<_, _≤_, zero-le, suc-le-suc}
+use Prim.Native.Nat.{ℕ, suc, _-_, _≤_, zero-le, suc-le-suc}
 use mathlib.Core.Path.{_≡_, refl, sym, ap, _∙_}
 use mathlib.Core.Bool.{Bool, true, false, _&&_}
 use mathlib.Core.List.{List, [], _∷_, _++_}
 use native.Mathlib.Nat.{sub-zero}
 use native.Mathlib.Omega.{arith}
-use borrow.Author.Needs.{needs}
 use borrow.Author.Tests.{eqb-true, eqb-false, ne-eqb}
 use lib.Dec.{eqb}
-use lib.ListN.{length, getD, take, drop, set, length-append}
+use lib.ListN.{length, getD, take, drop, length-append}
 use lib.Seq.{take-append-seam}
 use Rattle.octets.specs.Written.{onto}
-use Rattle.octets.proofs.Lists.{drop-one, drop-done}
-use Rattle.octets.proofs.Writing.{Wrote, begin, room-at, kept, counted, put, done}
 use Rattle.header.specs.Header.{cr, lf, ofEnding, unfolded}
-use Rattle.header.proofs.Telling.{next-octet, ends-lf}
+use Rattle.header.proofs.Telling.{ends-lf}
 
 pub unfolded-short : (s : List ℕ) → length (unfolded s) ≤ length s
 unfolding unfolded
@@ -43,54 +38,6 @@ module _ (x : ℕ) (s : List ℕ) where
   pub unfolded-in : ofEnding x (getD s 0 0) ≡ false → unfolded (x ∷ s) ≡ x ∷ unfolded s
   unfolding unfolded
   unfolded-in e = rw (unfolded, e)
-
--- the same at a place
-module _ (s : List ℕ) (i : ℕ) where
-  past : length s ≤ i → unfolded (drop i s) ≡ []
-  unfolding unfolded
-  past h = rw (drop-done s i h)
-
-  dropped : i < length s → ofEnding (getD s i 0) (getD s (i + 1) 0) ≡ true → unfolded (drop i s) ≡ unfolded (drop (i + 1) s)
-  dropped h e = rw (drop-one s i h) (unfolded-out (getD s i 0) (drop (i + 1) s) (rw (next-octet s (i + 1)) e))
-
-  held : i < length s → ofEnding (getD s i 0) (getD s (i + 1) 0) ≡ false → unfolded (drop i s) ≡ getD s i 0 ∷ unfolded (drop (i + 1) s)
-  held h e = rw (drop-one s i h) (unfolded-in (getD s i 0) (drop (i + 1) s) (rw (next-octet s (i + 1)) e))
-
-pub record Unfolds (raw d out : List ℕ) (n i : ℕ) : Type 0 where
-  pub upto : i ≤ length raw
-  pub so-far : Wrote (unfolded raw) d out n (unfolded (drop i raw))
-
-pub unfold-begin : (raw d : List ℕ) → length raw ≤ length d → Unfolds raw d d 0 0
-unfold-begin raw d h = record { upto = omega arith; so-far = begin (unfolded raw) d (omega (arith, unfolded-short raw)) }
-
-module _ (raw d out : List ℕ) (n i : ℕ) (h : Unfolds raw d out n i) where
-  pub unfold-kept : length out ≡ length d
-  unfold-kept = kept (unfolded raw) d out n (unfolded (drop i raw)) (h .so-far)
-
-  pub unfold-end : length raw ≤ i → out ≡ onto (unfolded raw) d
-  unfold-end l = done (unfolded raw) d out n (rw (past raw i l) at (h .so-far))
-
-  pub unfold-count : length raw ≤ i → n ≡ length (unfolded raw)
-  unfold-count l = omega (arith, counted (unfolded raw) d out n (unfolded (drop i raw)) (h .so-far), ap length (past raw i l))
-
-  module _ (b : Bool) (l : i < length raw) (t : b ≡ ofEnding (getD raw i 0) (getD raw (i + 1) 0)) where
-    pub unfold-skip : b ≡ true → Unfolds raw d out n (i + 1)
-    unfold-skip e = record { upto = omega arith; so-far = rw (dropped raw i l (sym t ∙ e)) at (h .so-far) }
-
-    goes-on : b ≡ false → Wrote (unfolded raw) d out n (getD raw i 0 ∷ unfolded (drop (i + 1) raw))
-    goes-on e = rw (held raw i l (sym t ∙ e)) at (h .so-far)
-
-    pub unfold-room : b ≡ false → n < length out
-    unfold-room e = room-at (unfolded raw) d out n (getD raw i 0) (unfolded (drop (i + 1) raw)) (goes-on e)
-
-    pub unfold-keep : b ≡ false → Unfolds raw d (set out n (getD raw i 0)) (n + 1) (i + 1)
-    unfold-keep e =
-        record {
-          upto = omega arith;
-          so-far = put (unfolded raw) d out n (getD raw i 0) (unfolded (drop (i + 1) raw)) (goes-on e);
-        }
-
-pub ruleset unfolds = (unfold-begin, unfold-skip, unfold-room, unfold-keep, unfold-end, unfold-count, unfold-kept, needs)
 
 abbrev pub NoLf : List ℕ → Type 0
 NoLf s = (i : ℕ) → getD s i 0 ≡ lf → ⊥

@@ -5,6 +5,7 @@ ghost use mathlib.Core.Path.{_≡_};
 ghost use lib.ListN.{length, getD, drop};
 ghost use Rattle.octets.specs.Written.{onto};
 ghost use Rattle.header.specs.Header.{ofEnding, over, belongs, runLength, closes, rawLength, unfolded, readable as readableOf, mayFollow, isReport};
+ghost use Rattle.header.specs.Lines.{hasLf, lineLength, textLength, Skipped};
 ghost use Rattle.header.specs.Answers.{stepAt};
 
 // How long a block may be.
@@ -84,16 +85,59 @@ fn closes_at(s: &[u8], at: usize) -> bool
     !within(peek(s, at + 1), Class::Blank)
 }
 
+// Is there an LF in the piece? No way leads out of the loop early, so that it compiles to vector instructions
+// where the piece's length is a fixed one.
+fn holds_lf(piece: &[u8]) -> bool
+    ensures { λ r. ⌜ r ≡ hasLf (now (piece .entry)) ⌝ }
+{
+    let mut found = false;
+    let mut i = 0;
+    while i < piece.len() {
+        found = found | (piece[i] == b'\n');
+        i += 1;
+    }
+    found
+}
+
+// From the place `at` on, skips pieces of `width` octets that hold no LF, up to where the next LF or the end is less
+// than `width` octets away.
+fn skip(s: &[u8], at: usize, width: usize) -> usize
+    requires { ⌜ (0 < width) × (at ≤ length (now s)) ⌝ }
+    ensures { λ r. ⌜ Skipped (now (s .entry)) at width r ⌝ }
+{
+    let mut i = at;
+    while width <= s.len() - i {
+        if holds_lf(&s[i..i + width]) {
+            return i;
+        }
+        i += width;
+    }
+    i
+}
+
+// The place of the next LF from the place `at` on, or the end. Most octets of a line are skipped by 32, of the rest
+// most by 8.
+fn next_lf(s: &[u8], at: usize) -> usize
+    ensures { λ r. ⌜ r ≡ at + lineLength (drop at (now (s .entry))) ⌝ }
+{
+    if s.len() <= at {
+        return at;
+    }
+    let near = skip(s, at, 32);
+    let nearer = skip(s, near, 8);
+    skip(s, nearer, 1)
+}
+
 // The end of the field whose value begins at the place `at`.
 fn raw_end(s: &[u8], at: usize) -> usize
     ensures { λ r. ⌜ r ≡ at + rawLength (drop at (now (s .entry))) ⌝ }
 {
-    let mut i = at;
+    let mut i = next_lf(s, at);
     while i < s.len() {
         if closes_at(s, i) {
             return i + 1;
         }
-        i += 1;
+        i = next_lf(s, i + 1);
     }
     i
 }
@@ -168,7 +212,19 @@ pub fn readable(block: &[u8]) -> bool
     }
 }
 
+// The end of the text of the line from the place `at` on, whose LF, or the end, is at the place `lf`.
+fn text_end(s: &[u8], at: usize, lf: usize) -> usize
+    requires { ⌜ lf ≡ at + lineLength (drop at (now s)) ⌝ }
+    ensures { λ r. ⌜ r ≡ at + textLength (drop at (now (s .entry))) ⌝ }
+{
+    if lf <= at {
+        return lf;
+    }
+    if ends_at(s, lf - 1) { lf - 1 } else { lf }
+}
+
 // Writes the value `raw` without its line endings over the beginning of `out`, and answers how many octets that are.
+// The text of each line is copied whole.
 pub fn unfold(raw: &[u8], out: &mut [u8]) -> usize
     requires { ⌜ length (now raw) ≤ length (now out) ⌝ }
     ensures { λ r. ⌜ r ≡ length (unfolded (now (raw .entry))) ⌝ }
@@ -177,13 +233,11 @@ pub fn unfold(raw: &[u8], out: &mut [u8]) -> usize
     let mut n = 0;
     let mut i = 0;
     while i < raw.len() {
-        if ends_at(raw, i) {
-            i += 1;
-            continue;
-        }
-        out[n] = raw[i];
-        n += 1;
-        i += 1;
+        let lf = next_lf(raw, i);
+        let end = text_end(raw, i, lf);
+        octets::put(out, n, &raw[i..end]);
+        n += end - i;
+        i = lf + 1;
     }
     n
 }

@@ -12,6 +12,9 @@ Inv-loop s at i₀ i = Going rawLength s at i
 abbrev μ-loop : tie.MeasureT-loop
 μ-loop s at i₀ i = length s - i
 
+next-lf-requires : tie.Need-next-lf-requires Inv-loop μ-loop
+next-lf-requires c κs = search closing
+
 loop-holds : tie.Need-loop-holds Inv-loop μ-loop
 loop-holds c = search closing
 
@@ -24,8 +27,11 @@ add-result c = search closing
 returns : tie.Need-returns Inv-loop μ-loop
 returns c = search closing
 
-add-i : tie.Need-add-i Inv-loop μ-loop
-add-i c = search closing
+add-next-lf : tie.Need-add-next-lf Inv-loop μ-loop
+add-next-lf c = search closing
+
+next-lf-requires-2 : tie.Need-next-lf-requires-2 Inv-loop μ-loop
+next-lf-requires-2 c κs = search closing
 
 loop-less : tie.Need-loop-less Inv-loop μ-loop
 loop-less c = search closing
@@ -42,11 +48,13 @@ raw-end-spec =
     (tie.spec
     Inv-loop
     μ-loop
+    next-lf-requires
     loop-holds
     closes-at-requires
     add-result
     returns
-    add-i
+    add-next-lf
+    next-lf-requires-2
     loop-less
     loop-again
     returns-2)

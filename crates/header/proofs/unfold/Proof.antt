@@ -1,7 +1,7 @@
--- `header::unfold` meets its contract: the laws of `Unfolding` keep the loop's invariant and answer every need. Assumes nothing.
+-- `header::unfold` meets its contract: the laws of `LineByLine` keep the loop's invariant and answer every need. Assumes nothing.
 use Prim.Native.Nat.{_-_}
 use lib.ListN.{length}
-use Rattle.header.proofs.Unfolding.{Unfolds, unfolds}
+use Rattle.header.proofs.LineByLine.{Unfolds, unfolds}
 use Rattle.header.proofs.unfold.Statement.{statement}
 use Rattle.header.proofs.unfold.Tie as tie
 
@@ -14,8 +14,29 @@ abbrev μ-loop : tie.MeasureT-loop
 loop-holds : tie.Need-loop-holds Inv-loop μ-loop
 loop-holds c = search unfolds
 
-ends-at-requires : tie.Need-ends-at-requires Inv-loop μ-loop
-ends-at-requires c κs = search unfolds
+next-lf-requires : tie.Need-next-lf-requires Inv-loop μ-loop
+next-lf-requires c κs = search unfolds
+
+text-end-requires : tie.Need-text-end-requires Inv-loop μ-loop
+text-end-requires c κs = search unfolds
+
+sub-put : tie.Need-sub-put Inv-loop μ-loop
+sub-put c = search unfolds
+
+part-put-start : tie.Need-part-put-start Inv-loop μ-loop
+part-put-start c = search unfolds
+
+part-put-end : tie.Need-part-put-end Inv-loop μ-loop
+part-put-end c = search unfolds
+
+put-requires : tie.Need-put-requires Inv-loop μ-loop
+put-requires c κs = search unfolds
+
+sub-n : tie.Need-sub-n Inv-loop μ-loop
+sub-n c = search unfolds
+
+add-n : tie.Need-add-n Inv-loop μ-loop
+add-n c = search unfolds
 
 add-i : tie.Need-add-i Inv-loop μ-loop
 add-i c = search unfolds
@@ -25,24 +46,6 @@ loop-less c = search unfolds
 
 loop-again : tie.Need-loop-again Inv-loop μ-loop
 loop-again c = search unfolds
-
-shared-slice-read-out : tie.Need-shared-slice-read-out Inv-loop μ-loop
-shared-slice-read-out c = search unfolds
-
-slice-write-out : tie.Need-slice-write-out Inv-loop μ-loop
-slice-write-out c = search unfolds
-
-add-n : tie.Need-add-n Inv-loop μ-loop
-add-n c = search unfolds
-
-add-i-2 : tie.Need-add-i-2 Inv-loop μ-loop
-add-i-2 c = search unfolds
-
-loop-less-2 : tie.Need-loop-less-2 Inv-loop μ-loop
-loop-less-2 c = search unfolds
-
-loop-again-2 : tie.Need-loop-again-2 Inv-loop μ-loop
-loop-again-2 c = search unfolds
 
 same-length : tie.Need-same-length Inv-loop μ-loop
 same-length c = search unfolds
@@ -57,15 +60,16 @@ unfold-spec =
     Inv-loop
     μ-loop
     loop-holds
-    ends-at-requires
+    next-lf-requires
+    text-end-requires
+    sub-put
+    part-put-start
+    part-put-end
+    put-requires
+    sub-n
+    add-n
     add-i
     loop-less
     loop-again
-    shared-slice-read-out
-    slice-write-out
-    add-n
-    add-i-2
-    loop-less-2
-    loop-again-2
     same-length
     returns)
