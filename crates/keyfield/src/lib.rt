@@ -89,14 +89,8 @@ fn find(s: &[u8], from: usize, to: usize, x: u8) -> usize
     requires { ⌜ Within (now s) from to ⌝ }
     ensures { λ r. ⌜ FirstAt (now (s .entry)) from to x r ⌝ }
 {
-    let mut i = from;
-    while i < to {
-        if s[i] == x {
-            return i;
-        }
-        i += 1;
-    }
-    i
+    let n = octets::find(&s[from..to], 0, x);
+    from + n
 }
 
 // The first place from `from` on where no blank stands.
