@@ -4,6 +4,7 @@
 --     decode-octets        what a text stands for is octets
 --     octets-answered, wrong-answered, full-answered    what each answer says of the text
 --     octets-left, wrong-left, full-left, left-length    and of the memory after it
+--     octets-held          the same where only the octets count
 -- Assumes nothing.
 use Prim.Native.Nat.{ℕ, zero, suc, _*_, _%_, _<_, _≤_}
 use mathlib.Core.Path.{_≡_, refl}
@@ -17,7 +18,7 @@ use lib.ListN.{length, drop, length-append, length-drop}
 use Rattle.octets.specs.Octets.{AllOctets}
 use Rattle.octets.specs.Written.{onto}
 use Rattle.base64.specs.Base64.{signOf, closed, grouped, groupOf, atEnd, follow, decode}
-use Rattle.base64.specs.Answers.{decodedOf, octetsIn, leftIn}
+use Rattle.base64.specs.Answers.{decodedOf, octetsIn, leftIn, Decodes}
 use Rattle.base64.specs.Steps.{Low}
 use Rattle.base64.proofs.Alphabet.{by-test, below}
 use Rattle.base64.proofs.Filling.{behind-three}
@@ -25,6 +26,7 @@ use Rattle.base64.specs.declared.Sign.{Sign}
 use Rattle.base64.specs.declared.Sign.the-variants.{Value, Pad, Other}
 use Rattle.base64.specs.declared.Group.{Group}
 use Rattle.base64.specs.declared.Group.the-variants.{Three, Two, One, Broken}
+use Rattle.base64.specs.declared.Decoded.{Decoded}
 use Rattle.base64.specs.declared.Decoded.the-variants.{Octets, NotBase64, NoRoom}
 
 -- a text and the octets that it stands for, group by group
@@ -164,6 +166,10 @@ module _ (o : Option (List ℕ)) (d : List ℕ) where
   pub full-left : NoRoom ≡ decodedOf o (length d) → leftIn o d ≡ d
   unfolding leftIn
   full-left e = let r = full-answered o (length d) e in rw (r .0, lt-leb (length (octetsIn o)) (length d) (r .1))
+
+pub octets-held : (o : Option (List ℕ)) (d out : List ℕ) (r : Decoded) (n : ℕ) → Decodes o d out r → r ≡ Octets n → out ≡ leftIn o d
+unfolding Decodes
+octets-held o d out r n h e = rw e at h
 
 pub left-length : (o : Option (List ℕ)) (d : List ℕ) → length (leftIn o d) ≡ length d
 unfolding leftIn onto

@@ -3,7 +3,7 @@
 --     either-other, blank-other    two characters, and blanks, that stand for nothing
 --     without-passing, without-other    one character of the text that goes, and one that stays
 --     Skipped s at i      from the place `at` to the place i of s there are only blanks
---     the ruleset         skipping, for `is_blank` and `next_letter`
+--     the rulesets        skipping, for `is_blank` and `skip_blanks`; lettered, for `next_letter`
 -- Assumes nothing.
 use Prim.Native.Nat.{ℕ, _+_, _<_, _≤_}
 use mathlib.Core.Path.{_≡_, refl, sym, _∙_}
@@ -16,7 +16,7 @@ use lib.Dec.{eqb}
 use lib.ListN.{length, getD, drop}
 use Rattle.octets.proofs.Lists.{drop-one, drop-done}
 use Rattle.base64.specs.Base64.{signOf, without, blank, withoutBlanks}
-use Rattle.base64.specs.Steps.{NextLetter}
+use Rattle.base64.specs.Steps.{NextPlace, NextLetter}
 use Rattle.base64.specs.declared.Sign.the-variants.{Other}
 use Rattle.base64.specs.declared.Letter.the-variants.{End, At}
 
@@ -57,9 +57,10 @@ module _ (test : ℕ → Bool) where
 pub record Skipped (s : List ℕ) (at i : ℕ) : Type 0 where
   pub same : withoutBlanks (drop at s) ≡ withoutBlanks (drop i s)
   pub behind : at ≤ i
+  pub upto : at ≤ length s → i ≤ length s
 
 pub skipped-none : (s : List ℕ) (at : ℕ) → Skipped s at at
-skipped-none s at = record { same = refl; behind = omega arith }
+skipped-none s at = record { same = refl; behind = omega arith; upto = λ h. h }
 
 module _ (s : List ℕ) (at i : ℕ) (h : Skipped s at i) where
   module _ (l : i < length s) (b : Bool) (e : b ≡ blank (getD s i 0)) where
@@ -67,14 +68,25 @@ module _ (s : List ℕ) (at i : ℕ) (h : Skipped s at i) where
     skipped-more t = record {
       same = h .same ∙ rw (drop-one s i l) (without-passing blank _ _ (sym e ∙ t));
       behind = omega (arith, h .behind);
+      upto = λ _. omega arith;
     }
 
-    pub stays : b ≡ false → NextLetter s at (At (getD s i 0) (i + 1))
-    unfolding NextLetter
-    stays t = (h .same ∙ rw (drop-one s i l) (without-other blank _ _ (sym e ∙ t)), omega (arith, h .behind), omega arith)
+    pub place-found : b ≡ false → NextPlace s at i
+    place-found t = record { same = h .same; behind = h .behind; upto = h .upto; stops = λ _. sym e ∙ t }
+
+  pub place-end : length s ≤ i → NextPlace s at i
+  place-end l = record { same = h .same; behind = h .behind; upto = h .upto; stops = λ k. absurd (omega arith) }
+
+pub ruleset skipping = (is-space, is-tab, skipped-none, skipped-more, place-found, place-end, not-true, not-false, needs)
+
+-- `next_letter`
+module _ (s : List ℕ) (at i : ℕ) (h : NextPlace s at i) where
+  pub stays : i < length s → NextLetter s at (At (getD s i 0) (i + 1))
+  unfolding NextLetter
+  stays l = (h .same ∙ rw (drop-one s i l) (without-other blank _ _ (h .stops l)), omega (arith, h .behind), omega arith)
 
   pub at-end : length s ≤ i → NextLetter s at End
   unfolding NextLetter
   at-end l = h .same ∙ rw (drop-done s i l) (without-none blank)
 
-pub ruleset skipping = (is-space, is-tab, skipped-none, skipped-more, stays, at-end, not-true, not-false, needs)
+pub ruleset lettered = (stays, at-end, needs)

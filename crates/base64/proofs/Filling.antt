@@ -1,33 +1,37 @@
--- Writing the octets of a text that has been measured, and what decoding then answers and leaves.
---     Filled s d out i o  d is the memory as it came and out as it is now; the octets before the place i of s are in it, o of them
---     the rulesets        filling for `write`, answering for `decode`
+-- Writing the octets of a text while it is read, and what decoding then answers and leaves.
+--     behind-three        what a text stands for behind its first octets
+--     run-blanks, run-then, run-last    what is read and written: blanks, one run behind another, the last octets
+--     decoded, decodes    what is answered where all is written, and what the memory then holds
+--     the rulesets        grouping for `write_groups`, turning for `write_next`, refusing for `refusal`, filling for `write` and
+--                         `decode_once`, answering for `decode`
 -- Assumes nothing.
-use Prim.Native.Nat.{ℕ, _+_, _<_, _≤_}
+use Prim.Native.Nat.{ℕ, _+_, _-_, _<_, _≤_}
 use mathlib.Core.Path.{_≡_, refl, sym, ap, _∙_}
-use mathlib.Core.List.{List, [], _∷_, _++_}
+use mathlib.Core.List.{List, [], _∷_, _++_, append-assoc, append-nil}
 use mathlib.Core.Option.{Option, some, none}
+use native.Mathlib.Nat.{zero-add}
 use native.Mathlib.Omega.{arith}
 use borrow.Author.Needs.{needs}
 use borrow.Author.Tests.{le-leb, lt-leb}
-use lib.ListN.{length, drop, set}
-use Rattle.octets.specs.Written.{putAt}
-use Rattle.octets.proofs.Writing.{Wrote, begin, kept, put, puts, done}
-use Rattle.base64.proofs.Putting.{put-two, has-room}
-use Rattle.base64.specs.Base64.{before, decode, withoutBlanks}
-use Rattle.base64.specs.Answers.{decodedOf, leftIn, octetsIn}
-use Rattle.base64.specs.Steps.{NextGroup, WholeGroup, sizeOf, Room}
-use Rattle.base64.proofs.Measuring.{nearer, nearer-whole, read-whole, read-three, read-two, read-one, read-end, read-broken}
+use lib.ListN.{length, drop, set, length-append, length-set}
+use Rattle.octets.specs.Written.{putAt, onto}
+use Rattle.octets.proofs.Lists.{drop-done}
+use Rattle.base64.proofs.Blanks.{without-none}
+use Rattle.base64.proofs.Putting.{put-long, put-both, over-none, over-one, over-two}
+use Rattle.base64.specs.Base64.{before, decode, blank, withoutBlanks}
+use Rattle.base64.specs.Answers.{decodedOf, leftIn, octetsIn, Decodes}
+use Rattle.base64.specs.Steps.{NextPlace, NextGroup, WholeGroup, Run, TooLong, Onward, TurnedTo, Turned, sizeOf, refused}
+use Rattle.base64.proofs.Measuring.{nearer-whole, read-whole, read-three, read-two, read-one, read-end, read-broken}
 use Rattle.base64.specs.declared.Next.{Next}
 use Rattle.base64.specs.declared.Next.the-variants.{Three, Two, One, End, Broken}
 use Rattle.base64.specs.declared.Whole.{Whole}
 use Rattle.base64.specs.declared.Whole.the-variants.{Three as WThree}
+use Rattle.base64.specs.declared.Turn.{Turn}
+use Rattle.base64.specs.declared.Turn.the-variants.{On, Last, Broken as TBroken, Full}
 use Rattle.base64.specs.declared.Size.{Size}
 use Rattle.base64.specs.declared.Size.the-variants.{Of, Wrong}
+use Rattle.base64.specs.declared.Decoded.{Decoded}
 use Rattle.base64.specs.declared.Decoded.the-variants.{Octets, NotBase64, NoRoom}
-
-in-some : (o : Option (List ℕ)) (w : List ℕ) → o ≡ some w → octetsIn o ≡ w
-unfolding octetsIn
-in-some o w e = rw e
 
 -- what a text stands for, where it goes on with three octets
 pub behind-three : (w v : List ℕ) (o : Option (List ℕ)) → before w o ≡ some v → (o ≡ some (octetsIn o)) × (v ≡ w ++ octetsIn o)
@@ -35,94 +39,143 @@ unfolding before octetsIn
 behind-three w v none e = let z : _≡_ {A = ℕ} 0 1 = cc in absurd (omega arith)
 behind-three w v (some u) e = (refl, cc)
 
-room-some : (o : Option (List ℕ)) (n : ℕ) → Room o n → (o ≡ some (octetsIn o)) × (length (octetsIn o) ≤ n)
-unfolding octetsIn
-room-some none n h = absurd h
-room-some (some w) n h = (refl, h)
+before-none : (o : Option (List ℕ)) → o ≡ before [] o
+unfolding before
+before-none none = refl
+before-none (some w) = refl
 
--- all of it is written
-all-in : (s d out : List ℕ) (o : ℕ) → decode s ≡ some (octetsIn (decode s)) → Wrote (octetsIn (decode s)) d out o [] → out ≡ leftIn (decode s) d
-unfolding leftIn
-all-in s d out o e p = rw (e, le-leb _ _ (p .room)) (done _ d out o p)
+before-all : (u v : List ℕ) (o : Option (List ℕ)) → before u (before v o) ≡ before (u ++ v) o
+unfolding before
+before-all u v none = refl
+before-all u v (some w) = ap some (sym (append-assoc u v w))
 
-pub record Filled (s d out : List ℕ) (i o : ℕ) : Type 0 where
-  pub going : Wrote (octetsIn (decode (withoutBlanks s))) d out o (octetsIn (decode (withoutBlanks (drop i s))))
-  pub sound : decode (withoutBlanks (drop i s)) ≡ some (octetsIn (decode (withoutBlanks (drop i s))))
-  pub whole : decode (withoutBlanks s) ≡ some (octetsIn (decode (withoutBlanks s)))
-  pub upto : i ≤ length s
-  pub few : o ≤ i
+-- blanks are read
+pub run-blanks : (s : List ℕ) (at : ℕ) (d : List ℕ) (to i : ℕ) → at ≤ length s → to ≤ length d → NextPlace s at i → Run s at d to d i to
+run-blanks s at d to i l k h =
+    record {
+      octets = [];
+      reads = ap decode (h .same) ∙ before-none _;
+      writes = over-none d to;
+      counts = omega arith;
+      upto = h .upto l;
+      room = k;
+      onward = h .behind;
+    }
 
-pub filled-none : (s d : List ℕ) → Room (decode (withoutBlanks s)) (length d) → Filled s d d 0 0
-filled-none s d h =
-    let r = room-some (decode (withoutBlanks s)) (length d) h in
-    record { going = begin _ d (r .1); sound = r .0; whole = r .0; upto = omega arith; few = omega arith }
+pub run-none : (s d : List ℕ) → Run s 0 d 0 d 0 0
+run-none s d =
+    record { octets = []; reads = before-none _; writes = over-none d 0; counts = refl; upto = omega arith; room = omega arith; onward = omega arith }
 
-module _ (s d out : List ℕ) (i o : ℕ) (h : Filled s d out i o) where
-  pub same-long : length out ≡ length d
-  same-long = kept _ d out o _ (h .going)
+-- octets that the text goes on with, and the memory that has them
+module _ (s : List ℕ) (at : ℕ) (d : List ℕ) (to : ℕ) (v : List ℕ) (n : ℕ)
+    (e : decode (withoutBlanks (drop at s)) ≡ before v (decode (withoutBlanks (drop n s)))) (l : at ≤ n) (k : n ≤ length s) (m : to + length v ≤ length d) where
+  run-octets : (out : List ℕ) → out ≡ putAt d to v → Run s at d to out n (to + length v)
+  run-octets out q = record { octets = v; reads = e; writes = q; counts = refl; upto = k; room = m; onward = l }
 
-  module _ (g : Next) (k : NextGroup s i g) where
-    module _ (x y z n : ℕ) (e : g ≡ Three x y z n) where
-      text-three : (decode (withoutBlanks (drop n s)) ≡ some (octetsIn (decode (withoutBlanks (drop n s)))))
-          × (octetsIn (decode (withoutBlanks (drop i s))) ≡ x ∷ y ∷ z ∷ octetsIn (decode (withoutBlanks (drop n s))))
-      text-three = behind-three (x ∷ y ∷ z ∷ []) _ _ (sym (read-three s i g k x y z n e .0) ∙ h .sound)
+module _ (s : List ℕ) (at : ℕ) (d : List ℕ) (to : ℕ) (out : List ℕ) (i o : ℕ) (h : Run s at d to out i o) where
+  pub run-long : length out ≡ length d
+  run-long = rw (h .writes) (put-long d to (h .octets) (omega (arith, h .counts, h .room)))
 
-      to-write-three : Wrote (octetsIn (decode (withoutBlanks s))) d out o (x ∷ y ∷ z ∷ octetsIn (decode (withoutBlanks (drop n s))))
-      to-write-three = rw (text-three .1) at (h .going)
+  pub run-room : o ≤ length out
+  run-room = omega (arith, run-long, h .room)
 
-      pub room-three : o + 3 ≤ length out
-      room-three = omega (arith, has-room _ d out o _ to-write-three)
+  -- and then a run behind it
+  pub run-then : (out₁ : List ℕ) (j p : ℕ) → Run s i out o out₁ j p → Run s at d to out₁ j p
+  run-then out₁ j p k =
+      let m : to + (length (h .octets) + length (k .octets)) ≤ length d = omega (arith, h .counts, k .counts, k .room, run-long) in
+      record {
+        octets = h .octets ++ k .octets;
+        reads = h .reads ∙ rw (k .reads) (before-all _ _ _);
+        writes = k .writes ∙ rw (h .writes, h .counts) (put-both d to (h .octets) (k .octets) (simp length-append m));
+        counts = simp length-append (omega (arith, h .counts, k .counts));
+        upto = k .upto;
+        room = omega (arith, k .room, run-long);
+        onward = omega (arith, h .onward, k .onward);
+      }
 
-      pub filled-three : (out₁ : List ℕ) → out₁ ≡ putAt out o (x ∷ y ∷ z ∷ []) → Filled s d out₁ n (o + 3)
-      filled-three out₁ q =
-          let r = read-three s i g k x y z n e in
-          record {
-            going = rw q (puts _ d out o (x ∷ y ∷ z ∷ []) _ to-write-three);
-            sound = text-three .0;
-            whole = h .whole;
-            upto = r .2;
-            few = omega (arith, h .few);
-          }
+  pub run-upto : i ≤ length s
+  run-upto = h .upto
 
-    module _ (x y : ℕ) (e : g ≡ Two x y) where
-      to-write-two : Wrote (octetsIn (decode (withoutBlanks s))) d out o (x ∷ y ∷ [])
-      to-write-two = rw (in-some _ _ (read-two s i g k x y e)) at (h .going)
+  pub run-nearer : at < i → length s - i < length s - at
+  run-nearer l = omega (arith, h .upto)
 
-      pub room-two : (j : ℕ) → j < 2 → o + j < length out
-      room-two j l = omega (arith, has-room _ d out o _ to-write-two)
+-- `write_groups`
+module _ (s : List ℕ) (at : ℕ) (d : List ℕ) (to : ℕ) (out : List ℕ) (i o : ℕ) (h : Run s at d to out i o) (w : Whole) (g : WholeGroup s i w)
+    (x y z : ℕ) (e : w ≡ WThree x y z) where
+  pub run-whole : 3 ≤ length out - o → (out₁ : List ℕ) → out₁ ≡ putAt out o (x ∷ y ∷ z ∷ []) → Run s at d to out₁ (i + 4) (o + 3)
+  run-whole l out₁ q =
+      let r = read-three s i _ (read-whole s i w g x y z e) x y z (i + 4) refl in
+      run-then s at d to out i o h out₁ (i + 4) (o + 3)
+      (run-octets s i out o (x ∷ y ∷ z ∷ []) (i + 4) (r .0) (omega arith) (r .2) (omega arith) out₁ q)
 
-      pub first-two : o < length out
-      first-two = omega (arith, has-room _ d out o _ to-write-two)
+pub ruleset grouping = (nearer-whole, run-blanks, run-whole, run-upto, run-room, run-long, needs)
 
-      pub left-two : set (set out o x) (o + 1) y ≡ leftIn (decode (withoutBlanks s)) d
-      left-two = all-in (withoutBlanks s) d _ (o + 2) (h .whole) (put-two _ d out o x y [] to-write-two)
+-- `write_next`: the octets that the text goes on with
+last-octets : (s : List ℕ) (at : ℕ) (v : List ℕ) → decode (withoutBlanks (drop at s)) ≡ some v
+    → decode (withoutBlanks (drop at s)) ≡ before v (decode (withoutBlanks (drop (length s) s)))
+unfolding before decode
+last-octets s at v e = rw (e, drop-done s (length s) (omega arith), without-none blank, append-nil)
 
-    module _ (x : ℕ) (e : g ≡ One x) where
-      to-write-one : Wrote (octetsIn (decode (withoutBlanks s))) d out o (x ∷ [])
-      to-write-one = rw (in-some _ _ (read-one s i g k x e)) at (h .going)
+too-long : (s : List ℕ) (at : ℕ) (v : List ℕ) (o : Option (List ℕ)) (room : ℕ) → decode (withoutBlanks (drop at s)) ≡ before v o → room < length v
+    → TooLong s at room
+too-long s at v o room e l = record {
+  over = λ w q. let r = behind-three v w o (sym e ∙ q) in omega (arith, ap length (r .1), length-append v (octetsIn o));
+}
 
-      pub first-one : o < length out
-      first-one = omega (arith, has-room _ d out o _ to-write-one)
+module _ (s : List ℕ) (at : ℕ) (d : List ℕ) (to : ℕ) (l : at ≤ length s) (k : to ≤ length d) (g : Next) (h : NextGroup s at g) where
+  module _ (x y z n : ℕ) (e : g ≡ Three x y z n) where
+    pub three-full : length d - to < 3 → Turned s at d to d Full
+    unfolding TurnedTo
+    three-full m = record { same = refl; says = too-long s at (x ∷ y ∷ z ∷ []) _ _ (read-three s at g h x y z n e .0) m }
 
-      pub left-one : set out o x ≡ leftIn (decode (withoutBlanks s)) d
-      left-one = all-in (withoutBlanks s) d _ (o + 1) (h .whole) (put _ d out o x [] to-write-one)
+    pub three-on : 3 ≤ length d - to → (out : List ℕ) → out ≡ putAt d to (x ∷ y ∷ z ∷ []) → Turned s at d to out (On n (to + 3))
+    unfolding TurnedTo
+    three-on m out q =
+        let r = read-three s at g h x y z n e in
+        let f = run-octets s at d to (x ∷ y ∷ z ∷ []) n (r .0) (omega arith) (r .2) (omega arith) out q in
+        record { same = run-long s at d to out n (to + 3) f; says = record { run = f; nearer = omega arith } }
 
-    pub left-end : g ≡ End → out ≡ leftIn (decode (withoutBlanks s)) d
-    left-end e = all-in (withoutBlanks s) d out o (h .whole) (rw (in-some _ _ (read-end s i g k e)) at (h .going))
+  -- its last octets
+  module _ (v : List ℕ) (e : decode (withoutBlanks (drop at s)) ≡ some v) where
+    last-full : length d - to < length v → Turned s at d to d Full
+    unfolding TurnedTo
+    last-full m = record { same = refl; says = too-long s at v _ _ (last-octets s at v e) m }
 
-    pub left-broken : g ≡ Broken → out ≡ leftIn (decode (withoutBlanks s)) d
-    left-broken e = let z : _≡_ {A = ℕ} 0 1 = cc (read-broken s i g k e, h .sound) in absurd (omega arith)
+    last-run : to + length v ≤ length d → (out : List ℕ) → out ≡ putAt d to v → Turned s at d to out (Last (to + length v))
+    unfolding TurnedTo
+    last-run m out q =
+        let f = run-octets s at d to v (length s) (last-octets s at v e) l (omega arith) m out q in
+        record { same = run-long s at d to out (length s) (to + length v) f; says = f }
 
-  module _ (w : Whole) (k : WholeGroup s i w) (x y z : ℕ) (e : w ≡ WThree x y z) where
-    pub room-whole : o + 3 ≤ length out
-    room-whole = room-three _ (read-whole s i w k x y z e) x y z (i + 4) refl
+  module _ (x y : ℕ) (e : g ≡ Two x y) where
+    pub two-full : length d - to < 2 → Turned s at d to d Full
+    two-full m = last-full (x ∷ y ∷ []) (read-two s at g h x y e) m
 
-    pub filled-whole : (out₁ : List ℕ) → out₁ ≡ putAt out o (x ∷ y ∷ z ∷ []) → Filled s d out₁ (i + 4) (o + 3)
-    filled-whole out₁ q = filled-three _ (read-whole s i w k x y z e) x y z (i + 4) refl out₁ q
+    pub two-last : 2 ≤ length d - to → Turned s at d to (set (set d to x) (to + 1) y) (Last (to + 2))
+    two-last m = last-run (x ∷ y ∷ []) (read-two s at g h x y e) (omega arith) _ (over-two d to x y (omega arith))
 
-pub ruleset filling = (nearer, nearer-whole, filled-none, same-long, room-whole, filled-whole, room-three, filled-three, room-two, first-two, left-two, first-one, left-one, left-end, left-broken, needs)
+    pub two-room : 2 ≤ length d - to → to + 1 < length (set d to x)
+    two-room m = simp length-set (omega arith)
 
--- `decode`, by what was measured
+  module _ (x : ℕ) (e : g ≡ One x) where
+    pub one-full : length d - to < 1 → Turned s at d to d Full
+    one-full m = last-full (x ∷ []) (read-one s at g h x e) m
+
+    pub one-last : 1 ≤ length d - to → Turned s at d to (set d to x) (Last (to + 1))
+    one-last m = last-run (x ∷ []) (read-one s at g h x e) (omega arith) _ (over-one d to x (omega arith))
+
+  pub none-last : g ≡ End → Turned s at d to d (Last to)
+  none-last e =
+      let z : to + 0 ≡ to = omega arith in
+      rw z at (last-run [] (read-end s at g h e) (omega arith) d (over-none d to))
+
+  pub turned-broken : g ≡ Broken → Turned s at d to d TBroken
+  unfolding TurnedTo
+  turned-broken e = record { same = refl; says = read-broken s at g h e }
+
+pub ruleset turning = (three-full, three-on, two-full, two-room, two-last, one-full, one-last, none-last, turned-broken, needs)
+
+-- a text by its size
 is-wrong : (o : Option (List ℕ)) → sizeOf o ≡ Wrong → o ≡ none
 unfolding sizeOf
 is-wrong none e = refl
@@ -133,6 +186,92 @@ unfolding sizeOf octetsIn
 is-sized none n e = let z : _≡_ {A = ℕ} 0 1 = cc in absurd (omega arith)
 is-sized (some w) n e = (refl, cc)
 
+-- `refusal`
+module _ (o : Option (List ℕ)) (r : Size) (e : r ≡ sizeOf o) where
+  pub refused-wrong : r ≡ Wrong → NotBase64 ≡ refused o
+  unfolding refused
+  refused-wrong p = rw (is-wrong o (sym e ∙ p))
+
+  pub refused-full : (n : ℕ) → r ≡ Of n → NoRoom ≡ refused o
+  unfolding refused
+  refused-full n p = rw (is-sized o n (sym e ∙ p) .0)
+
+pub ruleset refusing = (refused-wrong, refused-full, needs)
+
+-- `write`
+refused-long : (o : Option (List ℕ)) (room : ℕ) → ((w : List ℕ) → o ≡ some w → room < length w) → refused o ≡ decodedOf o room
+unfolding refused decodedOf
+refused-long none room h = refl
+refused-long (some w) room h = rw (lt-leb (length w) room (h w refl))
+
+refused-holds : (o : Option (List ℕ)) (d out : List ℕ) → Decodes o d out (refused o)
+unfolding refused Decodes
+refused-holds none d out = tt
+refused-holds (some w) d out = tt
+
+module _ (s d out : List ℕ) (i o : ℕ) (h : Run s 0 d 0 out i o) (out₁ : List ℕ) (j p : ℕ) (k : Run s i out o out₁ j p)
+    (out₂ : List ℕ) (g : Turn) (t : Turned s j out₁ p out₂ g) where
+  both : Run s 0 d 0 out₁ j p
+  both = run-then s 0 d 0 out i o h out₁ j p k
+
+  pub turned-long : length out₂ ≡ length d
+  turned-long = t .same ∙ run-long s 0 d 0 out₁ j p both
+
+  module _ (x y : ℕ) (e : g ≡ On x y) where
+    onward : Onward s j out₁ p out₂ x y
+    unfolding TurnedTo
+    onward = rw e at (t .says)
+
+    pub turned-on : Run s 0 d 0 out₂ x y
+    turned-on = run-then s 0 d 0 out₁ j p both out₂ x y (onward .run)
+
+    pub turned-nearer : length s - x < length s - i
+    turned-nearer = omega (arith, onward .nearer, onward .run .upto, k .onward)
+
+  module _ (n : ℕ) (e : g ≡ Last n) where
+    all-run : Run s 0 d 0 out₂ (length s) n
+    unfolding TurnedTo
+    all-run = run-then s 0 d 0 out₁ j p both out₂ (length s) n (rw e at (t .says))
+
+    all-octets : decode (withoutBlanks s) ≡ some (all-run .octets)
+    unfolding before decode
+    all-octets = all-run .reads ∙ rw (drop-done s (length s) (omega arith), without-none blank, append-nil)
+
+    all-there : length (all-run .octets) ≤ length d
+    all-there = omega (arith, all-run .counts, all-run .room)
+
+    pub decoded : Octets n ≡ decodedOf (decode (withoutBlanks s)) (length d)
+    unfolding decodedOf
+    decoded = rw (all-octets, le-leb _ _ all-there) (ap Octets (all-run .counts ∙ zero-add _))
+
+    pub decodes : Decodes (decode (withoutBlanks s)) d out₂ (Octets n)
+    unfolding Decodes leftIn onto putAt
+    decodes = rw (all-octets, le-leb _ _ all-there) (all-run .writes ∙ rw zero-add)
+
+  pub broken : g ≡ TBroken → NotBase64 ≡ decodedOf (decode (withoutBlanks s)) (length d)
+  unfolding TurnedTo before decodedOf
+  broken e = rw (both .reads, rw e at (t .says))
+
+  module _ (e : g ≡ Full) (r : Decoded) (q : r ≡ refused (decode (withoutBlanks s))) where
+    pub full : r ≡ decodedOf (decode (withoutBlanks s)) (length d)
+    unfolding TurnedTo
+    full =
+        let z : TooLong s j (length out₁ - p) = rw e at (t .says) in
+        q ∙ refused-long _ (length d)
+        λ w u.
+        let f = behind-three (both .octets) w _ (sym (both .reads) ∙ u) in
+        omega (arith, z .over _ (f .0), ap length (f .1), length-append (both .octets) (octetsIn (decode (withoutBlanks (drop j s)))), both .counts, run-long s 0 d 0 out₁ j p both)
+
+pub full-holds : (o : Option (List ℕ)) (d out : List ℕ) (r : Decoded) → r ≡ refused o → Decodes o d out r
+full-holds o d out r q = rw q (refused-holds o d out)
+
+pub broken-holds : (o : Option (List ℕ)) (d out : List ℕ) → Decodes o d out NotBase64
+unfolding Decodes
+broken-holds o d out = tt
+
+pub ruleset filling = (run-none, run-then, run-upto, run-room, run-long, run-nearer, turned-long, turned-on, turned-nearer, decoded, decodes, broken, broken-holds, full, full-holds, needs)
+
+-- `decode`, by what was measured
 module _ (o : Option (List ℕ)) (r : Size) (e : r ≡ sizeOf o) where
   pub not-base64 : (room : ℕ) → r ≡ Wrong → NotBase64 ≡ decodedOf o room
   unfolding decodedOf
@@ -151,11 +290,10 @@ module _ (o : Option (List ℕ)) (r : Size) (e : r ≡ sizeOf o) where
     unfolding leftIn
     left-no-room d l = let q = is-sized o n (sym e ∙ p) in rw (q .0, lt-leb (length (octetsIn o)) (length d) (omega arith))
 
-    pub has-place : (room : ℕ) → n ≤ room → Room o room
-    has-place room l = let q = is-sized o n (sym e ∙ p) in rw (q .0) (omega arith)
+    pub left-octets : (d : List ℕ) → n ≤ length d → (g : Decoded) → g ≡ decodedOf o (length d) → (out : List ℕ) → Decodes o d out g → out ≡ leftIn o d
+    unfolding decodedOf Decodes
+    left-octets d l g u out t =
+        let q = is-sized o n (sym e ∙ p) in
+        rw (u, q .0, le-leb (length (octetsIn o)) (length d) (omega arith), ← q .0) at t
 
-    pub octets-in : (room : ℕ) → n ≤ room → Octets n ≡ decodedOf o room
-    unfolding decodedOf
-    octets-in room l = let q = is-sized o n (sym e ∙ p) in rw (q .0, le-leb (length (octetsIn o)) room (omega arith)) (ap Octets (sym (q .1)))
-
-pub ruleset answering = (not-base64, left-wrong, no-room, left-no-room, has-place, octets-in, needs)
+pub ruleset answering = (not-base64, left-wrong, no-room, left-no-room, left-octets, needs)

@@ -140,13 +140,21 @@ module _ (s : List ℕ) (at : ℕ) (l : at ≤ length s) (k : 4 ≤ length s - a
     (e₁ : p ≡ codeOf (signOf (getD s at 0))) (e₂ : q ≡ codeOf (signOf (getD s (at + 1) 0)))
     (e₃ : r ≡ codeOf (signOf (getD s (at + 2) 0))) (e₄ : t ≡ codeOf (signOf (getD s (at + 3) 0)))
     (l₁ : p < 64) (l₂ : q < 64) (l₃ : r < 64) (l₄ : t < 64) where
-  pub whole-three : WholeGroup s at (WThree (p * 4 + q / 16) (q % 16 * 16 + r / 4) (r % 4 * 64 + t))
+  whole-values : WholeGroup s at (WThree (p * 4 + q / 16) (q % 16 * 16 + r / 4) (r % 4 * 64 + t))
   unfolding stepOf grouped closed WholeGroup
-  whole-three =
+  whole-values =
       let f = grouped-at s at (at + 4) (getD s at 0) (getD s (at + 1) 0) (getD s (at + 2) 0) (getD s (at + 3) 0)
       (rw (drop-four s at (omega arith), without-other blank _ _ (no-blank _ p e₁ l₁), without-other blank _ _ (no-blank _ q e₂ l₂), without-other blank _ _ (no-blank _ r e₃ l₃), without-other blank _ _ (no-blank _ t e₄ l₄)))
       (omega arith) (omega arith) in
       rw (is-letter _ p e₁ l₁, is-letter _ q e₂ l₂, is-letter _ r e₃ l₃, is-letter _ t e₄ l₄) at f
+
+  -- the same by their 24 bits
+  pub whole-three : (n : ℕ) → n ≡ p * 262144 + q * 4096 + r * 64 + t → WholeGroup s at (WThree (n / 65536) (n / 256 % 256) (n % 256))
+  whole-three n e =
+      let x : n / 65536 ≡ p * 4 + q / 16 = omega arith in
+      let y : n / 256 % 256 ≡ q % 16 * 16 + r / 4 = omega arith in
+      let z : n % 256 ≡ r % 4 * 64 + t = omega arith in
+      rw (x, y, z) whole-values
 
 pub whole-other : (s : List ℕ) (at : ℕ) → WholeGroup s at WOther
 unfolding WholeGroup

@@ -2,17 +2,23 @@
 --     Letters          a table that has the letter of each value
 --     codeOf, Signs    a sign as a number, and a table that has the number of each octet's sign
 --     Low              a sign whose value, if it has one, is below 64
+--     NextPlace        what `skip_blanks` answers
 --     NextLetter       what `next_letter` answers
 --     stepOf           what a text goes on with whose next four characters are a group
 --     NextGroup        what `next_group` answers
 --     WholeGroup       what `whole_group` answers
---     sizeOf, Room     how many octets a text stands for, and that they have room
-use Prim.Native.Nat.{ℕ, _+_, _<_, _≤_}
+--     Run              what `write_groups` answers: a text has been read a way, and its octets are written
+--     Turned           what `write_next` answers
+--     sizeOf           how many octets a text stands for
+--     refused          what `refusal` answers
+use Prim.Native.Nat.{ℕ, _+_, _-_, _<_, _≤_}
 use mathlib.Core.Path.{_≡_}
+use mathlib.Core.Bool.{false}
 use mathlib.Core.List.{List, [], _∷_}
 use mathlib.Core.Option.{Option, some, none}
 use lib.ListN.{length, getD, drop}
-use Rattle.base64.specs.Base64.{letter, signOf, before, decode, withoutBlanks}
+use Rattle.octets.specs.Written.{putAt}
+use Rattle.base64.specs.Base64.{letter, signOf, before, decode, blank, withoutBlanks}
 use Rattle.base64.specs.declared.Sign.{Sign}
 use Rattle.base64.specs.declared.Sign.the-variants.{Value, Pad, Other}
 use Rattle.base64.specs.declared.Group.{Group}
@@ -23,6 +29,10 @@ use Rattle.base64.specs.declared.Next.{Next}
 use Rattle.base64.specs.declared.Next.the-variants.{Three, Two, One, End, Broken}
 use Rattle.base64.specs.declared.Whole.{Whole}
 use Rattle.base64.specs.declared.Whole.the-variants.{Three as WThree, Other as WOther}
+use Rattle.base64.specs.declared.Turn.{Turn}
+use Rattle.base64.specs.declared.Turn.the-variants.{On, Last, Broken as TBroken, Full}
+use Rattle.base64.specs.declared.Decoded.{Decoded}
+use Rattle.base64.specs.declared.Decoded.the-variants.{NotBase64, NoRoom}
 use Rattle.base64.specs.declared.Size.{Size}
 use Rattle.base64.specs.declared.Size.the-variants.{Of, Wrong}
 
@@ -43,6 +53,13 @@ abbrev pub Low : Sign → Type 0
 Low (Value v) = v < 64
 Low Pad = Unit
 Low Other = Unit
+
+-- r is the place of the next character of s from the place `at` on that is no blank, or there are only blanks up to it
+pub record NextPlace (s : List ℕ) (at r : ℕ) : Type 0 where
+  pub same : withoutBlanks (drop at s) ≡ withoutBlanks (drop r s)
+  pub behind : at ≤ r
+  pub upto : at ≤ length s → r ≤ length s
+  pub stops : r < length s → blank (getD s r 0) ≡ false
 
 -- x is the next character of s from the place `at` on that is no blank, and n the place behind it; or there are only blanks
 unfoldable pub NextLetter : List ℕ → ℕ → Letter → Type 0
@@ -76,6 +93,35 @@ unfoldable pub sizeOf : Option (List ℕ) → Size
 sizeOf none = Wrong
 sizeOf (some w) = Of (length w)
 
-abbrev pub Room : Option (List ℕ) → ℕ → Type 0
-Room none n = ⊥
-Room (some w) n = length w ≤ n
+-- s has been read from the place `at` up to the place i, and the octets that stand there are written over d from the place `to` up to the place o
+pub record Run (s : List ℕ) (at : ℕ) (d : List ℕ) (to : ℕ) (out : List ℕ) (i o : ℕ) : Type 0 where
+  pub octets : List ℕ
+  pub reads : decode (withoutBlanks (drop at s)) ≡ before octets (decode (withoutBlanks (drop i s)))
+  pub writes : out ≡ putAt d to octets
+  pub counts : o ≡ to + length octets
+  pub upto : i ≤ length s
+  pub room : o ≤ length d
+  pub onward : at ≤ i
+
+-- what s stands for from the place `at` on, where that is Base64, has no room in so much
+pub record TooLong (s : List ℕ) (at room : ℕ) : Type 0 where
+  pub over : (w : List ℕ) → decode (withoutBlanks (drop at s)) ≡ some w → room < length w
+
+pub record Onward (s : List ℕ) (at : ℕ) (d : List ℕ) (to : ℕ) (out : List ℕ) (i o : ℕ) : Type 0 where
+  pub run : Run s at d to out i o
+  pub nearer : at < i
+
+unfoldable pub TurnedTo : List ℕ → ℕ → List ℕ → ℕ → List ℕ → Turn → Type 0
+TurnedTo s at d to out (On i o) = Onward s at d to out i o
+TurnedTo s at d to out (Last n) = Run s at d to out (length s) n
+TurnedTo s at d to out TBroken = decode (withoutBlanks (drop at s)) ≡ none
+TurnedTo s at d to out Full = TooLong s at (length d - to)
+
+pub record Turned (s : List ℕ) (at : ℕ) (d : List ℕ) (to : ℕ) (out : List ℕ) (r : Turn) : Type 0 where
+  pub same : length out ≡ length d
+  pub says : TurnedTo s at d to out r
+
+-- a text whose octets have no room
+unfoldable pub refused : Option (List ℕ) → Decoded
+refused none = NotBase64
+refused (some w) = NoRoom

@@ -1,13 +1,13 @@
 // Base64 as key data has it: a text is decoded with its blanks left out. What is right is said by
 // specs/Base64.antt. Octets are written as the lines of a field by the crate `lines`.
-ghost use Prim.Native.Nat.{_+_, _≤_, _<_};
+ghost use Prim.Native.Nat.{_+_, _*_, _≤_, _<_};
 ghost use mathlib.Core.Path.{_≡_};
 ghost use mathlib.Core.List.{[], _∷_};
 ghost use lib.ListN.{length, drop};
 ghost use Rattle.octets.specs.Written.{putAt};
 ghost use Rattle.base64.specs.Base64.{letter, signOf, closed, groupOf, decode as octetsOf, blank, withoutBlanks};
-ghost use Rattle.base64.specs.Answers.{decodedOf, leftIn};
-ghost use Rattle.base64.specs.Steps.{Letters, codeOf, Signs, Low, NextLetter, stepOf, NextGroup, WholeGroup, sizeOf, Room};
+ghost use Rattle.base64.specs.Answers.{decodedOf, leftIn, Decodes};
+ghost use Rattle.base64.specs.Steps.{Letters, codeOf, Signs, Low, NextPlace, NextLetter, stepOf, NextGroup, WholeGroup, Run, Turned, sizeOf, refused};
 
 // What a character stands for.
 pub enum Sign {
@@ -51,6 +51,21 @@ enum Next {
 enum Whole {
     Three(u8, u8, u8),
     Other,
+}
+
+// How far a text has been read, and its octets are written.
+struct Reached {
+    read: usize,
+    wrote: usize,
+}
+
+// What writing comes to, with a group more: it goes on, as far read and written; it has written so many octets, and the text is
+// at its end; or the text is not Base64, or has more octets than there is room for.
+enum Turn {
+    On(usize, usize),
+    Last(usize),
+    Broken,
+    Full,
 }
 
 // How many octets a text stands for.
@@ -194,17 +209,27 @@ fn is_blank(x: u8) -> bool
     x == b'\t'
 }
 
+// The place of the next character from the place `at` on that is no blank.
+fn skip_blanks(src: &[u8], at: usize) -> usize
+    ensures { λ r. ⌜ NextPlace (now (src .entry)) at r ⌝ }
+{
+    let mut i = at;
+    while i < src.len() {
+        if !is_blank(src[i]) {
+            return i;
+        }
+        i += 1;
+    }
+    i
+}
+
 // The next character from the place `at` on that is no blank.
 fn next_letter(src: &[u8], at: usize) -> Letter
     ensures { λ r. ⌜ NextLetter (now (src .entry)) at r ⌝ }
 {
-    let mut i = at;
-    while i < src.len() {
-        let x = src[i];
-        i += 1;
-        if !is_blank(x) {
-            return Letter::At(x, i);
-        }
+    let i = skip_blanks(src, at);
+    if i < src.len() {
+        return Letter::At(src[i], i + 1);
     }
     Letter::End
 }
@@ -248,6 +273,14 @@ fn next_group(table: &[u8; 256], src: &[u8], at: usize) -> Next
     step(src, group_of(table, a, b, c, d), n)
 }
 
+// The 24 bits of four values.
+fn bits(p: u8, q: u8, r: u8, s: u8) -> u32
+    requires { ⌜ (p < 64) × (q < 64) × (r < 64) × (s < 64) ⌝ }
+    ensures { λ n. ⌜ (n ≡ p * 262144 + q * 4096 + r * 64 + s) × (n < 16777216) ⌝ }
+{
+    (p as u32) * 262144 + (q as u32) * 4096 + (r as u32) * 64 + (s as u32)
+}
+
 // The octets of the four characters from the place `at` on, where all are letters. Nearly all groups of a text are such: its
 // loops take them by this, where no character is compared with a blank and no answer goes through memory, and call `next_group`
 // for the others.
@@ -274,7 +307,8 @@ fn whole_group(table: &[u8; 256], src: &[u8], at: usize) -> Whole
     if 64 <= s {
         return Whole::Other;
     }
-    Whole::Three(p * 4 + q / 16, q % 16 * 16 + r / 4, r % 4 * 64 + s)
+    let n = bits(p, q, r, s);
+    Whole::Three((n / 65536) as u8, (n / 256 % 256) as u8, (n % 256) as u8)
 }
 
 // How many octets the text stands for.
@@ -313,43 +347,112 @@ fn put_three(out: &mut [u8], at: usize, x: u8, y: u8, z: u8)
     out[at + 2] = z;
 }
 
-// Writes the octets of a text that has been measured.
-fn write(table: &[u8; 256], src: &[u8], out: &mut [u8])
-    requires { ⌜ Signs (now table) × Room (octetsOf (withoutBlanks (now src))) (length (now out)) ⌝ }
-    ensures { λ _. ⌜ now (out .exit) ≡ leftIn (octetsOf (withoutBlanks (now (src .entry)))) (now (out .entry)) ⌝ }
+// Writes the octets of the groups from the place `at` on, behind blanks, to the places from `to` on, as long as each group is
+// four letters side by side and has room.
+fn write_groups(table: &[u8; 256], src: &[u8], at: usize, out: &mut [u8], to: usize) -> Reached
+    requires { ⌜ Signs (now table) × (at ≤ length (now src)) × (to ≤ length (now out)) ⌝ }
+    ensures { λ r. ⌜ Run (now (src .entry)) at (now (out .entry)) to (now (out .exit)) (r .read) (r .wrote) ⌝ }
 {
-    let mut o: usize = 0;
-    let mut i: usize = 0;
-    loop {
-        if let Whole::Three(x, y, z) = whole_group(table, src, i) {
-            put_three(&mut *out, o, x, y, z);
-            o += 3;
-            i += 4;
-            continue;
-        }
-        match next_group(table, src, i) {
-            Next::Three(x, y, z, behind) => {
+    let mut i = skip_blanks(src, at);
+    let mut o = to;
+    while 3 <= out.len() - o {
+        match whole_group(table, src, i) {
+            Whole::Three(x, y, z) => {
                 put_three(&mut *out, o, x, y, z);
                 o += 3;
-                i = behind;
+                i += 4;
             }
-            Next::Two(x, y) => {
-                out[o] = x;
-                out[o + 1] = y;
-                return;
+            Whole::Other => return Reached { read: i, wrote: o },
+        }
+    }
+    Reached { read: i, wrote: o }
+}
+
+// Writes the octets that the text goes on with from the place `at` on, whatever these are, to the places from `to` on.
+fn write_next(table: &[u8; 256], src: &[u8], at: usize, out: &mut [u8], to: usize) -> Turn
+    requires { ⌜ Signs (now table) × (at ≤ length (now src)) × (to ≤ length (now out)) ⌝ }
+    ensures { λ r. ⌜ Turned (now (src .entry)) at (now (out .entry)) to (now (out .exit)) r ⌝ }
+{
+    let room = out.len() - to;
+    match next_group(table, src, at) {
+        Next::Three(x, y, z, behind) => {
+            if room < 3 {
+                return Turn::Full;
             }
-            Next::One(x) => {
-                out[o] = x;
-                return;
+            put_three(out, to, x, y, z);
+            Turn::On(behind, to + 3)
+        }
+        Next::Two(x, y) => {
+            if room < 2 {
+                return Turn::Full;
             }
-            Next::End => return,
-            Next::Broken => return,
+            out[to] = x;
+            out[to + 1] = y;
+            Turn::Last(to + 2)
+        }
+        Next::One(x) => {
+            if room < 1 {
+                return Turn::Full;
+            }
+            out[to] = x;
+            Turn::Last(to + 1)
+        }
+        Next::End => Turn::Last(to),
+        Next::Broken => Turn::Broken,
+    }
+}
+
+// What is answered on a text whose octets have no room: it may be no Base64 besides.
+fn refusal(table: &[u8; 256], src: &[u8]) -> Decoded
+    requires { ⌜ Signs (now table) ⌝ }
+    ensures { λ r. ⌜ r ≡ refused (octetsOf (withoutBlanks (now (src .entry)))) ⌝ }
+{
+    match measure(table, src) {
+        Size::Of(_) => Decoded::NoRoom,
+        Size::Wrong => Decoded::NotBase64,
+    }
+}
+
+// Writes the octets of the text to the beginning of `out` while reading it.
+fn write(table: &[u8; 256], src: &[u8], out: &mut [u8]) -> Decoded
+    requires { ⌜ Signs (now table) ⌝ }
+    ensures { λ r. ⌜ r ≡ decodedOf (octetsOf (withoutBlanks (now (src .entry)))) (length (now (out .entry))) ⌝ }
+    ensures { λ r. ⌜ Decodes (octetsOf (withoutBlanks (now (src .entry)))) (now (out .entry)) (now (out .exit)) r ⌝ }
+{
+    let mut i: usize = 0;
+    let mut o: usize = 0;
+    loop {
+        let from = i;
+        let reached = write_groups(table, src, from, &mut *out, o);
+        i = reached.read;
+        o = reached.wrote;
+        if from < i {
+            continue;
+        }
+        match write_next(table, src, i, &mut *out, o) {
+            Turn::On(read, wrote) => {
+                i = read;
+                o = wrote;
+            }
+            Turn::Last(n) => return Decoded::Octets(n),
+            Turn::Broken => return Decoded::NotBase64,
+            Turn::Full => return refusal(table, src),
         }
     }
 }
 
-// Decodes key data, with spaces and tabs anywhere, into the beginning of `out`. The text is read twice and
-// `out` written only when all of it is good and has room: a refusal leaves `out` as it was.
+// Decodes key data, with spaces and tabs anywhere, into the beginning of `out`. The text is read once: after a refusal,
+// what `out` holds means nothing.
+pub fn decode_once(src: &[u8], out: &mut [u8]) -> Decoded
+    ensures { λ r. ⌜ r ≡ decodedOf (octetsOf (withoutBlanks (now (src .entry)))) (length (now (out .entry))) ⌝ }
+    ensures { λ r. ⌜ Decodes (octetsOf (withoutBlanks (now (src .entry)))) (now (out .entry)) (now (out .exit)) r ⌝ }
+{
+    let table = signs();
+    write(&table, src, out)
+}
+
+// The same for whoever wants `out` back as it was: the text is read twice, and `out` is written only when all of it is
+// good and has room.
 pub fn decode(src: &[u8], out: &mut [u8]) -> Decoded
     ensures { λ r. ⌜ r ≡ decodedOf (octetsOf (withoutBlanks (now (src .entry)))) (length (now (out .entry))) ⌝ }
     ensures { λ _. ⌜ now (out .exit) ≡ leftIn (octetsOf (withoutBlanks (now (src .entry)))) (now (out .entry)) ⌝ }
@@ -360,8 +463,7 @@ pub fn decode(src: &[u8], out: &mut [u8]) -> Decoded
             if out.len() < n {
                 return Decoded::NoRoom;
             }
-            write(&table, src, out);
-            Decoded::Octets(n)
+            write(&table, src, out)
         }
         Size::Wrong => Decoded::NotBase64,
     }

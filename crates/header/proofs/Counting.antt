@@ -3,8 +3,6 @@
 --     run-in .. raw-last        one step of what is counted
 --     begin                     where each loop begins
 --     run-next .. run-end       the loop's steps for a run of one class
---     Skipping, skip-begin .. skip-end    the same for a line that is passed in pieces
---     line-past                 where no line is left
 --     raw-line                  the rest of a field is that of its first line and what follows
 --     raw-begin .. raw-end      the loop's steps for the rest of a field, from LF to LF
 --     run-short, raw-short      neither counts more than there is
@@ -20,12 +18,13 @@ use borrow.Author.Needs.{needs}
 use borrow.Author.Tests.{eqb-false}
 use lib.ListN.{length, getD, take, drop, length-drop}
 use lib.Seq.{drop-drop}
+use Rattle.octets.specs.Finding.{lengthBefore}
 use Rattle.octets.proofs.Lists.{drop-one, drop-done}
+use Rattle.octets.proofs.Finding.{By, none, one, other, by, before-on}
 use Rattle.header.specs.Header.{lf, belongs, runLength, closes, rawLength}
-use Rattle.header.specs.Lines.{hasLf, lineLength, Skipped}
+use Rattle.header.specs.Lines.{lineLength}
 use Rattle.header.specs.declared.Class.{Class}
 use Rattle.header.proofs.Telling.{next-octet, closes-other}
-use Rattle.header.proofs.Lines.{ByLf, none, one, other, by-lf, line-on, line-short, piece-without, piece-with}
 
 pub record Going (f : List ℕ → ℕ) (s : List ℕ) (at i : ℕ) : Type 0 where
   pub same : at + f (drop at s) ≡ i + f (drop i s)
@@ -99,50 +98,18 @@ module _ (class : Class) (s : List ℕ) (at i : ℕ) (h : Going (runLength class
 
 pub ruleset running = (begin, run-next, run-stop, run-end, needs)
 
-pub record Skipping (s : List ℕ) (at i : ℕ) : Type 0 where
-  pub going : Going lineLength s at i
-  pub upto : i ≤ length s
-
-pub skip-begin : (s : List ℕ) (at : ℕ) → at ≤ length s → Skipping s at at
-skip-begin s at l = record { going = begin lineLength s at; upto = l }
-
-module _ (s : List ℕ) (at width i : ℕ) (h : Skipping s at i) where
-  skipped : lineLength (drop i s) < width → Skipped s at width i
-  skipped n = record { same = h .going .same; upto = h .upto; near = n }
-
-  pub skip-end : length s - i < width → Skipped s at width i
-  skip-end w = skipped (omega (arith, line-short (by-lf (drop i s)), length-drop i s))
-
-  piece : i + width - i ≡ width
-  piece = omega arith
-
-  pub skip-stop : (b : Bool) → b ≡ true → b ≡ hasLf (take (i + width - i) (drop i s)) → Skipped s at width i
-  skip-stop b e t = skipped (piece-with width (by-lf (drop i s)) (sym (rw piece at t) ∙ e))
-
-  pub skip-next : (b : Bool) → b ≡ false → b ≡ hasLf (take (i + width - i) (drop i s)) → width ≤ length s - i → Skipping s at (i + width)
-  skip-next b e t w =
-      let n : lineLength (drop i s) ≡ width + lineLength (drop (i + width) s) =
-      rw (← drop-drop width i s) (piece-without width (by-lf (drop i s)) (rw length-drop w) (sym (rw piece at t) ∙ e)) in
-      record { going = record { same = omega (arith, h .going .same) }; upto = omega (arith, h .upto) }
-
-pub ruleset skipping = (skip-begin, skip-next, skip-stop, skip-end, needs)
-
--- no line is left
-pub line-past : (s : List ℕ) (at : ℕ) → length s ≤ at → at ≡ at + lineLength (drop at s)
-line-past s at l = omega (arith, line-short (by-lf (drop at s)), length-drop at s)
-
-raw-line : {s : List ℕ} → ByLf s → rawLength s ≡ lineLength s + rawLength (drop (lineLength s) s)
-unfolding lineLength rawLength
+raw-line : {s : List ℕ} → By lf s → rawLength s ≡ lineLength s + rawLength (drop (lineLength s) s)
+unfolding lengthBefore rawLength
 raw-line none = refl
 raw-line (one {s} v) = sym (zero-add (rawLength (lf ∷ s)))
 raw-line (other {x} {s} e v) =
-    rw (raw-on x s (sym (closes-other x (getD s 0 0) (eqb-false x lf e))), line-on x s e) (omega (arith, raw-line v))
+    rw (raw-on x s (sym (closes-other x (getD s 0 0) (eqb-false x lf e))), before-on lf x s e) (omega (arith, raw-line v))
 
 -- to the next LF
 raw-jump : (s : List ℕ) (at i e : ℕ) → Going rawLength s at i → e ≡ i + lineLength (drop i s) → Going rawLength s at e
 raw-jump s at i e h q =
     let n : rawLength (drop i s) ≡ lineLength (drop i s) + rawLength (drop e s) =
-    rw (q, ← drop-drop (lineLength (drop i s)) i s) (raw-line (by-lf (drop i s))) in
+    rw (q, ← drop-drop (lineLength (drop i s)) i s) (raw-line (by lf (drop i s))) in
     record { same = omega (arith, h .same) }
 
 pub raw-begin : (s : List ℕ) (at e : ℕ) → e ≡ at + lineLength (drop at s) → Going rawLength s at e

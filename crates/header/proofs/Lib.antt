@@ -1,5 +1,4 @@
 mod Telling
-mod Lines
 mod Counting
 pub mod Unfolding
 mod LineByLine

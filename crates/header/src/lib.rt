@@ -5,7 +5,7 @@ ghost use mathlib.Core.Path.{_≡_};
 ghost use lib.ListN.{length, getD, drop};
 ghost use Rattle.octets.specs.Written.{onto};
 ghost use Rattle.header.specs.Header.{ofEnding, over, belongs, runLength, closes, rawLength, unfolded, readable as readableOf, mayFollow, isReport};
-ghost use Rattle.header.specs.Lines.{hasLf, lineLength, textLength, Skipped};
+ghost use Rattle.header.specs.Lines.{lineLength, textLength};
 ghost use Rattle.header.specs.Answers.{stepAt};
 
 // How long a block may be.
@@ -85,59 +85,16 @@ fn closes_at(s: &[u8], at: usize) -> bool
     !within(peek(s, at + 1), Class::Blank)
 }
 
-// Is there an LF in the piece? No way leads out of the loop early, so that it compiles to vector instructions
-// where the piece's length is a fixed one.
-fn holds_lf(piece: &[u8]) -> bool
-    ensures { λ r. ⌜ r ≡ hasLf (now (piece .entry)) ⌝ }
-{
-    let mut found = false;
-    let mut i = 0;
-    while i < piece.len() {
-        found = found | (piece[i] == b'\n');
-        i += 1;
-    }
-    found
-}
-
-// From the place `at` on, skips pieces of `width` octets that hold no LF, up to where the next LF or the end is less
-// than `width` octets away.
-fn skip(s: &[u8], at: usize, width: usize) -> usize
-    requires { ⌜ (0 < width) × (at ≤ length (now s)) ⌝ }
-    ensures { λ r. ⌜ Skipped (now (s .entry)) at width r ⌝ }
-{
-    let mut i = at;
-    while width <= s.len() - i {
-        if holds_lf(&s[i..i + width]) {
-            return i;
-        }
-        i += width;
-    }
-    i
-}
-
-// The place of the next LF from the place `at` on, or the end. Most octets of a line are skipped by 32, of the rest
-// most by 8.
-fn next_lf(s: &[u8], at: usize) -> usize
-    ensures { λ r. ⌜ r ≡ at + lineLength (drop at (now (s .entry))) ⌝ }
-{
-    if s.len() <= at {
-        return at;
-    }
-    let near = skip(s, at, 32);
-    let nearer = skip(s, near, 8);
-    skip(s, nearer, 1)
-}
-
 // The end of the field whose value begins at the place `at`.
 fn raw_end(s: &[u8], at: usize) -> usize
     ensures { λ r. ⌜ r ≡ at + rawLength (drop at (now (s .entry))) ⌝ }
 {
-    let mut i = next_lf(s, at);
+    let mut i = octets::find(s, at, b'\n');
     while i < s.len() {
         if closes_at(s, i) {
             return i + 1;
         }
-        i = next_lf(s, i + 1);
+        i = octets::find(s, i + 1, b'\n');
     }
     i
 }
@@ -233,7 +190,7 @@ pub fn unfold(raw: &[u8], out: &mut [u8]) -> usize
     let mut n = 0;
     let mut i = 0;
     while i < raw.len() {
-        let lf = next_lf(raw, i);
+        let lf = octets::find(raw, i, b'\n');
         let end = text_end(raw, i, lf);
         octets::put(out, n, &raw[i..end]);
         n += end - i;

@@ -1,50 +1,40 @@
--- The first place of an octet in a part: what `find` knows in its loop, and what its callers ask.
---     Finding s from to x i           the place is the same looked for from `from` on and from i on
---     find-begin .. find-end          the loop's steps
---     find-before, find-behind        what stands before and behind the place
+-- The first place of an octet in a part.
+--     length-before        what stands before an octet is as long as is counted before it
+--     found, found-sum     the place, by what is counted in the part
+--     the ruleset          finding, for `find`
 -- Assumes nothing.
-use Prim.Native.Nat.{ℕ, suc, _+_, _-_, _<_, _≤_}
-use mathlib.Core.Path.{_≡_, refl}
+use Prim.Native.Nat.{ℕ, suc, _+_, _-_, _*_, _^_, _<_, _≤_}
+use mathlib.Core.Path.{_≡_, refl, sym, ap, _∙_}
 use mathlib.Core.List.{List}
 use native.Mathlib.Omega.{arith}
 use borrow.Author.Needs.{needs}
-use borrow.Author.Tests.{eq-eqb, ne-eqb}
-use lib.ListN.{length, getD}
+use borrow.Author.Tests.{eq-eqb}
+use lib.ListN.{length, take, drop}
+use mir.Syntax.{w64}
+use mir.Val.{Fits}
+use Rattle.octets.specs.Finding.{lengthBefore}
+use Rattle.octets.proofs.Finding.{By, none, one, other, by, before-on, before-here, before-short}
 use Rattle.address.specs.Pieces.{before}
 use Rattle.keyfield.specs.Answers.{part, Within, FirstAt}
-use Rattle.keyfield.proofs.Parts.{part-none, part-first}
+use Rattle.keyfield.proofs.Parts.{part-length}
 
-pub record Finding (s : List ℕ) (from to x i : ℕ) : Type 0 where
-  pub upto : i ≤ to
-  pub inside : to ≤ length s
-  pub so-far : from + length (before x (part s from to)) ≡ i + length (before x (part s i to))
+length-before : (d : ℕ) {s : List ℕ} → By d s → length (before d s) ≡ lengthBefore d s
+unfolding before lengthBefore
+length-before d none = refl
+length-before d (one {s} v) = rw (before, eq-eqb d d refl, before-here d s)
+length-before d (other {x} {s} e v) = rw (before, e, before-on d x s e) (ap suc (length-before d v))
 
-module _ (s : List ℕ) (from to x : ℕ) where
-  pub find-begin : Within s from to → Finding s from to x from
-  find-begin h = record { upto = h .order; inside = h .upto; so-far = refl }
+module _ (s : List ℕ) (from to x n : ℕ) (w : Within s from to) (e : n ≡ 0 + lengthBefore x (take (to - from) (drop from s))) where
+  pub found : FirstAt s from to x (from + n)
+  unfolding part
+  found =
+      let p = by x (part s from to) in
+      record {
+        is = omega (arith, length-before x p);
+        upto = omega (arith, before-short p, part-length s from to (w .upto));
+      }
 
-  module _ (i : ℕ) (h : Finding s from to x i) where
-    pub find-read : i < to → i < length s
-    find-read l = omega arith
+  pub found-sum : length s * 1 < 2 ^ 63 → Fits w64 (from + n)
+  found-sum l = record { fits = omega (arith, found .upto, w .upto) }
 
-    pub find-here : i < to → getD s i 0 ≡ x → FirstAt s from to x i
-    unfolding before
-    find-here l e =
-        let z : length (before x (part s i to)) ≡ 0 = rw (part-first s i to l (h .inside), before, eq-eqb (getD s i 0) x e) in
-        record { is = omega (arith, h .so-far); upto = h .upto }
-
-    pub find-next : i < to → (getD s i 0 ≡ x → ⊥) → Finding s from to x (i + 1)
-    unfolding before
-    find-next l n =
-        let z : length (before x (part s i to)) ≡ suc (length (before x (part s (i + 1) to))) =
-        rw (part-first s i to l (h .inside), before, ne-eqb (getD s i 0) x n) in
-        record { upto = omega arith; inside = h .inside; so-far = omega (arith, h .so-far) }
-
-    pub find-end : to ≤ i → FirstAt s from to x i
-    unfolding before
-    find-end l =
-        let e : i ≡ to = omega (arith, h .upto) in
-        let z : length (before x (part s i to)) ≡ 0 = rw (e, part-none s to) in
-        record { is = omega (arith, h .so-far); upto = h .upto }
-
-pub ruleset finding = (find-begin, find-read, find-here, find-next, find-end, needs)
+pub ruleset finding = (found, found-sum, needs)

@@ -17,8 +17,8 @@ use lib.ListN.{length, take, drop}
 use lib.Seq.{take-at}
 use Rattle.octets.specs.Written.{putAt, onto}
 use Rattle.base64.specs.Base64.{decode, withoutBlanks}
-use Rattle.base64.specs.Answers.{decodedOf, octetsIn, leftIn}
-use Rattle.base64.proofs.Answered.{octets-answered, wrong-answered, full-answered, octets-left}
+use Rattle.base64.specs.Answers.{decodedOf, octetsIn, leftIn, Decodes}
+use Rattle.base64.proofs.Answered.{octets-answered, wrong-answered, full-answered, octets-left, octets-held}
 use Rattle.base64.specs.declared.Decoded.{Decoded}
 use Rattle.base64.specs.declared.Decoded.the-variants.{Octets, NotBase64, NoRoom}
 use Rattle.keyfield.specs.Field.{limited, keyOf}
@@ -83,12 +83,12 @@ module _ (text : List ℕ) where
             unfolding keyAnswer
             key-length = rw (key-is, answered .1, le-leb n (length d) l)
 
-            module _ (R room : List ℕ) (m : length R ≡ 2048) (p : room ≡ leftIn (decode (withoutBlanks text)) R) where
+            module _ (R room : List ℕ) (m : length R ≡ 2048) (p : Decodes (decode (withoutBlanks text)) R room g) where
               -- the room opens with them
               opens : take (n - 0) room ≡ octets text
               unfolding onto
               opens =
-                  rw (p, sub-zero n, octets-left (decode (withoutBlanks text)) R n (rw m (sym k ∙ e)))
+                  rw (octets-held _ R room g n p k, sub-zero n, octets-left (decode (withoutBlanks text)) R n (rw m (sym k ∙ e)))
                   (take-at (octets text) (drop (length (octets text)) R) n (answered .1))
 
               pub put-there : 0 + length (take (n - 0) room) ≤ length d

@@ -89,14 +89,8 @@ fn find(s: &[u8], from: usize, to: usize, x: u8) -> usize
     requires { ⌜ Within (now s) from to ⌝ }
     ensures { λ r. ⌜ FirstAt (now (s .entry)) from to x r ⌝ }
 {
-    let mut i = from;
-    while i < to {
-        if s[i] == x {
-            return i;
-        }
-        i += 1;
-    }
-    i
+    let n = octets::find(&s[from..to], 0, x);
+    from + n
 }
 
 // The first place from `from` on where no blank stands.
@@ -294,7 +288,7 @@ fn read_key(text: &[u8], out: &mut [u8]) -> Key
     ensures { λ _. ⌜ now (out .exit) ≡ leftIn (keyOf (now (text .entry))) (now (out .entry)) ⌝ }
 {
     let mut room = [0u8; Slot::KEY_LIMIT];
-    match base64::decode(text, &mut room) {
+    match base64::decode_once(text, &mut room) {
         Decoded::Octets(n) => {
             if n == 0 {
                 return Key::NoKey;

@@ -3,6 +3,7 @@ pub mod Writing
 pub mod Letters
 pub mod Comparing
 pub mod Zeros
+pub mod Finding
 pub mod Copying
 pub mod Numerals
 pub mod Joined

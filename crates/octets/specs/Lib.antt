@@ -1,3 +1,4 @@
 pub mod Octets
 pub mod Written
 pub mod Numbers
+pub mod Finding

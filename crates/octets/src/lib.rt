@@ -1,10 +1,11 @@
-// The common ground: octets compared, copied, lower-cased, tested for zeros, and read and written as
+// The common ground: octets compared, searched, copied, lower-cased, tested for zeros, and read and written as
 // little-endian numbers. Each function's meaning is one definition of specs/.
 ghost use Prim.Native.Nat.{_+_, _≤_, _<_, max};
 ghost use mathlib.Core.Path.{_≡_};
 ghost use lib.Dec.{eqb};
 ghost use lib.ListN.{length, take, drop, replicate};
 ghost use Rattle.octets.specs.Octets.{sameOctets, lower as lowerOf, lowered, sameName, startsWith, allZero};
+ghost use Rattle.octets.specs.Finding.{holds, lengthBefore, Skipped};
 ghost use Rattle.octets.specs.Numbers.{number, digits};
 ghost use Rattle.octets.specs.Written.{putAt};
 
@@ -100,6 +101,49 @@ pub fn is_zero(s: &[u8]) -> bool
         i += 1;
     }
     most == 0
+}
+
+// Is there an `x` in the piece? No way leads out of the loop early, so that it compiles to vector instructions
+// where the piece's length is a fixed one.
+fn has(piece: &[u8], x: u8) -> bool
+    ensures { λ r. ⌜ r ≡ holds x (now (piece .entry)) ⌝ }
+{
+    let mut found = false;
+    let mut i = 0;
+    while i < piece.len() {
+        found = found | (piece[i] == x);
+        i += 1;
+    }
+    found
+}
+
+// From the place `at` on, skips pieces of `width` octets that hold no `x`, up to where the next `x` or the end is less
+// than `width` octets away.
+fn skip(s: &[u8], at: usize, width: usize, x: u8) -> usize
+    requires { ⌜ (0 < width) × (at ≤ length (now s)) ⌝ }
+    ensures { λ r. ⌜ Skipped x (now (s .entry)) at width r ⌝ }
+{
+    let mut i = at;
+    while width <= s.len() - i {
+        if has(&s[i..i + width], x) {
+            return i;
+        }
+        i += width;
+    }
+    i
+}
+
+// The place of the next `x` from the place `from` on, or the end. Most octets before it are skipped by 32, of the rest
+// most by 8.
+pub fn find(s: &[u8], from: usize, x: u8) -> usize
+    ensures { λ r. ⌜ r ≡ from + lengthBefore x (drop from (now (s .entry))) ⌝ }
+{
+    if s.len() <= from {
+        return from;
+    }
+    let near = skip(s, from, 32, x);
+    let nearer = skip(s, near, 8, x);
+    skip(s, nearer, 1, x)
 }
 
 // Writes `src` over `out` from the place `at` on.

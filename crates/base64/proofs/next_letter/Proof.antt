@@ -1,51 +1,23 @@
--- `base64::next_letter` meets its contract: the laws of `Blanks` keep the loop's invariant and answer every need. Assumes nothing.
-use Prim.Native.Nat.{_-_}
-use lib.ListN.{length}
-use Rattle.base64.proofs.Blanks.{Skipped, skipping}
+-- `base64::next_letter` meets its contract: the laws of `Blanks` answer every need. Assumes nothing.
+use Rattle.base64.proofs.Blanks.{lettered}
 use Rattle.base64.proofs.next_letter.Statement.{statement}
 use Rattle.base64.proofs.next_letter.Tie as tie
 
-abbrev Inv-loop : tie.InvT-loop
-Inv-loop src at i₀ i = Skipped src at i
+skip-blanks-requires : tie.Need-skip-blanks-requires
+skip-blanks-requires c κs = search lettered
 
-abbrev μ-loop : tie.MeasureT-loop
-μ-loop src at i₀ i = length src - i
+shared-slice-read-t7 : tie.Need-shared-slice-read-t7
+shared-slice-read-t7 c = search lettered
 
-loop-holds : tie.Need-loop-holds Inv-loop μ-loop
-loop-holds c = search skipping
+add-t8 : tie.Need-add-t8
+add-t8 c = search lettered
 
-shared-slice-read-x : tie.Need-shared-slice-read-x Inv-loop μ-loop
-shared-slice-read-x c = search skipping
+returns : tie.Need-returns
+returns c = search lettered
 
-add-i : tie.Need-add-i Inv-loop μ-loop
-add-i c = search skipping
-
-is-blank-requires : tie.Need-is-blank-requires Inv-loop μ-loop
-is-blank-requires c κs = search skipping
-
-returns : tie.Need-returns Inv-loop μ-loop
-returns c = search skipping
-
-loop-less : tie.Need-loop-less Inv-loop μ-loop
-loop-less c = search skipping
-
-loop-again : tie.Need-loop-again Inv-loop μ-loop
-loop-again c = search skipping
-
-returns-2 : tie.Need-returns-2 Inv-loop μ-loop
-returns-2 c = search skipping
+returns-2 : tie.Need-returns-2
+returns-2 c = search lettered
 
 pub next-letter-spec : {M : Type 1} → statement M
 next-letter-spec =
-    tie.close
-    (tie.spec
-    Inv-loop
-    μ-loop
-    loop-holds
-    shared-slice-read-x
-    add-i
-    is-blank-requires
-    returns
-    loop-less
-    loop-again
-    returns-2)
+    tie.close (tie.spec skip-blanks-requires shared-slice-read-t7 add-t8 returns returns-2)

@@ -54,23 +54,17 @@ returns-4 c = search nearing
 returns-5 : tie.Need-returns-5
 returns-5 c = search nearing
 
-mul-t12 : tie.Need-mul-t12
-mul-t12 c = search nearing
+bits-requires : tie.Need-bits-requires
+bits-requires c κs = search nearing
 
-add-t17 : tie.Need-add-t17
-add-t17 c = search nearing
+cast-t13 : tie.Need-cast-t13
+cast-t13 c = search nearing
 
-mul-t19 : tie.Need-mul-t19
-mul-t19 c = search nearing
+cast-t20 : tie.Need-cast-t20
+cast-t20 c = search nearing
 
-add-t21 : tie.Need-add-t21
-add-t21 c = search nearing
-
-mul-t23 : tie.Need-mul-t23
-mul-t23 c = search nearing
-
-add-t24 : tie.Need-add-t24
-add-t24 c = search nearing
+cast-t22 : tie.Need-cast-t22
+cast-t22 c = search nearing
 
 returns-6 : tie.Need-returns-6
 returns-6 c = search nearing
@@ -96,10 +90,8 @@ whole-group-spec =
     returns-3
     returns-4
     returns-5
-    mul-t12
-    add-t17
-    mul-t19
-    add-t21
-    mul-t23
-    add-t24
+    bits-requires
+    cast-t13
+    cast-t20
+    cast-t22
     returns-6)

@@ -12,8 +12,8 @@ Inv-loop s at i₀ i = Going rawLength s at i
 abbrev μ-loop : tie.MeasureT-loop
 μ-loop s at i₀ i = length s - i
 
-next-lf-requires : tie.Need-next-lf-requires Inv-loop μ-loop
-next-lf-requires c κs = search closing
+find-requires : tie.Need-find-requires Inv-loop μ-loop
+find-requires c κs = search closing
 
 loop-holds : tie.Need-loop-holds Inv-loop μ-loop
 loop-holds c = search closing
@@ -27,11 +27,11 @@ add-result c = search closing
 returns : tie.Need-returns Inv-loop μ-loop
 returns c = search closing
 
-add-next-lf : tie.Need-add-next-lf Inv-loop μ-loop
-add-next-lf c = search closing
+add-find : tie.Need-add-find Inv-loop μ-loop
+add-find c = search closing
 
-next-lf-requires-2 : tie.Need-next-lf-requires-2 Inv-loop μ-loop
-next-lf-requires-2 c κs = search closing
+find-requires-2 : tie.Need-find-requires-2 Inv-loop μ-loop
+find-requires-2 c κs = search closing
 
 loop-less : tie.Need-loop-less Inv-loop μ-loop
 loop-less c = search closing
@@ -48,13 +48,13 @@ raw-end-spec =
     (tie.spec
     Inv-loop
     μ-loop
-    next-lf-requires
+    find-requires
     loop-holds
     closes-at-requires
     add-result
     returns
-    add-next-lf
-    next-lf-requires-2
+    add-find
+    find-requires-2
     loop-less
     loop-again
     returns-2)

@@ -14,8 +14,8 @@ abbrev μ-loop : tie.MeasureT-loop
 loop-holds : tie.Need-loop-holds Inv-loop μ-loop
 loop-holds c = search unfolds
 
-next-lf-requires : tie.Need-next-lf-requires Inv-loop μ-loop
-next-lf-requires c κs = search unfolds
+find-requires : tie.Need-find-requires Inv-loop μ-loop
+find-requires c κs = search unfolds
 
 text-end-requires : tie.Need-text-end-requires Inv-loop μ-loop
 text-end-requires c κs = search unfolds
@@ -60,7 +60,7 @@ unfold-spec =
     Inv-loop
     μ-loop
     loop-holds
-    next-lf-requires
+    find-requires
     text-end-requires
     sub-put
     part-put-start

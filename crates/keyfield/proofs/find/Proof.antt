@@ -1,46 +1,26 @@
--- `keyfield::find` meets its contract: the laws of `Finding` keep the loop's invariant and answer every need. Assumes nothing.
-use Prim.Native.Nat.{_-_}
-use Rattle.keyfield.proofs.Finding.{Finding, finding}
+-- `keyfield::find` meets its contract: the laws of `Finding` answer every need. Assumes nothing.
+use Rattle.keyfield.proofs.Finding.{finding}
 use Rattle.keyfield.proofs.find.Statement.{statement}
 use Rattle.keyfield.proofs.find.Tie as tie
 
-abbrev Inv-loop : tie.InvT-loop
-Inv-loop s from to x i₀ i = Finding s from to x i
+sub-find : tie.Need-sub-find
+sub-find c = search finding
 
-abbrev μ-loop : tie.MeasureT-loop
-μ-loop s from to x i₀ i = to - i
+part-find-start : tie.Need-part-find-start
+part-find-start c = search finding
 
-loop-holds : tie.Need-loop-holds Inv-loop μ-loop
-loop-holds c = search finding
+part-find-end : tie.Need-part-find-end
+part-find-end c = search finding
 
-shared-slice-read-if1 : tie.Need-shared-slice-read-if1 Inv-loop μ-loop
-shared-slice-read-if1 c = search finding
+find-requires : tie.Need-find-requires
+find-requires c κs = search finding
 
-returns : tie.Need-returns Inv-loop μ-loop
+add-result : tie.Need-add-result
+add-result c = search finding
+
+returns : tie.Need-returns
 returns c = search finding
-
-add-i : tie.Need-add-i Inv-loop μ-loop
-add-i c = search finding
-
-loop-less : tie.Need-loop-less Inv-loop μ-loop
-loop-less c = search finding
-
-loop-again : tie.Need-loop-again Inv-loop μ-loop
-loop-again c = search finding
-
-returns-2 : tie.Need-returns-2 Inv-loop μ-loop
-returns-2 c = search finding
 
 pub find-spec : {M : Type 1} → statement M
 find-spec =
-    tie.close
-    (tie.spec
-    Inv-loop
-    μ-loop
-    loop-holds
-    shared-slice-read-if1
-    returns
-    add-i
-    loop-less
-    loop-again
-    returns-2)
+    tie.close (tie.spec sub-find part-find-start part-find-end find-requires add-result returns)

@@ -1,15 +1,15 @@
--- `header::holds_lf` meets its contract: the laws of `Lines` keep the loop's invariant and answer every need. Assumes nothing.
+-- `octets::has` meets its contract: the laws of `Finding` keep the loop's invariant and answer every need. Assumes nothing.
 use Prim.Native.Nat.{_-_}
 use lib.ListN.{length}
-use Rattle.header.proofs.Lines.{Seen, seeing}
-use Rattle.header.proofs.holds_lf.Statement.{statement}
-use Rattle.header.proofs.holds_lf.Tie as tie
+use Rattle.octets.proofs.Finding.{Seen, seeing}
+use Rattle.octets.proofs.has.Statement.{statement}
+use Rattle.octets.proofs.has.Tie as tie
 
 abbrev Inv-loop : tie.InvT-loop
-Inv-loop piece found₀ i₀ found i = Seen piece found i
+Inv-loop piece x found₀ i₀ found i = Seen x piece found i
 
 abbrev μ-loop : tie.MeasureT-loop
-μ-loop piece found₀ i₀ found i = length piece - i
+μ-loop piece x found₀ i₀ found i = length piece - i
 
 loop-holds : tie.Need-loop-holds Inv-loop μ-loop
 loop-holds c = search seeing
@@ -29,8 +29,8 @@ loop-again c = search seeing
 returns : tie.Need-returns Inv-loop μ-loop
 returns c = search seeing
 
-pub holds-lf-spec : {M : Type 1} → statement M
-holds-lf-spec =
+pub has-spec : {M : Type 1} → statement M
+has-spec =
     tie.close
     (tie.spec
     Inv-loop
