@@ -6,7 +6,6 @@
 --     counted-is, counted-sender                     what counts is the one valid field, and names the sender
 --     counted-value                                  and is the field of a value
 --     counted-skip, counted-first                    what counts, from the front of the list
---     valid-read, counted-read                       what is valid, and so what counts, is the field of some value
 -- Assumes nothing.
 use Prim.Native.Nat.{ℕ}
 use mathlib.Core.Path.{_≡_, refl, sym, ap, _∙_}
@@ -120,19 +119,3 @@ module _ (sender s : List ℕ) (rest : List (List ℕ)) where
   pub counted-first : (f : Field) → validFor sender s ≡ some f → counted (s ∷ rest) sender ≡ onlyOne (f ∷ validFields sender rest)
   unfolding counted
   counted-first f e = rw (valid-next sender s rest f e)
-
--- what is valid is the field of some value
-pub valid-read : (sender : List ℕ) (values : List (List ℕ)) (f : Field) (rest : List Field) → validFields sender values ≡ f ∷ rest → (s : List ℕ) × (fieldOf s ≡ some f)
-unfolding validFields
-valid-read sender [] f rest e = let z : _≡_ {A = ℕ} 0 1 = cc in absurd (omega arith)
-valid-read sender (s ∷ more) f rest e = go (validFor sender s) refl (λ q. valid-read sender more f rest q)
-  where
-    go : (o : Option Field) → validFor sender s ≡ o → (validFields sender more ≡ f ∷ rest → (v : List ℕ) × (fieldOf v ≡ some f)) → (v : List ℕ) × (fieldOf v ≡ some f)
-    go none q behind = behind (sym (valid-skip sender s more q) ∙ e)
-    go (some g) q behind =
-        let k : g ∷ validFields sender more ≡ f ∷ rest = sym (valid-next sender s more g q) ∙ e in
-        let h : g ≡ f = cc in
-        (s, valid-is sender s g q .0 ∙ ap some h)
-
-pub counted-read : (sender : List ℕ) (values : List (List ℕ)) (f : Field) → counted values sender ≡ some f → (s : List ℕ) × (fieldOf s ≡ some f)
-counted-read sender values f e = valid-read sender values f [] (counted-is sender values f e)
