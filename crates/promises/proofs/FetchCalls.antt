@@ -25,6 +25,7 @@ use Rattle.table.specs.declared.Checked.{Checked}
 use Rattle.table.specs.declared.Checked.the-variants.{Sound, Length, Slot}
 use Rattle.update.specs.Message.{Message, GoodMessage, hasRoom}
 use Rattle.message.specs.Message.{senderIn, isReported}
+use Rattle.delivery.specs.Delivery.{delivered}
 use Rattle.delivery.proofs.Good.{message-good}
 use Rattle.autocrypt.specs.Processing.{payloadFields, Brought, refused, brings, withPayload, withSender, withOuter, broughtBy, Outcome, refusing, putInto, processed}
 use Rattle.autocrypt.proofs.ExactlyProcessing.{payload-octets}
@@ -37,9 +38,9 @@ use Rattle.promises.proofs.FetchOrder.{fetched-one, fetch-order}
 
 module _ (t : List ℕ) (s : checked t ≡ Sound) where
   put-table : (b : Brought) → putInto t b .table ≡ after t (messageOf b)
-  unfolding putInto refusing after messageOf
+  unfolding putInto refusing after delivered messageOf
   put-table (refused refusal) = refl
-  put-table (brings m) = by-test (hasRoom t m) (λ h. rw (putInto, after, h)) (λ h. rw (putInto, after, h))
+  put-table (brings m) = by-test (hasRoom t m) (λ h. rw (putInto, delivered, h)) (λ h. rw (putInto, delivered, h))
 
   put-fits : (b : Brought) → (Refused NoFreeSlot ≡ putInto t b .answer → ⊥) → fits t (messageOf b) ≡ true
   unfolding putInto refusing fits messageOf

@@ -17,6 +17,7 @@ use Rattle.table.specs.Entries.{entryIn}
 use Rattle.table.specs.declared.Checked.the-variants.{Sound}
 use Rattle.table.proofs.Replaced.{entry-good}
 use Rattle.update.specs.Message.{Message, entryAfter, GoodBrought, GoodMessage}
+use Rattle.delivery.specs.Delivery.{delivered}
 use Rattle.update.proofs.Applying.{applied-sound, applied-octets, applied-entry}
 use Rattle.autocrypt.proofs.SameEntries.{recommended-alike, key-alike}
 use Rattle.promises.specs.Fetching.{after, fetched, fits, allFit, Agreeing, SayTheSame}
@@ -87,10 +88,10 @@ pub record Fetched (t u : List ℕ) (list : List (Option Message)) : Type 0 wher
 
 pub fetched-one : (t : List ℕ) (c : Option Message) → AllOctets t → checked t ≡ Sound → ((m : Message) → c ≡ some m → GoodMessage m) → fits t c ≡ true
     → Fetched t (after t c) (c ∷ [])
-unfolding after fits step folded
+unfolding after delivered fits step folded
 fetched-one t none o s good r = record { sound = s; octets = o; entries = λ b. refl }
 fetched-one t (some m) o s good r =
-    rw (after, r)
+    rw (delivered, r)
     (record { sound = applied-sound t m (good m refl) s o; octets = applied-octets t m (good m refl) s o; entries = applied-entry t m (good m refl) s o r })
 
 pub fetched-well : (list : List (Option Message)) (t : List ℕ) → AllOctets t → checked t ≡ Sound

@@ -6,19 +6,20 @@
 -- What a call brings is a message, or none where the call is refused by 3 to 7: no table is asked for that.
 use Prim.Native.Nat.{ℕ}
 use mathlib.Core.Path.{_≡_}
-use mathlib.Core.Bool.{Bool, true, false, _&&_}
+use mathlib.Core.Bool.{Bool, true, _&&_}
 use mathlib.Core.List.{List, [], _∷_, List·Memᴰ}
 use mathlib.Core.Option.{Option, some, none}
 use Rattle.slots.specs.Entry.{Direct}
 use Rattle.table.specs.Entries.{entryIn}
-use Rattle.update.specs.Message.{Message, hasRoom, applied}
+use Rattle.update.specs.Message.{Message, hasRoom}
+use Rattle.delivery.specs.Delivery.{delivered}
 use Rattle.autocrypt.specs.Recommending.{recommendedOf, targetKeyOf}
 use Rattle.promises.specs.Brought.{bringsDirect, bringsGossip}
 
 -- "A message is applied whole or refused whole."
 unfoldable pub after : List ℕ → Option Message → List ℕ
 after t none = t
-after t (some m) = elim (hasRoom t m) [ true ↦ applied t m | false ↦ t ]
+after t (some m) = delivered t m
 
 unfoldable pub fetched : List ℕ → List (Option Message) → List ℕ
 fetched t [] = t

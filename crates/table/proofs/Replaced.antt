@@ -25,7 +25,7 @@ use Rattle.octets.proofs.Comparing.{same-refl}
 use Rattle.octets.proofs.Joined.{put-octets}
 use Rattle.octets.proofs.Lists.{lt-or-le}
 use Rattle.address.proofs.Every.{by-test}
-use Rattle.slots.specs.Slot.{slotLength, marked}
+use Rattle.slots.specs.Slot.{slotLength, marked, sound}
 use Rattle.slots.specs.Entry.{Entry, entryOf, slotOf, Good}
 use Rattle.slots.proofs.Parts.{put-again, put-back}
 use Rattle.slots.proofs.Sounds.{sound-parts, unmarked-not-sound}
