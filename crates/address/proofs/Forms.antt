@@ -1,52 +1,60 @@
 -- The canonical form: what a loop knows that looks for capitals, and the answers of the code.
---     small-is .. small-end              the loop's steps: the text is its own lower case
+--     small-is                           an octet that is no capital is its own lower case
+--     Small s all i                      what the loop knows; small-begin .. small-end are its steps
 --     canonical-whole, canonical-part    the answer on a plain address, and on another text
 --     same-length                        how long the form is today
 --     none-written .. room-kept          what is answered and left where the form is written
 --     same-address                       two texts in canonical form
 -- Assumes nothing.
 use Prim.Native.Nat.{ℕ, _+_, _<_, _≤_}
-use mathlib.Core.Path.{_≡_, sym, ap, _∙_}
-use mathlib.Core.Bool.{Bool, true, false, not}
+use mathlib.Core.Path.{_≡_, refl, sym, ap, _∙_}
+use mathlib.Core.Bool.{Bool, true, false, _&&_, _||_, and-true, and-assoc, or-true}
+use mathlib.Core.Logic.{⊎-elim}
 use mathlib.Core.List.{List}
 use native.Mathlib.Omega.{arith}
 use native.Mathlib.Nat.{zero-add}
 use borrow.Author.Needs.{needs}
-use borrow.Author.Tests.{eqb-true, eqb-false, not-true, not-false}
-use lib.Dec.{eqb}
-use lib.ListN.{length, getD}
+use borrow.Author.Tests.{eq-eqb, ne-eqb, lt-ltb, le-ltb}
+use lib.Dec.{eqb, ltb}
+use lib.ListN.{length, getD, drop}
 use Rattle.octets.specs.Octets.{sameOctets, sameName, lower, lowered}
 use Rattle.octets.specs.Written.{putAt, onto}
-use Rattle.octets.proofs.Letters.{length-lowered, getD-lowered}
-use Rattle.octets.proofs.Comparing.{Same, same-begin, same-next, same-stop, same-end}
+use Rattle.octets.proofs.Lists.{lt-or-le, drop-one, drop-done}
+use Rattle.octets.proofs.Letters.{lower-below, lower-above, lower-capital, length-lowered}
 use Rattle.address.specs.Address.{plain, canonical, isCanonical}
 use Rattle.address.specs.Answers.{writtenOf, ontoIfFits}
 use Rattle.address.specs.declared.Written.the-variants.{Length, NoRoom}
 use Rattle.address.proofs.Room.{written-fits, written-none, onto-fits, onto-none}
 
-pub small-is : (x y : ℕ) → y ≡ lower x → eqb y x ≡ eqb (lower x) x
-small-is x y e = rw e
+pub small-is : (x : ℕ) → (ltb x 65 || ltb 90 x) ≡ eqb (lower x) x
+small-is x =
+    ⊎-elim
+    (λ (h : x < 65). rw (← lower-below x h, lt-ltb x 65 h, eq-eqb x x refl))
+    (λ (h : 65 ≤ x).
+    ⊎-elim
+    (λ (k : 90 < x). rw (← lower-above x k, lt-ltb 90 x k, or-true, eq-eqb x x refl))
+    (λ (k : x ≤ 90). rw (← lower-capital x h k, le-ltb x 65 h, le-ltb 90 x k, ne-eqb (x + 32) x (λ e. omega arith)))
+    (lt-or-le 90 x))
+    (lt-or-le x 65)
+
+-- whether the text is its own lower case comes to `all` of what was passed, and to what is left from i on
+pub record Small (s : List ℕ) (all : Bool) (i : ℕ) : Type 0 where
+  pub so-far : sameOctets (lowered s) s ≡ (all && sameOctets (lowered (drop i s)) (drop i s))
 
 module _ (s : List ℕ) where
-  pub small-begin : Same (lowered s) s 0
-  small-begin = same-begin (lowered s) s (length-lowered s)
+  pub small-begin : Small s true 0
+  small-begin = record { so-far = refl }
 
-  module _ (i : ℕ) (h : Same (lowered s) s i) where
-    pub small-end : length s ≤ i → true ≡ sameOctets (lowered s) s
-    small-end l = same-end (lowered s) s i h (rw length-lowered l)
+  module _ (all : Bool) (i : ℕ) (h : Small s all i) where
+    pub small-end : length s ≤ i → all ≡ sameOctets (lowered s) s
+    unfolding sameOctets lowered
+    small-end l = sym (h .so-far ∙ rw (drop-done s i l) (and-true all))
 
-    module _ (b : Bool) (l : i < length s) (e : b ≡ eqb (lower (getD s i 0)) (getD s i 0)) where
-      pub small-next : not b ≡ false → Same (lowered s) s (i + 1)
-      small-next n =
-          same-next (lowered s) s i h (rw length-lowered l)
-          (getD-lowered s i ∙ eqb-true (lower (getD s i 0)) (getD s i 0) (sym e ∙ not-false b n))
+    pub small-next : (b : Bool) → i < length s → b ≡ eqb (lower (getD s i 0)) (getD s i 0) → Small s (all && b) (i + 1)
+    unfolding sameOctets lowered
+    small-next b l e = record { so-far = h .so-far ∙ rw (drop-one s i l, e) (sym (and-assoc all _ _)) }
 
-      pub small-stop : not b ≡ true → false ≡ sameOctets (lowered s) s
-      small-stop n =
-          same-stop (lowered s) s i h (rw length-lowered l)
-          (λ q. eqb-false (lower (getD s i 0)) (getD s i 0) (sym e ∙ not-true b n) (sym (getD-lowered s i) ∙ q))
-
-pub ruleset staying-small = (small-is, small-begin, small-next, small-stop, small-end, needs)
+pub ruleset staying-small = (small-is, small-begin, small-next, small-end, needs)
 
 module _ (s : List ℕ) (p : Bool) (e : p ≡ plain s) where
   pub canonical-whole : (b : Bool) → p ≡ true → b ≡ sameOctets (lowered s) s → b ≡ isCanonical s

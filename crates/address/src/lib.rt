@@ -37,10 +37,10 @@ fn local_part(s: &[u8]) -> Local
     let mut i = 0;
     while i < s.len() {
         let end = tokens::run_end(s, i, Class::Atom);
-        if end == i {
+        if s.len() <= end {
             return Local::NoPart;
         }
-        if s.len() <= end {
+        if end == i {
             return Local::NoPart;
         }
         if s[end] == b'@' {
@@ -57,10 +57,14 @@ fn local_part(s: &[u8]) -> Local
     Local::NoPart
 }
 
+// Small letters, the most of what stands in labels, are known by the first test.
 fn label_octet(x: u8) -> bool
     ensures { λ r. ⌜ r ≡ labelOctet x ⌝ }
 {
-    tokens::within(Class::Letter, x) | tokens::within(Class::Digit, x) | (x == b'-')
+    if (b'a' <= x) & (x <= b'z') {
+        return true;
+    }
+    ((b'A' <= x) & (x <= b'Z')) | ((b'0' <= x) & (x <= b'9')) | (x == b'-')
 }
 
 // The end of the run of letters, digits and hyphens that begins at the place `at`.
@@ -128,21 +132,21 @@ pub fn is_plain(s: &[u8]) -> bool
 fn small(x: u8) -> bool
     ensures { λ r. ⌜ r ≡ eqb (lowerOf x) x ⌝ }
 {
-    octets::lower(x) == x
+    (x < b'A') | (b'Z' < x)
 }
 
-// Is there no ASCII capital?
+// Is there no ASCII capital? No way leads out of the loop early, so that it compiles to vector instructions: every address
+// of a table is tested so at each call.
 fn is_small(s: &[u8]) -> bool
     ensures { λ r. ⌜ r ≡ sameOctets (lowered (now (s .entry))) (now (s .entry)) ⌝ }
 {
+    let mut all = true;
     let mut i = 0;
     while i < s.len() {
-        if !small(s[i]) {
-            return false;
-        }
+        all = all & small(s[i]);
         i += 1;
     }
-    true
+    all
 }
 
 // Is it a plain address that is its own canonical form?

@@ -1,7 +1,7 @@
 -- What single octets are: the laws behind the tests on one octet.
 --     kind-closes .. kind-plain    the four kinds of an octet inside a comment or a quoted string, by the tests in their order
 --     takes-end, takes-octet       whether a backslash may take what stands at a place
---     atom-high, atom-capital, atom-low    the ranges of the octets of atoms, held to their definition at each of the 256 octets
+--     atom-high .. atom-low        the ranges of the octets of atoms, held to their definition at each of the 256 octets
 --     of-class                     what the test of a class says
 -- Assumes nothing.
 use Prim.Native.Nat.{ℕ, zero, suc, _<_, _≤_}
@@ -65,12 +65,15 @@ same-bool true false e = sym e
 same-bool false true e = e
 same-bool false false e = refl
 
--- the octets of atoms as the code tests for them: those below "A", and all
+-- the octets of atoms as the code tests for them: those from "-" to "@", those below, and all
+abbrev middle : ℕ → Bool
+middle x = leb x 57 && not (eqb x 46) || eqb x 61 || eqb x 63
+
 abbrev lowest : ℕ → Bool
-lowest x = leb 47 x && leb x 57 || leb 42 x && leb x 43 || leb 35 x && leb x 39 || eqb x 45 || eqb x 33 || eqb x 61 || eqb x 63
+lowest x = leb 42 x && leb x 43 || leb 35 x && leb x 39 || eqb x 33
 
 abbrev ranges : ℕ → Bool
-ranges x = cond (leb 94 x) (not (eqb x 127)) (cond (leb 65 x) (leb x 90) (lowest x))
+ranges x = cond (leb 94 x) (not (eqb x 127)) (cond (leb 65 x) (leb x 90) (cond (leb 45 x) (middle x) (lowest x)))
 
 alike : ℕ → Bool
 alike x = Bool·beq (ranges x) (belongs Atom x)
@@ -86,10 +89,13 @@ module _ (x : ℕ) (h : x < 256) where
   pub atom-capital : x < 94 → 65 ≤ x → leb x 90 ≡ belongs Atom x
   atom-capital l k = rw (lt-leb 94 x l, le-leb 65 x k) at atom-ranges
 
-  pub atom-low : x < 94 → x < 65 → lowest x ≡ belongs Atom x
-  atom-low l k = rw (lt-leb 94 x l, lt-leb 65 x k) at atom-ranges
+  pub atom-middle : x < 94 → x < 65 → 45 ≤ x → middle x ≡ belongs Atom x
+  atom-middle l k m = rw (lt-leb 94 x l, lt-leb 65 x k, le-leb 45 x m) at atom-ranges
+
+  pub atom-low : x < 94 → x < 65 → x < 45 → lowest x ≡ belongs Atom x
+  atom-low l k m = rw (lt-leb 94 x l, lt-leb 65 x k, lt-leb 45 x m) at atom-ranges
 
 pub of-class : (class k : Class) (x : ℕ) (r : Bool) → class ≡ k → r ≡ belongs k x → r ≡ belongs class x
 of-class class k x r q e = rw q e
 
-pub ruleset telling = (kind-closes, kind-escapes, kind-control, kind-plain, takes-end, takes-octet, atom-high, atom-capital, atom-low, of-class, needs)
+pub ruleset telling = (kind-closes, kind-escapes, kind-control, kind-plain, takes-end, takes-octet, atom-high, atom-capital, atom-middle, atom-low, of-class, needs)

@@ -193,13 +193,10 @@ fn atom(x: u8) -> bool
     if b'A' <= x {
         return x <= b'Z';
     }
-    ((b'/' <= x) & (x <= b'9'))
-        | ((b'*' <= x) & (x <= b'+'))
-        | ((b'#' <= x) & (x <= b'\''))
-        | (x == b'-')
-        | (x == b'!')
-        | (x == b'=')
-        | (x == b'?')
+    if b'-' <= x {
+        return ((x <= b'9') & (x != b'.')) | (x == b'=') | (x == b'?');
+    }
+    ((b'*' <= x) & (x <= b'+')) | ((b'#' <= x) & (x <= b'\'')) | (x == b'!')
 }
 
 // Does the octet belong to the class?

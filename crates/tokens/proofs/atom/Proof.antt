@@ -12,5 +12,8 @@ returns-2 c = search telling
 returns-3 : tie.Need-returns-3
 returns-3 c = search telling
 
+returns-4 : tie.Need-returns-4
+returns-4 c = search telling
+
 pub atom-spec : {M : Type 1} → statement M
-atom-spec = tie.close (tie.spec returns returns-2 returns-3)
+atom-spec = tie.close (tie.spec returns returns-2 returns-3 returns-4)
