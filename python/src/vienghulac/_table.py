@@ -4,10 +4,9 @@ A table's octets stand in memory that only this module knows. It is lent to one 
 table's guard, and since a call runs without the interpreter's lock, the guard is what keeps other threads out, with such a
 lock or without one.
 
-A key is handed out as a part of an image of the table: the octets of the whole table as they were after the last write,
-made where the first key is asked for, and never written. A call that may write lets go of the image, and one that wrote
-releases every view of it, so that a late use raises. What a caller made out of a view, a slice say, keeps the old image
-alive, and goes on reading the key that it was made of.
+A key is handed out as a view of a copy of its octets, which is never written. A call that wrote the table releases every
+such view, so that a late use raises. What a caller made out of a view, a slice say, keeps the copy alive, and goes on
+reading the key that it was made of.
 
 A call of a Python function costs about as much as the conversion of an argument for the library. So the calls on a table
 know what they are nearly always given by its exact type, in place, and ask `_arguments` about all else.
@@ -82,7 +81,6 @@ class Table:
         self._memory = ctypes.create_string_buffer(lent, len(lent))
         self._address = ctypes.addressof(self._memory)  # what each call is lent, with the length: made once
         self._length = len(lent)
-        self._image: Optional[bytes] = None
         self._views: set[weakref.ref[memoryview]] = set()
 
     @classmethod
@@ -110,7 +108,7 @@ class Table:
 
     def __bytes__(self) -> bytes:
         with self._guard:
-            return self._imaged()
+            return self._memory.raw
 
     def __repr__(self) -> str:
         return f"<Table of {self.slots} slots>"
@@ -120,28 +118,22 @@ class Table:
 
     # The rest is for the functions below, which hold the guard.
 
-    def _imaged(self) -> bytes:
-        """The octets of the table; the same object until the next write."""
-        if self._image is None:
-            self._image = self._memory.raw
-        return self._image
-
     def _view(self, start: int, length: int) -> memoryview:
         """A part of the table, to be released by the next write."""
-        view = memoryview(self._imaged())[start : start + length]
+        view = memoryview(self._memory[start : start + length])  # type: ignore[arg-type]  # the slice is bytes
         self._views.add(_HandedOut(view, self._views.discard))
         return view
 
     def _release(self) -> None:
-        """The table was written: release the views of its old image."""
+        """The table was written: release the views of what it held before."""
         for handed_out in self._views.copy():
             view = handed_out()
             try:
                 if view is not None:
                     view.release()
             except BufferError:
-                # Someone is reading the view's memory this moment; it is the old image, which no one writes. The view
-                # is released by a later write.
+                # Someone is reading the view's memory this moment; it is a copy, which no one writes. The view is
+                # released by a later write.
                 continue
             self._views.discard(handed_out)
 
@@ -183,7 +175,6 @@ def process(
     if type(gossip) is not Gossip:  # an enumeration has no subclasses
         raise TypeError(f"gossip must be a Gossip, not {type(gossip).__name__}")
     with table._guard:
-        table._image = None  # before the call: an interrupt behind it must not leave an old image
         answer: _library.Answer = _library.process(
             table._address, table._length, receipt, outer, len(outer), payload, len(payload), gossip
         )
@@ -272,14 +263,14 @@ def entries(table: Table) -> list[Entry]:
 def _entry(table: Table, slot: int) -> Optional[Entry]:
     start = slot * SLOT
     mark, address_length, bits, seen, autocrypt, gossip, direct_length, gossip_length = _NUMBERS.unpack_from(
-        table._imaged(), start
+        table._memory, start
     )
     if mark != _USED:
         return None
     address = start + _ADDRESS
     return Entry(
         slot=slot,
-        address=table._imaged()[address : address + address_length],
+        address=table._memory[address : address + address_length],  # type: ignore[arg-type]  # the slice is bytes
         last_seen=seen if bits & _LAST_SEEN else None,
         autocrypt_timestamp=autocrypt if bits & _DIRECT else None,
         direct_key=table._view(start + _DIRECT_KEY, direct_length) if bits & _DIRECT else None,
