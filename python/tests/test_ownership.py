@@ -197,7 +197,7 @@ def test_a_refused_write_ends_no_key():
     assert view == key
 
 
-def test_an_interrupt_behind_the_call_leaves_no_old_image(monkeypatch):
+def test_an_interrupt_behind_the_call_leaves_no_old_key(monkeypatch):
     """The table is written, and the call is broken off before it has come back."""
     table, (key,) = table_with(b"a@x")
     view = target_key(table, b"a@x")

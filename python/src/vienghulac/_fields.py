@@ -8,9 +8,9 @@ from typing import Any, Callable
 
 from . import _library
 from ._arguments import Octets, octets, truth
-from ._refusals import unless_refused
+from ._refusals import refusal
 
-_ROOM = 3_200  # more than the longest field, 3,145 octets
+_Room = ctypes.c_char * 3_200  # more than the longest field, 3,145 octets
 
 
 class FieldValue(str):
@@ -73,7 +73,9 @@ def _pair(field: bytes) -> tuple[str, FieldValue]:
 
 def _written(write: Callable[..., Any], address: Octets, key: Octets, *preference: bool) -> bytes:
     lent, lent_key = octets(address, "address"), octets(key, "key")
-    out = ctypes.create_string_buffer(_ROOM)
+    out = _Room()
     answer: _library.Written = write(lent, len(lent), lent_key, len(lent_key), *preference, out, len(out))
-    unless_refused(answer.number)
-    return out.raw[: answer.length]
+    if answer.number:
+        raise refusal(answer.number)
+    field: bytes = out[: answer.length]  # type: ignore[assignment]  # a slice of an array of c_char is bytes
+    return field

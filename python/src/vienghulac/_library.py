@@ -1,7 +1,12 @@
 """The shared library inside the package, declared as include/vienghulac.h declares it.
 
-Every pointer is declared as `c_char_p`: that takes a `bytes` object or an array of `c_char` and nothing else, keeps it
-alive for the call, and hands its memory down without a copy. A call runs without the interpreter's lock.
+A block is declared as `c_char_p`: that takes a `bytes` object or an array of `c_char` and nothing else, keeps it alive for
+the call, and hands its memory down without a copy. A table that is kept is declared as its address, made once, and its
+owner keeps it alive. A call runs without the interpreter's lock.
+
+Most of what ctypes costs is the conversion of the arguments. So a number of 64 bits is declared as `c_void_p`: it is as
+wide as a pointer, is passed in the same registers on both machines, and takes half the time of a `c_size_t`, since an
+`int` is what `c_void_p` looks for first. What has few values is converted once for each of them.
 """
 
 from __future__ import annotations
@@ -46,7 +51,22 @@ class Written(ctypes.Structure):
 
 _shared = ctypes.CDLL(str(Path(__file__).with_name("libvienghulac.so")))
 
-_BLOCK = (ctypes.c_char_p, ctypes.c_size_t)
+
+class _Few:
+    """An argument of a ctypes type that is one of the numbers below a count, all of them converted beforehand.
+
+    ctypes asks what stands in `argtypes` for `from_param` alone; looking into a list is the cheapest there is.
+    """
+
+    def __init__(self, kind: type[Any], count: int) -> None:
+        self.from_param = [kind.from_param(value) for value in range(count)].__getitem__
+
+
+_TRUTH = _Few(ctypes.c_bool, 2)
+_GOSSIP = _Few(ctypes.c_uint8, 3)
+_NUMBER = ctypes.c_void_p
+_BLOCK = (ctypes.c_char_p, _NUMBER)
+_TABLE = (ctypes.c_void_p, _NUMBER)
 
 
 def _declared(name: str, answer: type[ctypes.Structure], *arguments: Any) -> Callable[..., Any]:
@@ -57,10 +77,8 @@ def _declared(name: str, answer: type[ctypes.Structure], *arguments: Any) -> Cal
 
 
 check = _declared("vienghulac_check", Answer, *_BLOCK)
-process = _declared("vienghulac_process", Answer, *_BLOCK, ctypes.c_uint64, *_BLOCK, *_BLOCK, ctypes.c_uint8)
-recommend = _declared("vienghulac_recommend", AdviceAnswer, *_BLOCK, *_BLOCK, ctypes.c_bool, ctypes.c_bool)
-target_key = _declared(
-    "vienghulac_target_key", Part, *_BLOCK, *_BLOCK, ctypes.c_bool, ctypes.c_bool, ctypes.c_uint64
-)
-write_autocrypt = _declared("vienghulac_write_autocrypt", Written, *_BLOCK, *_BLOCK, ctypes.c_bool, *_BLOCK)
+process = _declared("vienghulac_process", Answer, *_TABLE, _NUMBER, *_BLOCK, *_BLOCK, _GOSSIP)
+recommend = _declared("vienghulac_recommend", AdviceAnswer, *_TABLE, *_BLOCK, _TRUTH, _TRUTH)
+target_key = _declared("vienghulac_target_key", Part, *_TABLE, *_BLOCK, _TRUTH, _TRUTH, _NUMBER)
+write_autocrypt = _declared("vienghulac_write_autocrypt", Written, *_BLOCK, *_BLOCK, _TRUTH, *_BLOCK)
 write_gossip = _declared("vienghulac_write_gossip", Written, *_BLOCK, *_BLOCK, *_BLOCK)

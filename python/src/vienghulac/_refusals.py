@@ -44,7 +44,6 @@ class Refused(Exception):
         return f"refused {self.number}: {self.words}{where}"
 
 
-def unless_refused(number: int, index: int = 0) -> None:
-    """Raise what the library answered, unless it is 0."""
-    if number != 0:
-        raise Refused(number, index if number == _BAD_SLOT else None)
+def refusal(number: int, index: int = 0) -> Refused:
+    """What is raised for a number that the library answered, and an index."""
+    return Refused(number, index if number == _BAD_SLOT else None)

@@ -4,10 +4,12 @@ A table's octets stand in memory that only this module knows. It is lent to one 
 table's guard, and since a call runs without the interpreter's lock, the guard is what keeps other threads out, with such a
 lock or without one.
 
-A key is handed out as a part of an image of the table: the octets of the whole table as they were after the last write,
-made where the first key is asked for, and never written. A call that may write lets go of the image, and one that wrote
-releases every view of it, so that a late use raises. What a caller made out of a view, a slice say, keeps the old image
-alive, and goes on reading the key that it was made of.
+A key is handed out as a view of a copy of its octets, which is never written. A call that wrote the table releases every
+such view, so that a late use raises. What a caller made out of a view, a slice say, keeps the copy alive, and goes on
+reading the key that it was made of.
+
+A call of a Python function costs about as much as the conversion of an argument for the library. So the calls on a table
+know what they are nearly always given by its exact type, in place, and ask `_arguments` about all else.
 """
 
 from __future__ import annotations
@@ -23,7 +25,7 @@ from typing import Optional
 from . import _library
 from ._arguments import Octets, number, octets, truth
 from ._files import FilePath, read_file, replace_file
-from ._refusals import unless_refused
+from ._refusals import refusal
 
 SLOT = 4_392
 """The octets of a slot."""
@@ -53,11 +55,15 @@ class Advice(enum.IntEnum):
     """It should be."""
 
 
+_ADVICE = {advice.value: advice for advice in Advice}  # looked up in a fraction of the time of Advice(number)
+
+
 def check(table: Octets) -> None:
     """Raise `Refused` (1, 2) unless these octets are a table."""
     lent = octets(table, "table")
     answer: _library.Answer = _library.check(lent, len(lent))
-    unless_refused(answer.number, answer.index)
+    if answer.number:
+        raise refusal(answer.number, answer.index)
 
 
 class Table:
@@ -73,8 +79,9 @@ class Table:
         check(lent)
         self._guard = threading.Lock()
         self._memory = ctypes.create_string_buffer(lent, len(lent))
-        self._image: Optional[bytes] = None
-        self._views: weakref.WeakValueDictionary[int, memoryview] = weakref.WeakValueDictionary()
+        self._address = ctypes.addressof(self._memory)  # what each call is lent, with the length: made once
+        self._length = len(lent)
+        self._views: set[weakref.ref[memoryview]] = set()
 
     @classmethod
     def new(cls, slots: int = SLOTS) -> Table:
@@ -97,11 +104,11 @@ class Table:
     @property
     def slots(self) -> int:
         """The number of slots, free ones included."""
-        return len(self._memory) // SLOT
+        return self._length // SLOT
 
     def __bytes__(self) -> bytes:
         with self._guard:
-            return self._imaged()
+            return self._memory.raw
 
     def __repr__(self) -> str:
         return f"<Table of {self.slots} slots>"
@@ -111,28 +118,36 @@ class Table:
 
     # The rest is for the functions below, which hold the guard.
 
-    def _imaged(self) -> bytes:
-        """The octets of the table; the same object until the next write."""
-        if self._image is None:
-            self._image = self._memory.raw
-        return self._image
-
     def _view(self, start: int, length: int) -> memoryview:
         """A part of the table, to be released by the next write."""
-        view = memoryview(self._imaged())[start : start + length]
-        self._views[id(view)] = view
+        view = memoryview(self._memory[start : start + length])  # type: ignore[arg-type]  # the slice is bytes
+        self._views.add(_HandedOut(view, self._views.discard))
         return view
 
     def _release(self) -> None:
-        """The table was written: release the views of its old image."""
-        for place, view in list(self._views.items()):
+        """The table was written: release the views of what it held before."""
+        for handed_out in self._views.copy():
+            view = handed_out()
             try:
-                view.release()
+                if view is not None:
+                    view.release()
             except BufferError:
-                # Someone is reading the view's memory this moment; it is the old image, which no one writes. The view
-                # is released by a later write.
+                # Someone is reading the view's memory this moment; it is a copy, which no one writes. The view is
+                # released by a later write.
                 continue
-            self._views.pop(place, None)
+            self._views.discard(handed_out)
+
+
+class _HandedOut(weakref.ref[memoryview]):
+    """A view that may be out; forgotten as its holder drops it.
+
+    In a set it stands for itself. A plain reference would be hashed and compared as the octets that the view shows, so
+    that of two views of one key only one would be kept.
+    """
+
+    __slots__ = ()
+    __hash__ = object.__hash__
+    __eq__ = object.__eq__
 
 
 def _need_table(table: Table) -> None:
@@ -149,19 +164,25 @@ def process(
     octets as received, up to its first empty line. `payload` is the header block of the decrypted payload's root part,
     if there is one. Raises `Refused` (3 to 8) and leaves the table as it was, or ends all keys handed out before.
     """
-    _need_table(table)
-    seconds = number(receipt, "receipt")
-    lent, lent_payload = octets(outer, "outer"), octets(payload, "payload")
-    if not isinstance(gossip, Gossip):
+    if type(table) is not Table:
+        _need_table(table)
+    if type(receipt) is not int or receipt >> 64:  # not 0 for numbers below 0 and for those of more than 64 bits
+        receipt = number(receipt, "receipt")
+    if type(outer) is not bytes:
+        outer = octets(outer, "outer")
+    if type(payload) is not bytes:
+        payload = octets(payload, "payload")
+    if type(gossip) is not Gossip:  # an enumeration has no subclasses
         raise TypeError(f"gossip must be a Gossip, not {type(gossip).__name__}")
     with table._guard:
-        table._image = None  # before the call: an interrupt behind it must not leave an old image
         answer: _library.Answer = _library.process(
-            table._memory, len(table._memory), seconds, lent, len(lent), lent_payload, len(lent_payload), gossip
+            table._address, table._length, receipt, outer, len(outer), payload, len(payload), gossip
         )
-        if answer.number == 0:
+        refused = answer.number
+        if not refused and table._views:
             table._release()
-    unless_refused(answer.number, answer.index)
+    if refused:
+        raise refusal(refused, answer.index)
 
 
 def recommend(table: Table, recipients: Octets, mutual: bool = False, reply: bool = False) -> Advice:
@@ -170,13 +191,20 @@ def recommend(table: Table, recipients: Octets, mutual: bool = False, reply: boo
     `recipients` is a list of 1 to 100 addresses as in a To field. `mutual` is the sender's own preference, `reply` says
     that the mail answers an encrypted one. Raises `Refused` (10).
     """
-    _need_table(table)
-    lent = octets(recipients, "recipients")
-    choice = truth(mutual, "mutual"), truth(reply, "reply")
+    if type(table) is not Table:
+        _need_table(table)
+    if type(recipients) is not bytes:
+        recipients = octets(recipients, "recipients")
+    if type(mutual) is not bool or type(reply) is not bool:
+        mutual, reply = truth(mutual, "mutual"), truth(reply, "reply")
     with table._guard:
-        answer: _library.AdviceAnswer = _library.recommend(table._memory, len(table._memory), lent, len(lent), *choice)
-    unless_refused(answer.number, answer.index)
-    return Advice(answer.advice)
+        answer: _library.AdviceAnswer = _library.recommend(
+            table._address, table._length, recipients, len(recipients), mutual, reply
+        )
+    refused = answer.number
+    if refused:
+        raise refusal(refused, answer.index)
+    return _ADVICE[answer.advice]
 
 
 def target_key(
@@ -187,15 +215,20 @@ def target_key(
     It is a read-only view of a part of the table, and is released by the next write: copy it, as `bytes(key)`, to keep
     it longer. None where that recipient has no key, past the end of the list, and where `recommend` refuses.
     """
-    _need_table(table)
-    lent = octets(recipients, "recipients")
-    choice = truth(mutual, "mutual"), truth(reply, "reply")
-    at = number(place, "place")
+    if type(table) is not Table:
+        _need_table(table)
+    if type(recipients) is not bytes:
+        recipients = octets(recipients, "recipients")
+    if type(mutual) is not bool or type(reply) is not bool:
+        mutual, reply = truth(mutual, "mutual"), truth(reply, "reply")
+    if type(place) is not int or place >> 64:
+        place = number(place, "place")
     with table._guard:
         part: _library.Part = _library.target_key(
-            table._memory, len(table._memory), lent, len(lent), *choice, at
+            table._address, table._length, recipients, len(recipients), mutual, reply, place
         )
-        return table._view(part.start, part.length) if part.length else None
+        length = part.length
+        return table._view(part.start, length) if length else None
 
 
 @dataclass(frozen=True)
@@ -230,14 +263,14 @@ def entries(table: Table) -> list[Entry]:
 def _entry(table: Table, slot: int) -> Optional[Entry]:
     start = slot * SLOT
     mark, address_length, bits, seen, autocrypt, gossip, direct_length, gossip_length = _NUMBERS.unpack_from(
-        table._imaged(), start
+        table._memory, start
     )
     if mark != _USED:
         return None
     address = start + _ADDRESS
     return Entry(
         slot=slot,
-        address=table._imaged()[address : address + address_length],
+        address=table._memory[address : address + address_length],  # type: ignore[arg-type]  # the slice is bytes
         last_seen=seen if bits & _LAST_SEEN else None,
         autocrypt_timestamp=autocrypt if bits & _DIRECT else None,
         direct_key=table._view(start + _DIRECT_KEY, direct_length) if bits & _DIRECT else None,
