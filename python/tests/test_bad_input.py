@@ -108,6 +108,45 @@ def test_a_class_that_lies_about_its_length(base):
             return bytearray(b"mallory@m.example")
 
     assert autocrypt_field(Liar(b"a@x"), Liar(b"foo")) == autocrypt_field(b"a@x", b"foo")
+    told, plain = Table(Liar(bytes(4_392 * 2))), Table.new(2)
+    outer, payload = letter(b"a@x", b"key", more=b"To: b@x\r\n"), gossip_field(b"b@x", b"gossiped")
+    process(told, RECEIPT, Liar(outer), Liar(payload))
+    process(plain, RECEIPT, outer, payload)
+    assert bytes(told) == bytes(plain) and len(entries(told)) == 2
+    assert recommend(told, Liar(b"a@x, b@x")) == recommend(told, b"a@x, b@x")
+    assert target_key(told, Liar(b"a@x")) == b"key"
+
+
+def test_what_counts_as_a_number():
+    """A number that is no int, as other packages have them, is taken for the int that it says it is."""
+
+    class Number:
+        def __init__(self, value):
+            self.value = value
+
+        def __index__(self):
+            return self.value
+
+    table = Table.new(Number(1))
+    process(table, Number(RECEIPT), letter(b"a@x", b"key"))
+    assert (table.slots, entries(table)[0].last_seen) == (1, RECEIPT)
+    assert target_key(table, b"a@x", place=Number(0)) == b"key"
+    for call in (lambda n: process(table, n, letter(b"a@x")), lambda n: target_key(table, LIST, place=n), Table.new):
+        with pytest.raises(ValueError):
+            call(Number(-1))
+    with pytest.raises(Refused):
+        process(table, Number(2**64), letter(b"a@x"))
+    assert target_key(table, b"a@x", place=Number(2**64)) is None
+
+
+def test_a_subclass_of_a_table_is_one():
+    class Named(Table):
+        name = "correspondents"
+
+    table = Named.new(1)
+    process(table, RECEIPT, letter(b"a@x", b"key"))
+    assert recommend(table, b"a@x").name == "AVAILABLE"
+    assert target_key(table, b"a@x") == b"key" == entries(table)[0].direct_key
 
 
 def test_a_released_view_is_no_octets():

@@ -1,7 +1,7 @@
 """What a caller may pass, and what is handed down for it.
 
 ctypes would take more than the library's functions mean: it cuts a number to its width, and takes any object for a
-truth value. So each argument is looked at here first.
+truth value. So each argument is looked at first: here, where a call does not know it by its exact type.
 """
 
 from __future__ import annotations

@@ -5,8 +5,8 @@ the call, and hands its memory down without a copy. A table that is kept is decl
 owner keeps it alive. A call runs without the interpreter's lock.
 
 Most of what ctypes costs is the conversion of the arguments. So a number of 64 bits is declared as `c_void_p`: it is as
-wide as a pointer, is passed in the same registers on both machines, and takes half the time of a `c_size_t`, since an
-`int` is what `c_void_p` looks for first. What has few values is converted once for each of them.
+wide as a pointer, is passed just as one on x86-64 and on aarch64, and takes half the time of a `c_size_t`, since an `int`
+is what `c_void_p` looks for first. What has few values is converted once for each of them.
 """
 
 from __future__ import annotations

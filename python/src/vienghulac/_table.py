@@ -9,7 +9,8 @@ such view, so that a late use raises. What a caller made out of a view, a slice 
 reading the key that it was made of.
 
 A call of a Python function costs about as much as the conversion of an argument for the library. So the calls on a table
-know what they are nearly always given by its exact type, in place, and ask `_arguments` about all else.
+know what they are nearly always given by its exact type, in place, and ask `_arguments` about all else; and they enter
+`_release` only where a view may be out.
 """
 
 from __future__ import annotations
