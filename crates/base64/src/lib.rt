@@ -441,8 +441,8 @@ fn write(table: &[u8; 256], src: &[u8], out: &mut [u8]) -> Decoded
     }
 }
 
-// Decodes key data, with spaces and tabs anywhere, into the beginning of `out`. The text is read once: after a refusal,
-// what `out` holds means nothing.
+// Decodes key data, with spaces and tabs anywhere, into the beginning of `out`. The text is read once, and again only where
+// its octets have no room: after a refusal, what `out` holds means nothing.
 pub fn decode_once(src: &[u8], out: &mut [u8]) -> Decoded
     ensures { λ r. ⌜ r ≡ decodedOf (octetsOf (withoutBlanks (now (src .entry)))) (length (now (out .entry))) ⌝ }
     ensures { λ r. ⌜ Decodes (octetsOf (withoutBlanks (now (src .entry)))) (now (out .entry)) (now (out .exit)) r ⌝ }
