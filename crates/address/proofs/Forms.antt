@@ -1,4 +1,5 @@
 -- The canonical form: what a loop knows that looks for capitals, and the answers of the code.
+--     by-case                            what holds of an octet in lower case, by where the octet lies
 --     small-is                           an octet that is no capital is its own lower case
 --     Small s all i                      what the loop knows; small-begin .. small-end are its steps
 --     canonical-whole, canonical-part    the answer on a plain address, and on another text
@@ -26,16 +27,24 @@ use Rattle.address.specs.Answers.{writtenOf, ontoIfFits}
 use Rattle.address.specs.declared.Written.the-variants.{Length, NoRoom}
 use Rattle.address.proofs.Room.{written-fits, written-none, onto-fits, onto-none}
 
-pub small-is : (x : ℕ) → (ltb x 65 || ltb 90 x) ≡ eqb (lower x) x
-small-is x =
+-- the three ways that an octet can go
+pub by-case : (P : ℕ → Type 0) (x : ℕ) → (x < 65 → P x) → (90 < x → P x) → (65 ≤ x → x ≤ 90 → P (x + 32)) → P (lower x)
+by-case P x low high capital =
     ⊎-elim
-    (λ (h : x < 65). rw (← lower-below x h, lt-ltb x 65 h, eq-eqb x x refl))
+    (λ (h : x < 65). rw (← lower-below x h) (low h))
     (λ (h : 65 ≤ x).
     ⊎-elim
-    (λ (k : 90 < x). rw (← lower-above x k, lt-ltb 90 x k, or-true, eq-eqb x x refl))
-    (λ (k : x ≤ 90). rw (← lower-capital x h k, le-ltb x 65 h, le-ltb 90 x k, ne-eqb (x + 32) x (λ e. omega arith)))
+    (λ (k : 90 < x). rw (← lower-above x k) (high k))
+    (λ (k : x ≤ 90). rw (← lower-capital x h k) (capital h k))
     (lt-or-le 90 x))
     (lt-or-le x 65)
+
+pub small-is : (x : ℕ) → (ltb x 65 || ltb 90 x) ≡ eqb (lower x) x
+small-is x =
+    by-case (λ y. (ltb x 65 || ltb 90 x) ≡ eqb y x) x
+    (λ h. rw (lt-ltb x 65 h, eq-eqb x x refl))
+    (λ h. rw (lt-ltb 90 x h, or-true, eq-eqb x x refl))
+    (λ h k. rw (le-ltb x 65 h, le-ltb 90 x k, ne-eqb (x + 32) x (λ e. omega arith)))
 
 -- whether the text is its own lower case comes to `all` of what was passed, and to what is left from i on
 pub record Small (s : List ℕ) (all : Bool) (i : ℕ) : Type 0 where

@@ -8,7 +8,6 @@
 -- Assumes nothing.
 use Prim.Native.Nat.{ℕ, _+_, _-_, _<_, _≤_}
 use mathlib.Core.Path.{_≡_, refl, sym, _∙_}
-use mathlib.Core.Logic.{⊎-elim}
 use mathlib.Core.Bool.{Bool, true, and-false}
 use mathlib.Core.List.{List}
 use native.Mathlib.Omega.{arith}
@@ -16,8 +15,7 @@ use borrow.Author.Tests.{le-leb, lt-leb, ne-eqb}
 use lib.Dec.{leb, eqb}
 use lib.ListN.{length, getD}
 use Rattle.octets.specs.Octets.{AllOctets, sameOctets, lower, lowered}
-use Rattle.octets.proofs.Lists.{lt-or-le}
-use Rattle.octets.proofs.Letters.{lower-below, lower-above, lower-capital, lowered-twice, lowered-octets, length-lowered, getD-lowered}
+use Rattle.octets.proofs.Letters.{lowered-twice, lowered-octets, length-lowered, getD-lowered}
 use Rattle.octets.proofs.Comparing.{same-refl, same-true}
 use Rattle.tokens.specs.Tokens.{letter, belongs}
 use Rattle.tokens.specs.declared.Class.{Class}
@@ -27,6 +25,7 @@ use Rattle.address.specs.Address.{atom, localPart, labelOctet, freeEnds,
 use Rattle.address.proofs.Every.{and-left, and-right, every-map}
 use Rattle.address.proofs.Pieces.{before-map, behind-map, pieces-map}
 use Rattle.address.proofs.Sides.{plain-most}
+use Rattle.address.proofs.Forms.{by-case}
 
 pub canonical-twice : (s : List ℕ) → canonical (canonical s) ≡ canonical s
 unfolding canonical
@@ -38,15 +37,7 @@ canonical-octets s h = lowered-octets s h
 
 -- what holds of an octet, and of a capital made small, holds of the octet in lower case
 by-capital : (P : ℕ → Type 0) (x : ℕ) → P x → (65 ≤ x → x ≤ 90 → P (x + 32)) → P (lower x)
-by-capital P x same capital =
-    ⊎-elim
-    (λ (h : x < 65). rw (← lower-below x h) same)
-    (λ (h : 65 ≤ x).
-    ⊎-elim
-    (λ (k : 90 < x). rw (← lower-above x k) same)
-    (λ (k : x ≤ 90). rw (← lower-capital x h k) (capital h k))
-    (lt-or-le 90 x))
-    (lt-or-le x 65)
+by-capital P x same capital = by-case P x (λ _. same) (λ _. same) capital
 
 -- "." and "@" and "-" stay what they are, and nothing becomes one of them
 lower-sign : (d : ℕ) → d < 65 → (x : ℕ) → eqb (lower x) d ≡ eqb x d
