@@ -1,5 +1,4 @@
 -- The canonical form: what a loop knows that looks for capitals, and the answers of the code.
---     by-case                            what holds of an octet in lower case, by where the octet lies
 --     small-is                           an octet that is no capital is its own lower case
 --     Small s all i                      what the loop knows; small-begin .. small-end are its steps
 --     canonical-whole, canonical-part    the answer on a plain address, and on another text
@@ -10,7 +9,6 @@
 use Prim.Native.Nat.{ℕ, _+_, _<_, _≤_}
 use mathlib.Core.Path.{_≡_, refl, sym, ap, _∙_}
 use mathlib.Core.Bool.{Bool, true, false, _&&_, _||_, and-true, and-assoc, or-true}
-use mathlib.Core.Logic.{⊎-elim}
 use mathlib.Core.List.{List}
 use native.Mathlib.Omega.{arith}
 use native.Mathlib.Nat.{zero-add}
@@ -20,24 +18,12 @@ use lib.Dec.{eqb, ltb}
 use lib.ListN.{length, getD, drop}
 use Rattle.octets.specs.Octets.{sameOctets, sameName, lower, lowered}
 use Rattle.octets.specs.Written.{putAt, onto}
-use Rattle.octets.proofs.Lists.{lt-or-le, drop-one, drop-done}
-use Rattle.octets.proofs.Letters.{lower-below, lower-above, lower-capital, length-lowered}
+use Rattle.octets.proofs.Lists.{drop-one, drop-done}
+use Rattle.octets.proofs.Letters.{by-case, length-lowered}
 use Rattle.address.specs.Address.{plain, canonical, isCanonical}
 use Rattle.address.specs.Answers.{writtenOf, ontoIfFits}
 use Rattle.address.specs.declared.Written.the-variants.{Length, NoRoom}
 use Rattle.address.proofs.Room.{written-fits, written-none, onto-fits, onto-none}
-
--- the three ways that an octet can go
-pub by-case : (P : ℕ → Type 0) (x : ℕ) → (x < 65 → P x) → (90 < x → P x) → (65 ≤ x → x ≤ 90 → P (x + 32)) → P (lower x)
-by-case P x low high capital =
-    ⊎-elim
-    (λ (h : x < 65). rw (← lower-below x h) (low h))
-    (λ (h : 65 ≤ x).
-    ⊎-elim
-    (λ (k : 90 < x). rw (← lower-above x k) (high k))
-    (λ (k : x ≤ 90). rw (← lower-capital x h k) (capital h k))
-    (lt-or-le 90 x))
-    (lt-or-le x 65)
 
 pub small-is : (x : ℕ) → (ltb x 65 || ltb 90 x) ≡ eqb (lower x) x
 small-is x =

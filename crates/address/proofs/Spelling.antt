@@ -15,7 +15,7 @@ use borrow.Author.Tests.{le-leb, lt-leb, ne-eqb}
 use lib.Dec.{leb, eqb}
 use lib.ListN.{length, getD}
 use Rattle.octets.specs.Octets.{AllOctets, sameOctets, lower, lowered}
-use Rattle.octets.proofs.Letters.{lowered-twice, lowered-octets, length-lowered, getD-lowered}
+use Rattle.octets.proofs.Letters.{by-case, lowered-twice, lowered-octets, length-lowered, getD-lowered}
 use Rattle.octets.proofs.Comparing.{same-refl, same-true}
 use Rattle.tokens.specs.Tokens.{letter, belongs}
 use Rattle.tokens.specs.declared.Class.{Class}
@@ -25,7 +25,6 @@ use Rattle.address.specs.Address.{atom, localPart, labelOctet, freeEnds,
 use Rattle.address.proofs.Every.{and-left, and-right, every-map}
 use Rattle.address.proofs.Pieces.{before-map, behind-map, pieces-map}
 use Rattle.address.proofs.Sides.{plain-most}
-use Rattle.address.proofs.Forms.{by-case}
 
 pub canonical-twice : (s : List ℕ) → canonical (canonical s) ≡ canonical s
 unfolding canonical

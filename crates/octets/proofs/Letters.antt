@@ -1,5 +1,6 @@
 -- Lower case.
 --     lower-below, lower-above, lower-capital    by where the octet lies
+--     by-case                                    what holds of an octet in lower case, by the same
 --     lower-twice, lowered-twice                 what is in lower case stays as it is
 --     lower-octet, lowered-octets                an octet stays one
 --     length-lowered, getD-lowered               a list's length stays, and each element is lower-cased
@@ -31,7 +32,7 @@ lower-capital x h k = rw (le-leb 65 x h, le-leb x 90 k)
 pub ruleset lowering = (lower-below, lower-above, lower-capital, needs)
 
 -- the three ways that an octet can go
-by-case : (P : ℕ → Type 0) (x : ℕ) → (x < 65 → P x) → (90 < x → P x) → (65 ≤ x → x ≤ 90 → P (x + 32)) → P (lower x)
+pub by-case : (P : ℕ → Type 0) (x : ℕ) → (x < 65 → P x) → (90 < x → P x) → (65 ≤ x → x ≤ 90 → P (x + 32)) → P (lower x)
 by-case P x low high capital =
     ⊎-elim
     (λ (h : x < 65). rw (← lower-below x h) (low h))
