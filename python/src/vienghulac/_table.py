@@ -156,6 +156,12 @@ def _need_table(table: Table) -> None:
         raise TypeError(f"table must be a Table, not {type(table).__name__}")
 
 
+def _asked(table: Table, recipients: Octets, mutual: bool, reply: bool) -> tuple[bytes, bool, bool]:
+    """The arguments of `recommend` and `target_key`, where one is not of the type that it nearly always has."""
+    _need_table(table)
+    return octets(recipients, "recipients"), truth(mutual, "mutual"), truth(reply, "reply")
+
+
 def process(
     table: Table, receipt: int, outer: Octets, payload: Octets = b"", gossip: Gossip = Gossip.UNSET
 ) -> None:
@@ -192,12 +198,8 @@ def recommend(table: Table, recipients: Octets, mutual: bool = False, reply: boo
     `recipients` is a list of 1 to 100 addresses as in a To field. `mutual` is the sender's own preference, `reply` says
     that the mail answers an encrypted one. Raises `Refused` (10).
     """
-    if type(table) is not Table:
-        _need_table(table)
-    if type(recipients) is not bytes:
-        recipients = octets(recipients, "recipients")
-    if type(mutual) is not bool or type(reply) is not bool:
-        mutual, reply = truth(mutual, "mutual"), truth(reply, "reply")
+    if type(table) is not Table or type(recipients) is not bytes or type(mutual) is not bool or type(reply) is not bool:
+        recipients, mutual, reply = _asked(table, recipients, mutual, reply)
     with table._guard:
         answer: _library.AdviceAnswer = _library.recommend(
             table._address, table._length, recipients, len(recipients), mutual, reply
@@ -216,12 +218,8 @@ def target_key(
     It is a read-only view of a part of the table, and is released by the next write: copy it, as `bytes(key)`, to keep
     it longer. None where that recipient has no key, past the end of the list, and where `recommend` refuses.
     """
-    if type(table) is not Table:
-        _need_table(table)
-    if type(recipients) is not bytes:
-        recipients = octets(recipients, "recipients")
-    if type(mutual) is not bool or type(reply) is not bool:
-        mutual, reply = truth(mutual, "mutual"), truth(reply, "reply")
+    if type(table) is not Table or type(recipients) is not bytes or type(mutual) is not bool or type(reply) is not bool:
+        recipients, mutual, reply = _asked(table, recipients, mutual, reply)
     if type(place) is not int or place >> 64:
         place = number(place, "place")
     with table._guard:
