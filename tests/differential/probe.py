@@ -93,6 +93,9 @@ class Probe(Bound):
     def is_zero(self, s: bytes) -> bool:
         return self._call("probe_is_zero", ctypes.c_bool, _read, s, len(s))
 
+    def find_octet(self, s: bytes, start: int, x: int) -> int:
+        return self._call("probe_octet", _size, _read + [_size, ctypes.c_uint8], s, len(s), start, x)
+
     def fill(self, out: bytes, x: int) -> bytes:
         lent = Lent(out)
         self._call("probe_fill", None, _write + [ctypes.c_uint8], *lent.words(), x)
@@ -116,11 +119,16 @@ class Probe(Bound):
 
     # base64
 
-    def decode(self, text: bytes, out: bytes) -> tuple[int, int, bytes]:
+    def decode(self, text: bytes, out: bytes, name: str = "probe_decode") -> tuple[int, int, bytes]:
         """kind 0: so many octets; 1: no Base64; 2: too little room"""
         lent = Lent(out)
-        r = self._call("probe_decode", Answer, _read + _write, text, len(text), *lent.words())
+        r = self._call(name, Answer, _read + _write, text, len(text), *lent.words())
         return r.kind, r.value, lent.now()
+
+    def decode_once(self, text: bytes, out: bytes) -> tuple[int, int, bytes]:
+        """As above, with the octets alone: what the memory holds behind them, and after a refusal, means nothing."""
+        kind, value, now = self.decode(text, out, "probe_decode_once")
+        return kind, value, now[:value]
 
     def lines(self, key: bytes, out: bytes, at: int) -> tuple[int, int, bytes]:
         """kind 0: the place behind the lines; 2: too little room"""

@@ -21,7 +21,9 @@ class Base64(unittest.TestCase):
         else:
             expected = (0, len(octets), octets + out[len(octets) :])
         self.assertEqual(self.probe.decode(text, out), expected, text)
-        return expected[0]
+        kind, length, now = expected
+        self.assertEqual(self.probe.decode_once(text, out), (kind, length, now[:length]), text)
+        return kind
 
     def test_decode(self):
         answers = set()

@@ -35,6 +35,21 @@ class Octets(unittest.TestCase):
             at = self.random.randrange(len(a) + 3)
             self.assertEqual(self.probe.goes_on(a, at, b[at:]), a[at:].startswith(b[at:]), (a, at, b))
 
+    def test_find(self):
+        """An octet at each place of pieces of 32, 8 and 1, from each place on, past the end too."""
+        for n in range(1, 100):
+            for at in {0, n // 3, n - 1, n}:
+                s = b"a" * at + b";" + b"b;" * (n - at)
+                for start in {0, at // 2, at, at + 1, len(s), len(s) + 5}:
+                    found = s.find(b";", start)
+                    expected = max(len(s), start) if found < 0 else found
+                    self.assertEqual(self.probe.find_octet(s, start, ord(";")), expected, (s, start))
+        for _ in range(5_000):
+            s = self.octets(200)
+            x, start = self.random.randrange(256), self.random.randrange(len(s) + 3)
+            found = s.find(bytes([x]), start)
+            self.assertEqual(self.probe.find_octet(s, start, x), max(len(s), start) if found < 0 else found, (s, start, x))
+
     def test_zeros(self):
         for n in list(range(0, 130)) + [4392, 65536]:
             self.assertTrue(self.probe.is_zero(bytes(n)))

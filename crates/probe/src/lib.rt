@@ -28,6 +28,11 @@ pub extern "C" fn probe_is_zero(s: &[u8]) -> bool {
 }
 
 #[no_mangle]
+pub extern "C" fn probe_octet(s: &[u8], from: usize, x: u8) -> usize {
+    octets::find(s, from, x)
+}
+
+#[no_mangle]
 pub extern "C" fn probe_fill(out: &mut [u8], x: u8) {
     octets::fill(out, x);
 }
@@ -86,9 +91,8 @@ pub extern "C" fn probe_put_number(out: &mut [u8], at: usize, width: usize, n: u
 }
 
 // kind 0: the octets decoded; 1: no Base64; 2: too little room
-#[no_mangle]
-pub extern "C" fn probe_decode(text: &[u8], out: &mut [u8]) -> Answer {
-    match base64::decode(text, out) {
+fn decoded(r: base64::Decoded) -> Answer {
+    match r {
         base64::Decoded::Octets(n) => Answer {
             kind: 0,
             value: n as u64,
@@ -96,6 +100,16 @@ pub extern "C" fn probe_decode(text: &[u8], out: &mut [u8]) -> Answer {
         base64::Decoded::NotBase64 => Answer { kind: 1, value: 0 },
         base64::Decoded::NoRoom => Answer { kind: 2, value: 0 },
     }
+}
+
+#[no_mangle]
+pub extern "C" fn probe_decode(text: &[u8], out: &mut [u8]) -> Answer {
+    decoded(base64::decode(text, out))
+}
+
+#[no_mangle]
+pub extern "C" fn probe_decode_once(text: &[u8], out: &mut [u8]) -> Answer {
+    decoded(base64::decode_once(text, out))
 }
 
 // kind 0: the place behind the lines; 2: too little room
