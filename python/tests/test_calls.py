@@ -33,13 +33,17 @@ def test_check_as_the_independent_program():
     assert seen == {0, 1, 2}
 
 
+def on_sound_tables(make, many):
+    """The cases whose table is one, each with the table made of its octets: no other can be lent through the package."""
+    for _ in range(many):
+        octets, *rest = make()
+        if tables.check(octets) == (0, 0):
+            yield octets, Table(octets), *rest
+
+
 def test_process_as_the_independent_program():
-    cases, seen = Cases(SEED), set()
-    for _ in range(4_000):
-        octets, receipt, outer, payload, setting = cases.processing()
-        if tables.check(octets) != (0, 0):
-            continue
-        table = Table(octets)
+    seen = set()
+    for octets, table, receipt, outer, payload, setting in on_sound_tables(Cases(SEED).processing, 4_000):
         setting = Gossip(setting if setting in (1, 2) else 0)
         number, slot, _ = answered(process, table, receipt, outer, payload, setting)
         assert (number, slot, bytes(table)) == processing.process(octets, receipt, outer, payload, setting)
@@ -48,12 +52,8 @@ def test_process_as_the_independent_program():
 
 
 def test_recommend_and_target_key_as_the_independent_program():
-    cases, seen = Cases(SEED), set()
-    for _ in range(3_000):
-        octets, recipients, mutual, reply, place = cases.target()
-        if tables.check(octets) != (0, 0):
-            continue
-        table = Table(octets)
+    seen = set()
+    for octets, table, recipients, mutual, reply, place in on_sound_tables(Cases(SEED).target, 3_000):
         number, slot, advice = answered(recommend, table, recipients, mutual, reply)
         assert (number, slot, advice or 0) == recommending.recommend(octets, recipients, mutual, reply)
         start, length = recommending.target_key(octets, recipients, mutual, reply, place)

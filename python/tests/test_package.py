@@ -16,7 +16,7 @@ import vienghulac
 PACKAGE = Path(vienghulac.__file__).parent
 LIBRARY = PACKAGE / "libvienghulac.so"
 WHEELS = list((ROOT / "build" / "wheel").glob("*.whl"))
-MYPY = ["/usr/bin/mypy", "--strict", "--no-incremental"]
+MYPY = ["/usr/bin/mypy", "--strict", "--cache-dir=/dev/null"]  # no file in the tree
 
 
 def output(*words, **more):

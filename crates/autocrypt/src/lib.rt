@@ -28,8 +28,8 @@ use message::Survey;
 use message::Surveyed;
 use slots::Slot;
 
-// How long the values of most messages are at most. Room for the longest has to be cleared first, which takes as long as
-// all else.
+// Room for the values of most messages. Room has to be cleared before it is lent, and for the longest values that takes more
+// than half as long as all else of a short mail.
 const SHORT: usize = 8192;
 
 // Why a call refuses, named for the rows of "Refusal numbers", in their order.

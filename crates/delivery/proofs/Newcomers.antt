@@ -4,7 +4,7 @@
 --     meet-filled .. meet-new       one more address
 --     Counts, count-begin .. count-end     the loop over the gossip
 --     room-begins .. beside-told           the sender first
---     own-alone .. free-alone              the sender and no other
+--     own-alone, free-alone                the sender and no other
 -- Assumes nothing.
 use Prim.Native.Nat.{ℕ, _+_, _*_, _-_, _^_, _<_, _≤_}
 use mathlib.Core.Path.{_≡_, refl, sym, ap, _∙_}
@@ -13,7 +13,7 @@ use mathlib.Core.List.{List, [], _∷_, _++_}
 use native.Mathlib.Omega.{arith}
 use borrow.Author.Needs.{needs}
 use borrow.Author.Tests.{le-leb, lt-leb}
-use lib.Dec.{leb}
+use lib.Dec.{leb, ltb}
 use lib.ListN.{length, take, drop, length-append}
 use native.Mathlib.Numerals.{add-one}
 use Rattle.octets.specs.Written.{putAt}
@@ -286,13 +286,10 @@ module _ (t sender : List ℕ) (f : Found) (e : f ≡ found t sender) where
     unfolding newcomers among
     one = ap length (newcomer-one t [] sender [] (rw (← e, q) refl))
 
-    pub none-alone : free ≤ 0 → false ≡ leb many (freeCount t)
-    none-alone z = sym (lt-leb many (freeCount t) (omega (arith, one, h, z)))
+    pub free-alone : ltb 0 free ≡ leb many (freeCount t)
+    free-alone = rw (h, one)
 
-    pub free-alone : 0 < free → true ≡ leb many (freeCount t)
-    free-alone z = sym (le-leb many (freeCount t) (omega (arith, one, h, z)))
-
-pub ruleset alone = (own-alone, none-alone, free-alone, needs)
+pub ruleset alone = (own-alone, free-alone, needs)
 
 -- a sender who has no entry
 module _ (t sender : List ℕ) (gossiped : List (List ℕ)) (n : ℕ) (h : n ≡ freeCount t) where

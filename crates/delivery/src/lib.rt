@@ -259,12 +259,7 @@ fn has_room_alone(table: &[u8], sender: &[u8]) -> bool
 {
     match table::find(table, sender) {
         Found::At(_) => true,
-        Found::Nothing => {
-            if 0 < table::count_free(table) {
-                return true;
-            }
-            false
-        }
+        Found::Nothing => 0 < table::count_free(table),
     }
 }
 

@@ -1,5 +1,5 @@
 -- What the check compares before it compares addresses: a number of 32 bits for each slot, made of its address.
---     digestOf         the digest of an address: for each octet itself plus itself moved up seven places plus the octet, modulo 2 to the 32
+--     digestOf         the digest of an address: from 0 on, for each octet 129 times what it was, plus the octet, modulo 2 to the 32
 --     among            is a number one of the first n of a list?
 --     Digests t ds n   ds has the digests of the addresses of the first n slots, and room for those of a whole table
 use Prim.Native.Nat.{ℕ, zero, suc, _+_, _*_, _%_, _^_, _<_, _≤_}

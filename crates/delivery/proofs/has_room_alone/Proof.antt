@@ -21,10 +21,6 @@ returns c = search alone
 returns-2 : tie.Need-returns-2
 returns-2 c = search alone
 
-returns-3 : tie.Need-returns-3
-returns-3 c = search alone
-
 pub has-room-alone-spec : {M : Type 1} → statement M
 has-room-alone-spec =
-    tie.close
-    (tie.spec find-requires enum-told enum-told-2 count-free-requires returns returns-2 returns-3)
+    tie.close (tie.spec find-requires enum-told enum-told-2 count-free-requires returns returns-2)
