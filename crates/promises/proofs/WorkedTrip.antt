@@ -18,7 +18,7 @@ use Rattle.octets.proofs.Joined.{replicate-octets}
 use Rattle.tokens.specs.Tokens as tokens
 use Rattle.base64.specs.Base64 as base64
 use Rattle.header.specs.Header as header
-use Rattle.header.proofs.InFront.{isRaw}
+use Rattle.header.specs.Blocks.{isRaw}
 use Rattle.address.specs.Pieces as pieces
 use Rattle.address.specs.Pieces.{every}
 use Rattle.address.specs.Address as address
@@ -36,16 +36,14 @@ use Rattle.update.specs.Update as update
 use Rattle.update.specs.Message as brought
 use Rattle.message.specs.Message as message
 use Rattle.delivery.specs.Delivery as delivery
-use Rattle.autocrypt.specs.Processing.{taken, payloadFields, Outcome, processed}
+use Rattle.autocrypt.specs.Processing.{taken, payloadFields, Outcome, processed, Readied}
 use Rattle.autocrypt.specs.Recommending.{targetKeyOf}
 use Rattle.autocrypt.specs.Writing.{autocryptField}
 use Rattle.autocrypt.specs.declared.Gossip.the-variants.{Unset}
 use Rattle.autocrypt.specs.declared.Processed.the-variants.{Done}
-use Rattle.autocrypt.proofs.ExactlyProcessing.{Readied, done-outcome}
+use Rattle.autocrypt.proofs.ExactlyProcessing.{done-outcome}
+use Rattle.promises.specs.RoundTrip.{one, none as no-lines, Writable, Holding, behind, others}
 use Rattle.promises.specs.Standing.{directHalf}
-use Rattle.promises.proofs.Among.{one, none as no-lines}
-use Rattle.promises.proofs.RoundTrip.{Writable}
-use Rattle.promises.proofs.Holding.{Holding, behind, others}
 use Rattle.promises.proofs.WholeTrip.{autocrypt-processed}
 use Rattle.promises.proofs.HandedOut.{key-handed-out}
 

@@ -1,3 +1,4 @@
+pub mod RoundTrip
 pub mod Standing
 pub mod Outcomes
 pub mod Examples
