@@ -16,4 +16,5 @@ pub mod Permuting
 pub mod EntryOrder
 pub mod FetchOrder
 pub mod FetchCalls
+pub mod WorkedOrder
 pub mod EachPremise

@@ -48,13 +48,13 @@ use Rattle.promises.proofs.WholeTrip.{autocrypt-processed}
 use Rattle.promises.proofs.HandedOut.{key-handed-out}
 
 -- octets that a test finds to be octets
-tested : (s : List ℕ) → every (λ x. leb x 255) s ≡ true → AllOctets s
+pub tested : (s : List ℕ) → every (λ x. leb x 255) s ≡ true → AllOctets s
 unfolding pieces.every
 tested [] e i = omega arith
 tested (x ∷ s) e zero = let l = leb-true x 255 (and-left (leb x 255) (every (λ y. leb y 255) s) e) in omega arith
 tested (x ∷ s) e (suc i) = tested s (and-right (leb x 255) (every (λ y. leb y 255) s) e) i
 
-abbrev free : List ℕ
+abbrev pub free : List ℕ
 free = replicate 4392 0
 
 abbrev address-given : List ℕ
