@@ -9,6 +9,7 @@ pub mod WholeTrip
 pub mod HandedOut
 pub mod WorkedTrip
 pub mod Outcomes
+pub mod Contracts
 pub mod Examples
 pub mod Later
 pub mod Halves
