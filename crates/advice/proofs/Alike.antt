@@ -1,6 +1,5 @@
 -- Recommendations depend on what the tables hold of addresses only, and not on the slots that it stands in.
---     Alike                       two tables hold the same of every address
---     advice-alike, target-alike  so they give the same advice for an address, and the same key
+--     advice-alike, target-alike  tables that hold the same of every address give the same advice for one, and the same key
 --     advised-alike .. targets-alike     and the same advice and keys for a list
 -- Assumes nothing.
 use Prim.Native.Nat.{ℕ}
@@ -8,11 +7,8 @@ use mathlib.Core.Path.{_≡_, refl, ap}
 use mathlib.Core.Bool.{Bool}
 use mathlib.Core.List.{List, [], _∷_}
 use Rattle.address.specs.Address.{canonical}
-use Rattle.table.specs.Entries.{entryIn}
+use Rattle.table.specs.Entries.{Alike}
 use Rattle.advice.specs.Advice.{adviceFor, adviceIn, targetOf, targetIn, advised, targets, overall}
-
-abbrev pub Alike : List ℕ → List ℕ → Type 0
-Alike t u = (a : List ℕ) → entryIn t a ≡ entryIn u a
 
 module _ (t u : List ℕ) (h : Alike t u) where
   pub advice-alike : (m reply : Bool) (a : List ℕ) → adviceIn t m reply a ≡ adviceIn u m reply a

@@ -16,7 +16,8 @@ use Rattle.address.proofs.Every.{by-test}
 use Rattle.slots.specs.Slot.{hasDirect, hasGossip, numbersOf, directKeyOf, gossipKeyOf, sound}
 use Rattle.slots.specs.Entry.{entryOf}
 use Rattle.slots.proofs.Parts.{drop-take}
-use Rattle.slots.proofs.Sounds.{Sound, sound-parts}
+use Rattle.slots.specs.Facts.{Sound}
+use Rattle.slots.proofs.Sounds.{sound-parts}
 use Rattle.table.specs.Table.{slots, slotAt, found, checked}
 use Rattle.table.specs.declared.Checked.the-variants.{Sound as Checked}
 use Rattle.table.specs.declared.Found.{Found}
@@ -25,8 +26,7 @@ use Rattle.table.proofs.Slots.{room}
 use Rattle.table.proofs.Finding.{found-at}
 use Rattle.table.proofs.Entries.{entry-at, entry-nothing, entry-sound}
 use Rattle.advice.specs.Advice.{directOf, gossipOf, targetBy, targetOf, targetIn, targets}
-use Rattle.advice.specs.Places.{noPart, keyPart, targetPart, targetAt, octetsAt}
-use Rattle.advice.specs.declared.Part.{Part}
+use Rattle.advice.specs.Places.{noPart, keyPart, targetPart, targetAt, octetsAt, Within}
 use Rattle.advice.proofs.Rating.{direct-there, direct-absent, gossip-there, gossip-absent}
 use Rattle.advice.proofs.Targets.{key-direct, key-gossip, key-none, target-nothing, target-there}
 
@@ -41,10 +41,6 @@ area-octets t i at n l m =
       take-take n (4392 - at) (drop at (drop (i * 4392) t)) (omega arith),
       drop-drop at (i * 4392) t,
     )
-
--- a part ends within the table
-abbrev pub Within : List ℕ → Part → Type 0
-Within t p = p .start + p .length ≤ length t
 
 module _ (t : List ℕ) (i : ℕ) (l : i < slots t) (e : sound (slotAt t i) ≡ true) where
   parts : Sound (slotAt t i)

@@ -16,7 +16,8 @@ use Rattle.address.proofs.Every.{by-test}
 use Rattle.slots.specs.declared.Slot.{Slot}
 use Rattle.slots.specs.Slot.{hasLastSeen, hasDirect, hasGossip, isMutual, lastSeen, timestamp, gossipTimestamp, directKeyOf, gossipKeyOf, numbersOf, sound}
 use Rattle.slots.specs.Entry.{entryOf, orElse}
-use Rattle.slots.proofs.Sounds.{Sound, sound-parts}
+use Rattle.slots.specs.Facts.{Sound}
+use Rattle.slots.proofs.Sounds.{sound-parts}
 use Rattle.advice.specs.Advice.{stale, directOf, gossipOf, ratedBy, rated, raised, prefersBy}
 use Rattle.advice.specs.Places.{ratedAs}
 use Rattle.advice.specs.declared.Advice.{Advice}

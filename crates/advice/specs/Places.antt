@@ -5,10 +5,11 @@
 --     keyPart, targetPart   where the key to encrypt to lies in the table: for a slot, and for an address
 --     targetAt              the same for a place in a list
 --     octetsAt              the octets of a part
-use Prim.Native.Nat.{ℕ, zero, suc, _+_, _*_}
+--     Within                a part ends within the table
+use Prim.Native.Nat.{ℕ, zero, suc, _+_, _*_, _≤_}
 use mathlib.Core.Bool.{true, false}
 use mathlib.Core.List.{List, [], _∷_}
-use lib.ListN.{take, drop}
+use lib.ListN.{length, take, drop}
 use Rattle.slots.specs.declared.Slot.{Slot}
 use Rattle.slots.specs.Slot.{slotLength, numbersOf}
 use Rattle.address.specs.Address.{canonical}
@@ -73,3 +74,7 @@ targetAt t (a ∷ rest) (suc place) = targetAt t rest place
 -- the octets of a part of the table t
 unfoldable pub octetsAt : List ℕ → Part → List ℕ
 octetsAt t p = take (p .length) (drop (p .start) t)
+
+-- a word of statements: no contract cites it
+abbrev pub Within : List ℕ → Part → Type 0
+Within t p = p .start + p .length ≤ length t

@@ -1,13 +1,11 @@
 -- Each number exactly when its row holds and no earlier row does, and what comes with it.
---     Row                        the rows 9, 11 and 12, each where no earlier one holds, and success
 --     exactly                    the number answered is n exactly when the row of n holds
 --     refused-untouched          a refusal leaves the output as it was
 --     done-length, done-within, done-there    success: the length is the field's, which is at most the output's, and the field stands in front of the rest
 -- Assumes nothing.
-use Prim.Native.Nat.{ℕ, _<_, _≤_}
+use Prim.Native.Nat.{ℕ, _≤_}
 use mathlib.Core.Path.{_≡_, sym, ap, subst}
 use mathlib.Core.Logic.{_↔_, ⊎-elim}
-use mathlib.Core.Bool.{true, false}
 use mathlib.Core.List.{List}
 use mathlib.Core.Option.{some, none}
 use native.Mathlib.Omega.{arith}
@@ -18,18 +16,12 @@ use Rattle.address.specs.Address.{oneTo, plain}
 use Rattle.address.proofs.Every.{by-test}
 use Rattle.autocrypt.specs.Refusals.{numberOf}
 use Rattle.slots.specs.Slot.{keyLimit}
-use Rattle.autocrypt.specs.Writing.{refusedWriting, writtenOf, leftByWriting, numberIn}
+use Rattle.autocrypt.specs.Writing.{refusedWriting, writtenOf, leftByWriting, numberIn, Row, nine, eleven, twelve, nought}
 use Rattle.autocrypt.specs.declared.Refusal.{Refusal}
 use Rattle.autocrypt.specs.declared.Written.the-variants.{Done, Refused}
 use Rattle.autocrypt.proofs.Refusals.{by-refusal}
 use Rattle.autocrypt.proofs.Writing.{not-plain, key-out, too-short, in-order, refused-answer, done-answer, refused-left, done-left}
 use Rattle.autocrypt.specs.declared.Refusal.the-variants.{OwnAddress, KeyLength, OutputLength}
-
-pub data Row (address key field : List ℕ) (room : ℕ) : ℕ → Type 0 where
-  nine : plain address ≡ false → Row address key field room 9
-  eleven : plain address ≡ true → oneTo keyLimit (length key) ≡ false → Row address key field room 11
-  twelve : plain address ≡ true → oneTo keyLimit (length key) ≡ true → room < length field → Row address key field room 12
-  nought : plain address ≡ true → oneTo keyLimit (length key) ≡ true → length field ≤ room → Row address key field room 0
 
 module _ (address key field : List ℕ) (room : ℕ) where
   abbrev number : ℕ

@@ -1,7 +1,5 @@
 -- Processing: each number exactly when its row holds and no earlier row does, and what comes with it.
 --     payload-octets                 the payload's values are octets
---     InTime .. Readied              what holds where the earlier rows do not
---     Row                            the rows 1 to 8, each where no earlier one holds, and success
 --     exactly                        the number answered is n exactly when the row of n holds
 --     refused-untouched              a refusal leaves the table as it was
 --     index-lowest                   the index with 2 is that of the lowest slot that is neither free nor sound
@@ -9,7 +7,7 @@
 --     processed-keeps, processed-octets    a sound table stays sound, whatever the message
 --     done-entry                     success: what the entry of any address is afterwards
 -- Assumes nothing.
-use Prim.Native.Nat.{ℕ, _<_, _≤_}
+use Prim.Native.Nat.{ℕ, _<_}
 use mathlib.Core.Path.{_≡_, refl, sym, ap, subst, _∙_}
 use mathlib.Core.Logic.{_↔_, ⊎-elim}
 use mathlib.Core.Bool.{true, false}
@@ -24,10 +22,11 @@ use Rattle.slots.specs.Slot.{timeLimit}
 use Rattle.table.specs.Table.{whole, checked}
 use Rattle.table.specs.declared.Checked.{Checked as OfTable}
 use Rattle.table.specs.declared.Checked.the-variants.{Sound as Whole, Length, Slot}
-use Rattle.table.proofs.Judging.{checked-length}
-use Rattle.table.proofs.Keeping.{SoundTable, table-sound, sound-table}
-use Rattle.table.proofs.Broken.{Broken, checked-broken, broken-checked, checked-out}
+use Rattle.table.specs.Slotwise.{SoundTable, Broken}
 use Rattle.table.specs.Entries.{entryIn}
+use Rattle.table.proofs.Judging.{checked-length}
+use Rattle.table.proofs.Keeping.{table-sound, sound-table}
+use Rattle.table.proofs.Broken.{checked-broken, broken-checked, checked-out}
 use Rattle.update.specs.Message.{Message, GoodMessage, hasRoom, applied, entryAfter}
 use Rattle.update.proofs.Applying.{applied-sound, applied-octets, applied-entry}
 use Rattle.message.specs.Message.{senderIn, isReported}
@@ -35,7 +34,7 @@ use Rattle.delivery.specs.Delivery.{messageBy}
 use Rattle.delivery.proofs.Good.{message-good}
 use Rattle.autocrypt.specs.Refusals.{numberOf}
 use Rattle.autocrypt.specs.Checking.{checkedAs}
-use Rattle.autocrypt.specs.Processing.{taken, payloadFields, refused, brings, withPayload, broughtBy, Outcome, refusing, putInto, processed, numberAfter}
+use Rattle.autocrypt.specs.Processing.{taken, payloadFields, refused, brings, withPayload, broughtBy, Outcome, refusing, putInto, processed, numberAfter, InTime, Opened, Sent, Readied, Row, one, two, three, four, five, six, seven, eight, nought}
 use Rattle.autocrypt.specs.declared.Refusal.{Refusal}
 use Rattle.autocrypt.specs.declared.Refusal.the-variants.{TableLength, BrokenSlot, ReceiptTime, OuterBlock, Sender, Report, PayloadBlock, NoFreeSlot}
 use Rattle.autocrypt.specs.declared.Gossip.{Gossip}
@@ -49,44 +48,6 @@ payload-octets g payload o ps e =
     by-test (taken g)
     (λ k. block-octets payload o ps (sym (fields-taken g payload k) ∙ e))
     (λ k. let q : some [] ≡ some ps = sym (fields-skipped g payload k) ∙ e in let r : [] ≡ ps = cc in rw (← r) tt)
-
--- rows 1 to 3 do not hold,
-pub record InTime (t : List ℕ) (receipt : ℕ) : Type 0 where
-  pub sound : SoundTable t
-  pub in-range : receipt ≤ timeLimit
-
--- nor does row 4, and the outer block has these fields,
-pub record Opened (t : List ℕ) (receipt : ℕ) (outer : List ℕ) (fs : List FieldText) : Type 0 where
-  pub in-time : InTime t receipt
-  pub read : fieldsOf outer ≡ some fs
-
--- nor row 5, and this is the sender,
-pub record Sent (t : List ℕ) (receipt : ℕ) (outer : List ℕ) (fs : List FieldText) (sender : List ℕ) : Type 0 where
-  pub opened : Opened t receipt outer fs
-  pub sent : senderIn fs ≡ some sender
-
--- nor rows 6 and 7, and these are the fields in which gossip is looked for
-pub record Readied (t : List ℕ) (receipt : ℕ) (outer payload : List ℕ) (g : Gossip) (fs : List FieldText) (sender : List ℕ) (ps : List FieldText) : Type 0 where
-  pub sent : Sent t receipt outer fs sender
-  pub no-report : isReported fs ≡ false
-  pub gossip : payloadFields g payload ≡ some ps
-
-pub data Row (t : List ℕ) (receipt : ℕ) (outer payload : List ℕ) (g : Gossip) : ℕ → Type 0 where
-  one : whole t ≡ false → Row t receipt outer payload g 1
-  two : (i : ℕ) → Broken t i → Row t receipt outer payload g 2
-  three : SoundTable t → timeLimit < receipt → Row t receipt outer payload g 3
-  four : InTime t receipt → fieldsOf outer ≡ none → Row t receipt outer payload g 4
-  five : (fs : List FieldText) → Opened t receipt outer fs → senderIn fs ≡ none → Row t receipt outer payload g 5
-  six : (fs : List FieldText) (sender : List ℕ) → Sent t receipt outer fs sender → isReported fs ≡ true → Row t receipt outer payload g 6
-  seven :
-      (fs : List FieldText) (sender : List ℕ) → Sent t receipt outer fs sender → isReported fs ≡ false
-      → taken g ≡ true → fieldsOf payload ≡ none → Row t receipt outer payload g 7
-  eight :
-      (fs : List FieldText) (sender : List ℕ) (ps : List FieldText) → Readied t receipt outer payload g fs sender ps
-      → hasRoom t (messageBy receipt sender fs ps) ≡ false → Row t receipt outer payload g 8
-  nought :
-      (fs : List FieldText) (sender : List ℕ) (ps : List FieldText) → Readied t receipt outer payload g fs sender ps
-      → hasRoom t (messageBy receipt sender fs ps) ≡ true → Row t receipt outer payload g 0
 
 -- one of the answers of the check; there is something, or there is not
 by-check : {P : Type 0} (c : OfTable) → (c ≡ Whole → P) → (c ≡ Length → P) → ((i : ℕ) → c ≡ Slot i → P) → P

@@ -1,5 +1,4 @@
 -- Recommending: each number exactly when its row holds and no earlier row does, and what comes with it.
---     Row                        the rows 1, 2 and 10, each where no earlier one holds, and success
 --     exactly                    the number answered is n exactly when the row of n holds
 --     index-lowest               the index with 2 is that of the lowest slot that is neither free nor sound
 --     done-advised               success: the advice is that for the whole list
@@ -14,25 +13,20 @@ use native.Mathlib.Omega.{arith}
 use Rattle.address.proofs.Every.{by-test}
 use Rattle.list.specs.List.{addresses, given}
 use Rattle.table.specs.Table.{whole, checked}
+use Rattle.table.specs.Slotwise.{SoundTable, Broken}
 use Rattle.table.proofs.Judging.{checked-length}
-use Rattle.table.proofs.Keeping.{SoundTable, table-sound, sound-table}
-use Rattle.table.proofs.Broken.{Broken, by-check, checked-broken, broken-checked, checked-out}
+use Rattle.table.proofs.Keeping.{table-sound, sound-table}
+use Rattle.table.proofs.Broken.{by-check, checked-broken, broken-checked, checked-out}
 use Rattle.advice.specs.Advice.{overall, advised}
 use Rattle.advice.specs.declared.Advice.{Advice}
 use Rattle.autocrypt.specs.Refusals.{numberOf}
 use Rattle.autocrypt.specs.Checking.{checkedAs}
-use Rattle.autocrypt.specs.Recommending.{recipientList, refusedRecommending, recommendedOf, numberRecommended}
+use Rattle.autocrypt.specs.Recommending.{recipientList, refusedRecommending, recommendedOf, numberRecommended, Row, one, two, ten, nought}
 use Rattle.autocrypt.specs.declared.Refusal.{Refusal}
 use Rattle.autocrypt.specs.declared.Refusal.the-variants.{TableLength, BrokenSlot, Recipients}
 use Rattle.autocrypt.specs.declared.Recommended.the-variants.{Done, Refused}
 use Rattle.autocrypt.proofs.Refusals.{by-refusal}
 use Rattle.autocrypt.proofs.Recommending.{table-out, list-out, in-order, refused-advice, done-advice}
-
-pub data Row (table recipients : List ℕ) : ℕ → Type 0 where
-  one : whole table ≡ false → Row table recipients 1
-  two : (i : ℕ) → Broken table i → Row table recipients 2
-  ten : SoundTable table → recipientList (addresses recipients) ≡ false → Row table recipients 10
-  nought : SoundTable table → recipientList (addresses recipients) ≡ true → Row table recipients 0
 
 module _ (t s : List ℕ) where
   -- the refusal, by what the table and the list are

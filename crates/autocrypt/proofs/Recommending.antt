@@ -28,10 +28,10 @@ use Rattle.table.specs.Table.{checked}
 use Rattle.table.specs.declared.Checked.{Checked as OfTable}
 use Rattle.table.specs.declared.Checked.the-variants.{Sound as Whole, Length, Slot}
 use Rattle.advice.specs.Advice.{overall, advised}
-use Rattle.advice.specs.Places.{noPart, targetAt, octetsAt}
+use Rattle.advice.specs.Places.{noPart, targetAt, octetsAt, Within}
 use Rattle.advice.specs.declared.Advice.{Advice}
 use Rattle.advice.specs.declared.Part.{Part}
-use Rattle.advice.proofs.Keys.{Within, place-within, place-octets}
+use Rattle.advice.proofs.Keys.{place-within, place-octets}
 use Rattle.autocrypt.specs.Checking.{checkedAs}
 use Rattle.autocrypt.specs.Recommending.{recipientList, refusedBy, refusedRecommending, recommendedBy, recommendedOf, unlessRefused, targetPartOf, targetKeyOf}
 use Rattle.autocrypt.specs.declared.Refusal.{Refusal}

@@ -8,8 +8,9 @@ use mathlib.Core.Bool.{Bool}
 use mathlib.Core.List.{List}
 use Rattle.list.specs.List.{addresses, given}
 use Rattle.table.specs.Table.{checked}
+use Rattle.table.specs.Entries.{Alike}
 use Rattle.table.specs.declared.Checked.the-variants.{Sound}
-use Rattle.advice.proofs.Alike.{Alike, overall-alike, targets-alike}
+use Rattle.advice.proofs.Alike.{overall-alike, targets-alike}
 use Rattle.autocrypt.specs.Recommending.{refusedRecommending, recommendedOf, targetKeyOf}
 
 module _ (t u : List ℕ) (e : checked t ≡ Sound) (f : checked u ≡ Sound) (h : Alike t u) (s : List ℕ) where

@@ -3,14 +3,18 @@
 --     Brought, broughtBy    what a message brings, or why it is refused: 3 to 7
 --     Outcome, processed    the answer, and what the table holds afterwards
 --     numberAfter           the number of an answer
-use Prim.Native.Nat.{ℕ}
+--     InTime .. Readied     what holds where the earlier rows do not
+--     Row                   the rows 1 to 8, each where no earlier one holds, and success
+use Prim.Native.Nat.{ℕ, _<_, _≤_}
+use mathlib.Core.Path.{_≡_}
 use mathlib.Core.Bool.{Bool, true, false}
 use mathlib.Core.List.{List, []}
 use mathlib.Core.Option.{Option, some, none}
 use lib.Dec.{leb}
 use Rattle.header.specs.Header.{FieldText, fieldsOf}
 use Rattle.slots.specs.Slot.{timeLimit}
-use Rattle.table.specs.Table.{checked}
+use Rattle.table.specs.Table.{whole, checked}
+use Rattle.table.specs.Slotwise.{SoundTable, Broken}
 use Rattle.table.specs.declared.Checked.the-variants.{Sound, Length, Slot}
 use Rattle.update.specs.Message.{Message, hasRoom, applied}
 use Rattle.message.specs.Message.{senderIn, isReported}
@@ -90,3 +94,41 @@ processed t receipt outer payload setting =
 abbrev pub numberAfter : Processed → ℕ
 numberAfter Done = 0
 numberAfter (Refused r) = numberOf r
+
+-- When a number is to be given, for `exactly` of proofs/ExactlyProcessing: the row of n holds, and no row above it. Rows 1 to 3 do not hold,
+pub record InTime (t : List ℕ) (receipt : ℕ) : Type 0 where
+  pub sound : SoundTable t
+  pub in-range : receipt ≤ timeLimit
+
+-- nor does row 4, and the outer block has these fields,
+pub record Opened (t : List ℕ) (receipt : ℕ) (outer : List ℕ) (fs : List FieldText) : Type 0 where
+  pub in-time : InTime t receipt
+  pub read : fieldsOf outer ≡ some fs
+
+-- nor row 5, and this is the sender,
+pub record Sent (t : List ℕ) (receipt : ℕ) (outer : List ℕ) (fs : List FieldText) (sender : List ℕ) : Type 0 where
+  pub opened : Opened t receipt outer fs
+  pub sent : senderIn fs ≡ some sender
+
+-- nor rows 6 and 7, and these are the fields in which gossip is looked for
+pub record Readied (t : List ℕ) (receipt : ℕ) (outer payload : List ℕ) (g : Gossip) (fs : List FieldText) (sender : List ℕ) (ps : List FieldText) : Type 0 where
+  pub sent : Sent t receipt outer fs sender
+  pub no-report : isReported fs ≡ false
+  pub gossip : payloadFields g payload ≡ some ps
+
+pub data Row (t : List ℕ) (receipt : ℕ) (outer payload : List ℕ) (g : Gossip) : ℕ → Type 0 where
+  one : whole t ≡ false → Row t receipt outer payload g 1
+  two : (i : ℕ) → Broken t i → Row t receipt outer payload g 2
+  three : SoundTable t → timeLimit < receipt → Row t receipt outer payload g 3
+  four : InTime t receipt → fieldsOf outer ≡ none → Row t receipt outer payload g 4
+  five : (fs : List FieldText) → Opened t receipt outer fs → senderIn fs ≡ none → Row t receipt outer payload g 5
+  six : (fs : List FieldText) (sender : List ℕ) → Sent t receipt outer fs sender → isReported fs ≡ true → Row t receipt outer payload g 6
+  seven :
+      (fs : List FieldText) (sender : List ℕ) → Sent t receipt outer fs sender → isReported fs ≡ false
+      → taken g ≡ true → fieldsOf payload ≡ none → Row t receipt outer payload g 7
+  eight :
+      (fs : List FieldText) (sender : List ℕ) (ps : List FieldText) → Readied t receipt outer payload g fs sender ps
+      → hasRoom t (messageBy receipt sender fs ps) ≡ false → Row t receipt outer payload g 8
+  nought :
+      (fs : List FieldText) (sender : List ℕ) (ps : List FieldText) → Readied t receipt outer payload g fs sender ps
+      → hasRoom t (messageBy receipt sender fs ps) ≡ true → Row t receipt outer payload g 0

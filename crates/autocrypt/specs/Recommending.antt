@@ -5,14 +5,17 @@
 --     recommendedOf                    the answer
 --     targetPartOf, targetKeyOf        the part of the table that is handed back, and the key that it is
 --     numberRecommended                the number of an answer
+--     Row                              the rows 1, 2 and 10, each where no earlier one holds, and success
 use Prim.Native.Nat.{ℕ}
+use mathlib.Core.Path.{_≡_}
 use mathlib.Core.Bool.{Bool, true, false}
 use mathlib.Core.List.{List, []}
 use mathlib.Core.Option.{Option, some, none}
 use lib.ListN.{length, getD}
 use Rattle.address.specs.Address.{oneTo}
 use Rattle.list.specs.List.{addresses, given}
-use Rattle.table.specs.Table.{checked}
+use Rattle.table.specs.Table.{whole, checked}
+use Rattle.table.specs.Slotwise.{SoundTable, Broken}
 use Rattle.advice.specs.Advice.{overall, advised, targets}
 use Rattle.advice.specs.Places.{noPart, targetAt}
 use Rattle.advice.specs.declared.Advice.{Advice}
@@ -69,3 +72,10 @@ targetKeyOf table recipients place = unlessRefused (refusedRecommending table re
 abbrev pub numberRecommended : Recommended → ℕ
 numberRecommended (Done advice) = 0
 numberRecommended (Refused r) = numberOf r
+
+-- when a number is to be given, for `exactly` of proofs/ExactlyRecommending: the row of n holds, and no row above it
+pub data Row (table recipients : List ℕ) : ℕ → Type 0 where
+  one : whole table ≡ false → Row table recipients 1
+  two : (i : ℕ) → Broken table i → Row table recipients 2
+  ten : SoundTable table → recipientList (addresses recipients) ≡ false → Row table recipients 10
+  nought : SoundTable table → recipientList (addresses recipients) ≡ true → Row table recipients 0

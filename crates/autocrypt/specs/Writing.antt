@@ -3,7 +3,9 @@
 --     refusedWriting                 the refusal, or none
 --     writtenOf, leftByWriting       the answer, and what the output holds afterwards
 --     numberIn                       the number of an answer
-use Prim.Native.Nat.{ℕ}
+--     Row                            the rows 9, 11 and 12, each where no earlier one holds, and success
+use Prim.Native.Nat.{ℕ, _<_, _≤_}
+use mathlib.Core.Path.{_≡_}
 use mathlib.Core.Bool.{Bool, true, false}
 use mathlib.Core.List.{List}
 use mathlib.Core.Option.{Option, some, none}
@@ -61,3 +63,10 @@ leftByWriting address key field out = leftBy (refusedWriting address key field (
 abbrev pub numberIn : Written → ℕ
 numberIn (Done n) = 0
 numberIn (Refused r) = numberOf r
+
+-- when a number is to be given, for `exactly` of proofs/Exactly: the row of n holds, and no row above it
+pub data Row (address key field : List ℕ) (room : ℕ) : ℕ → Type 0 where
+  nine : plain address ≡ false → Row address key field room 9
+  eleven : plain address ≡ true → oneTo keyLimit (length key) ≡ false → Row address key field room 11
+  twelve : plain address ≡ true → oneTo keyLimit (length key) ≡ true → room < length field → Row address key field room 12
+  nought : plain address ≡ true → oneTo keyLimit (length key) ≡ true → length field ≤ room → Row address key field room 0

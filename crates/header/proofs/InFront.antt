@@ -1,10 +1,9 @@
 -- A field that is written in front of a text is the first of its fields.
---     isRaw                       a value as a field has it: its last octet is an LF, and space or tab follows each other LF
---     raw-lf, raw-cons, raw-text  how such a value is made
+--     raw-lf, raw-cons, raw-text  how a value as a field has it is made
 --     run-append, raw-append      a run or a value in front of a text ends where the text begins
 --     field-in-front              the fields of name, colon, value and rest are that field and those of the rest
 -- Assumes nothing.
-use Prim.Native.Nat.{ℕ, suc, _+_, _<_, _≤_}
+use Prim.Native.Nat.{ℕ, suc, _<_, _≤_}
 use mathlib.Core.Path.{_≡_, refl, sym, ap, _∙_}
 use mathlib.Core.Bool.{Bool, true, false, not, _&&_, false≢true}
 use mathlib.Core.List.{List, [], _∷_, _++_}
@@ -15,17 +14,13 @@ use lib.ListN.{length, getD}
 use lib.Seq.{take-append-seam, drop-append-seam, drop-append-add, getD-append-seam}
 use Rattle.octets.specs.Octets.{octet}
 use Rattle.header.specs.Header.{lf, ofEnding, over, belongs, runLength, closes, rawLength, opensField, nameOf, afterColon, rawOf, restOf, unfolded, inFront, fields}
+use Rattle.header.specs.Blocks.{isRaw}
 use Rattle.header.specs.declared.Class.{Class}
 use Rattle.header.specs.declared.Class.the-variants.{Name, Blank}
 use Rattle.header.proofs.Telling.{both, ends-other, closes-other, closes-lf}
 use Rattle.header.proofs.Counting.{run-in, run-out, raw-on, raw-last}
 use Rattle.header.proofs.Unfolding.{NoLf}
 use Rattle.header.proofs.Fields.{fields-one}
-
-unfoldable pub isRaw : List ℕ → Bool
-isRaw [] = false
-isRaw (x ∷ []) = eqb x lf
-isRaw (x ∷ y ∷ s) = not (closes x y) && isRaw (y ∷ s)
 
 pub raw-lf : isRaw (lf ∷ []) ≡ true
 unfolding isRaw

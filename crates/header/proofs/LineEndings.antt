@@ -1,7 +1,6 @@
 -- "Lines end in CRLF or LF": which of the two makes no difference to the fields.
---     withCrLf        a CR put before each LF
---     LfAlone         no CR stands directly before an LF
---     line-endings    the fields of such a text are those of the text with CRLF
+--     unfolded-kept   nor to a value without them
+--     line-endings    the fields of a text with LF alone are those of the text with CRLF
 -- Assumes nothing.
 use Prim.Native.Nat.{ℕ, zero, suc, _+_, _≤_}
 use mathlib.Core.Path.{_≡_, refl, sym, ap, _∙_}
@@ -14,18 +13,12 @@ use lib.ListN.{length, getD, take, drop}
 use lib.Seq.{take-at, drop-at, drop-drop, length-take-le}
 use Rattle.octets.specs.Octets.{octet}
 use Rattle.header.specs.Header.{cr, lf, ofEnding, over, belongs, runLength, closes, rawLength, opensField, nameOf, afterColon, rawOf, restOf, unfolded, fields}
+use Rattle.header.specs.Blocks.{withCrLf, LfAlone}
 use Rattle.header.specs.declared.Class.the-variants.{Name, Blank}
 use Rattle.header.proofs.Telling.{both, next-octet, ends-lf, closes-other}
 use Rattle.header.proofs.Counting.{run-in, run-out, run-short, raw-on, raw-last}
 use Rattle.header.proofs.Unfolding.{plain-octet, unfolded-out, unfolded-in, unfolded-crlf}
 use Rattle.header.proofs.Fields.{fields-over, fields-broken, fields-one, rest-short}
-
-unfoldable pub withCrLf : List ℕ → List ℕ
-withCrLf [] = []
-withCrLf (x ∷ s) = elim (eqb x lf) [ true ↦ cr ∷ lf ∷ withCrLf s | false ↦ x ∷ withCrLf s ]
-
-abbrev pub LfAlone : List ℕ → Type 0
-LfAlone s = (i : ℕ) → getD s i 0 ≡ cr → getD s (suc i) 0 ≡ lf → ⊥
 
 alone-drop : (n : ℕ) (s : List ℕ) → LfAlone s → LfAlone (drop n s)
 alone-drop zero s h = h

@@ -1,3 +1,4 @@
 pub mod Header
 pub mod Answers
 pub mod Lines
+pub mod Blocks

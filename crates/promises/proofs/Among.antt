@@ -1,14 +1,11 @@
 -- A field among others.
---     Lines s fs          the text s is whole fields, one behind the other, and fs are these
---     inFrontAll          fields in front of others, where these are readable
 --     opens-plain         a text that opens with a name opens with neither space nor tab
---     fields-among        the fields of such a text and a text behind it are its own and those of the other
+--     fields-among        the fields of whole lines and a text behind them are their own and those of the other
 -- Assumes nothing.
 use Prim.Native.Nat.{ℕ, suc, _<_, _≤_}
 use mathlib.Core.Path.{_≡_, refl, sym, ap, _∙_}
 use mathlib.Core.Bool.{true, false, not, _&&_}
 use mathlib.Core.List.{List, [], _∷_, _++_, append-assoc}
-use mathlib.Core.Option.{Option}
 use native.Mathlib.Omega.{arith}
 use borrow.Author.Tests.{leb-true, ne-eqb}
 use lib.Dec.{leb, eqb}
@@ -17,16 +14,8 @@ use Rattle.octets.specs.Octets.{octet}
 use Rattle.address.proofs.Every.{and-left, by-test}
 use Rattle.header.specs.Header.{belongs, runLength, unfolded, FieldText, inFront, fields}
 use Rattle.header.specs.declared.Class.the-variants.{Name, Blank}
-use Rattle.header.proofs.InFront.{isRaw, field-in-front}
-
-pub data Lines : List ℕ → List FieldText → Type 0 where
-  none : Lines [] []
-  one : (name raw rest : List ℕ) (fs : List FieldText) → runLength Name name ≡ length name → 0 < length name → isRaw raw ≡ true → Lines rest fs
-      → Lines (name ++ (octet ":" ∷ (raw ++ rest))) (record { name = name; value = unfolded raw } ∷ fs)
-
-unfoldable pub inFrontAll : List FieldText → Option (List FieldText) → Option (List FieldText)
-inFrontAll [] others = others
-inFrontAll (f ∷ fs) others = inFront f (inFrontAll fs others)
+use Rattle.header.proofs.InFront.{field-in-front}
+use Rattle.promises.specs.RoundTrip.{Lines, none, one, inFrontAll}
 
 -- a name does not open with space or tab
 name-octet : (x : ℕ) → belongs Name x ≡ true → belongs Blank x ≡ false

@@ -102,7 +102,7 @@ brought-good c o =
     (payload-octets (c .setting) (c .payload) (o .payload))))
     (λ e. rw (broughtBy, e) tt)
 
-call-good : (c : Call) → OctetCall c → (m : Message) → messageIn c ≡ some m → GoodMessage m
+pub call-good : (c : Call) → OctetCall c → (m : Message) → messageIn c ≡ some m → GoodMessage m
 unfolding messageIn messageOf
 call-good c o m e = go (broughtBy (c .receipt) (c .outer) (c .payload) (c .setting)) (brought-good c o) e
   where

@@ -14,9 +14,10 @@ use Rattle.base64.specs.Base64.{laid, lines, cr, lf, space}
 use Rattle.base64.specs.Joined.{ending, spaced, spread, Free}
 use Rattle.address.proofs.Every.{by-test}
 use Rattle.header.specs.Header.{closes, belongs, unfolded}
+use Rattle.header.specs.Blocks.{isRaw}
 use Rattle.header.specs.declared.Class.the-variants.{Blank}
 use Rattle.header.proofs.Unfolding.{NoLf, plain-octet, unfolded-in, unfolded-crlf, unfolded-plain, unfolded-before}
-use Rattle.header.proofs.InFront.{isRaw, raw-lf, raw-cons, raw-text}
+use Rattle.header.proofs.InFront.{raw-lf, raw-cons, raw-text}
 
 -- an octet that is no line ending is neither LF nor CR
 module _ (x : ℕ) (e : ending x ≡ false) where

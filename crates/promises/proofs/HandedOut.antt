@@ -29,9 +29,8 @@ use Rattle.autocrypt.specs.Recommending.{recipientList, refusedBy, refusedRecom
 use Rattle.autocrypt.specs.Writing.{autocryptField, gossipField}
 use Rattle.autocrypt.specs.declared.Gossip.{Gossip}
 use Rattle.autocrypt.specs.declared.Processed.the-variants.{Done}
+use Rattle.promises.specs.RoundTrip.{Writable, Holding, behind, others}
 use Rattle.promises.specs.Standing.{directHalf, gossipHalf, noneAbout}
-use Rattle.promises.proofs.RoundTrip.{Writable}
-use Rattle.promises.proofs.Holding.{Holding, behind, others}
 use Rattle.promises.proofs.WholeTrip.{left-sound, autocrypt-processed, gossip-processed}
 
 pub alone-taken : (t a : List ℕ) → checked t ≡ Sound → plain a ≡ true → targetKeyOf t a 0 ≡ targetIn t a

@@ -1,38 +1,18 @@
 -- A block that holds octets among other whole fields.
---     Holding           where they stand
---     behind, others    the fields behind them, and all but them
---     holding-fields    the fields of such a block, where the octets are read back as one
+--     holding-fields    its fields, where the octets are read back as one
 -- Assumes nothing.
 use Prim.Native.Nat.{ℕ}
 use mathlib.Core.Path.{_≡_, refl, sym, ap, _∙_}
-use mathlib.Core.Bool.{Bool, false}
+use mathlib.Core.Bool.{Bool}
 use mathlib.Core.List.{List, [], _∷_, _++_}
 use mathlib.Core.Option.{Option, some, none}
 use native.Mathlib.Omega.{arith}
 use lib.Dec.{leb}
-use lib.ListN.{length, getD}
+use lib.ListN.{length}
 use Rattle.address.proofs.Every.{by-test}
-use Rattle.header.specs.Header.{limit, belongs, FieldText, inFront, fields, fieldsOf}
-use Rattle.header.specs.declared.Class.the-variants.{Blank}
+use Rattle.header.specs.Header.{limit, FieldText, inFront, fields, fieldsOf}
 use Rattle.message.specs.Message.{readFields}
-use Rattle.promises.proofs.Among.{Lines, inFrontAll}
-use Rattle.promises.proofs.RoundTrip.{ReadsBack}
-
--- whole fields stand in front of them, and what follows does not continue them
-pub record Holding (block octets : List ℕ) : Type 0 where
-  pub front : List ℕ
-  pub before : List FieldText
-  pub whole-fields : Lines front before
-  pub rest : List ℕ
-  pub no-continuation : belongs Blank (getD rest 0 0) ≡ false
-  pub is : block ≡ front ++ (octets ++ rest)
-
-module _ {block octets : List ℕ} (h : Holding block octets) where
-  unfoldable pub behind : List FieldText
-  behind = readFields (fields (h .rest))
-
-  unfoldable pub others : List FieldText
-  others = h .before ++ behind
+use Rattle.promises.specs.RoundTrip.{inFrontAll, ReadsBack, Holding, behind}
 
 -- fields in front of a readable rest
 in-front : (f : FieldText) (o : Option (List FieldText)) (all : List FieldText) → inFront f o ≡ some all → (rest : List FieldText) × ((o ≡ some rest) × (all ≡ f ∷ rest))

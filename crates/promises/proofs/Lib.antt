@@ -9,6 +9,7 @@ pub mod WholeTrip
 pub mod HandedOut
 pub mod WorkedTrip
 pub mod Outcomes
+pub mod Contracts
 pub mod Examples
 pub mod Later
 pub mod Halves
@@ -16,4 +17,5 @@ pub mod Permuting
 pub mod EntryOrder
 pub mod FetchOrder
 pub mod FetchCalls
+pub mod WorkedOrder
 pub mod EachPremise

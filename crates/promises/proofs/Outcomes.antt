@@ -1,6 +1,7 @@
 -- Demand 1: every input has one outcome, and a refusal leaves lent memory as it was.
 --     one-answer, one-outcome       two outcomes that meet the same equations are the same: the general statement
 --     number-unique .. write-gossip-unique    so for each public function
+--     vienghulac-check-unique ..    and for each function of include/vienghulac.h
 --     process-refusal, write-autocrypt-refusal, write-gossip-refusal    what a refusal leaves
 -- That each number is given exactly when its row holds is `exactly` of autocrypt/proofs: Exactly for the writers, ExactlyRecommending and
 -- ExactlyProcessing for the others.
@@ -9,6 +10,7 @@ use Prim.Native.Nat.{ℕ}
 use mathlib.Core.Path.{_≡_, sym, _∙_}
 use mathlib.Core.Bool.{Bool}
 use mathlib.Core.List.{List}
+use borrow.Fn.Claims.{AllOf}
 use Rattle.advice.specs.declared.Part.{Part}
 use Rattle.autocrypt.specs.Writing.{autocryptField, gossipField}
 use Rattle.autocrypt.specs.declared.Refusal.{Refusal}
@@ -21,60 +23,92 @@ use Rattle.autocrypt.specs.declared.Written.{Written}
 use Rattle.autocrypt.specs.declared.Written.the-variants.{Refused as NotWritten}
 use Rattle.autocrypt.proofs.Exactly.{refused-untouched}
 use Rattle.autocrypt.proofs.ExactlyProcessing.{refused-untouched as unprocessed}
+use Rattle.cabi.specs.declared.Answer.{Answer}
+use Rattle.cabi.specs.declared.Advice.{Advice}
+use Rattle.cabi.specs.declared.Part.{Part as PartInC}
+use Rattle.cabi.specs.declared.Written.{Written as WrittenInC}
+use Rattle.promises.specs.OutcomesInC.{VienghulacCheck, VienghulacProcess, VienghulacRecommend, VienghulacTargetKey, VienghulacWriteAutocrypt, VienghulacWriteGossip}
 use Rattle.promises.specs.Outcomes.{Meets, Number, Index, Check, Process, Recommend, TargetPart, TargetKey, WriteAutocrypt, WriteGossip}
 
 pub one-answer : {A : Type 0} (defined r q : A) → r ≡ defined → q ≡ defined → r ≡ q
 one-answer defined r q h k = h ∙ sym k
 
-pub one-outcome : {A : Type 0} (answer : A) (memory : List ℕ) (r q : A) (left other : List ℕ) → Meets answer memory r left → Meets answer memory q other
+pub one-outcome : {A : Type 0} (answer : A) (memory : List ℕ) (r q : A) (left other : List ℕ)
+    → AllOf (Meets answer memory r left) → AllOf (Meets answer memory q other)
     → (r ≡ q) × (left ≡ other)
-one-outcome answer memory r q left other h k = (h .answers ∙ sym (k .answers), h .leaves ∙ sym (k .leaves))
+one-outcome answer memory r q left other h k = (h .0 ∙ sym (k .0), h .1 ∙ sym (k .1))
 
-pub number-unique : (refusal : Refusal) (r q : ℕ) → Number refusal r → Number refusal q → r ≡ q
+pub number-unique : (refusal : Refusal) (r q : ℕ) → AllOf (Number refusal r) → AllOf (Number refusal q) → r ≡ q
 number-unique refusal r q = one-answer _ r q
 
-pub index-unique : (refusal : Refusal) (r q : ℕ) → Index refusal r → Index refusal q → r ≡ q
+pub index-unique : (refusal : Refusal) (r q : ℕ) → AllOf (Index refusal r) → AllOf (Index refusal q) → r ≡ q
 index-unique refusal r q = one-answer _ r q
 
-pub check-unique : (table : List ℕ) (r q : Checked) → Check table r → Check table q → r ≡ q
+pub check-unique : (table : List ℕ) (r q : Checked) → AllOf (Check table r) → AllOf (Check table q) → r ≡ q
 check-unique table r q = one-answer _ r q
 
 pub process-unique : (table : List ℕ) (receipt : ℕ) (outer payload : List ℕ) (gossip : Gossip) (r q : Processed) (left other : List ℕ)
-    → Process table receipt outer payload gossip r left → Process table receipt outer payload gossip q other → (r ≡ q) × (left ≡ other)
+    → AllOf (Process table receipt outer payload gossip r left) → AllOf (Process table receipt outer payload gossip q other) → (r ≡ q) × (left ≡ other)
 process-unique table receipt outer payload gossip r q left other = one-outcome _ _ r q left other
 
 pub recommend-unique : (table recipients : List ℕ) (isMutual reply : Bool) (r q : Recommended)
-    → Recommend table recipients isMutual reply r → Recommend table recipients isMutual reply q → r ≡ q
+    → AllOf (Recommend table recipients isMutual reply r) → AllOf (Recommend table recipients isMutual reply q) → r ≡ q
 recommend-unique table recipients isMutual reply r q = one-answer _ r q
 
 pub target-part-unique : (table recipients : List ℕ) (isMutual reply : Bool) (place : ℕ) (r q : Part)
-    → TargetPart table recipients isMutual reply place r → TargetPart table recipients isMutual reply place q → r ≡ q
+    → AllOf (TargetPart table recipients isMutual reply place r) → AllOf (TargetPart table recipients isMutual reply place q) → r ≡ q
 target-part-unique table recipients isMutual reply place r q = one-answer _ r q
 
 pub target-key-unique : (table recipients : List ℕ) (isMutual reply : Bool) (place : ℕ) (r q : List ℕ)
-    → TargetKey table recipients isMutual reply place r → TargetKey table recipients isMutual reply place q → r ≡ q
-target-key-unique table recipients isMutual reply place r q h k = one-answer _ r q (h .key) (k .key)
+    → AllOf (TargetKey table recipients isMutual reply place r) → AllOf (TargetKey table recipients isMutual reply place q) → r ≡ q
+target-key-unique table recipients isMutual reply place r q h k = one-answer _ r q (h .0) (k .0)
 
 pub write-autocrypt-unique : (address key : List ℕ) (isMutual : Bool) (out : List ℕ) (r q : Written) (left other : List ℕ)
-    → WriteAutocrypt address key isMutual out r left → WriteAutocrypt address key isMutual out q other → (r ≡ q) × (left ≡ other)
+    → AllOf (WriteAutocrypt address key isMutual out r left) → AllOf (WriteAutocrypt address key isMutual out q other) → (r ≡ q) × (left ≡ other)
 write-autocrypt-unique address key isMutual out r q left other = one-outcome _ _ r q left other
 
 pub write-gossip-unique : (address key out : List ℕ) (r q : Written) (left other : List ℕ)
-    → WriteGossip address key out r left → WriteGossip address key out q other → (r ≡ q) × (left ≡ other)
+    → AllOf (WriteGossip address key out r left) → AllOf (WriteGossip address key out q other) → (r ≡ q) × (left ≡ other)
 write-gossip-unique address key out r q left other = one-outcome _ _ r q left other
+
+-- the same in numbers
+pub vienghulac-check-unique : (table : List ℕ) (r q : Answer) → AllOf (VienghulacCheck table r) → AllOf (VienghulacCheck table q) → r ≡ q
+vienghulac-check-unique table r q = one-answer _ r q
+
+pub vienghulac-process-unique : (table : List ℕ) (receipt : ℕ) (outer payload : List ℕ) (gossip : ℕ) (r q : Answer) (left other : List ℕ)
+    → AllOf (VienghulacProcess table receipt outer payload gossip r left) → AllOf (VienghulacProcess table receipt outer payload gossip q other)
+    → (r ≡ q) × (left ≡ other)
+vienghulac-process-unique table receipt outer payload gossip r q left other = one-outcome _ _ r q left other
+
+pub vienghulac-recommend-unique : (table recipients : List ℕ) (isMutual reply : Bool) (r q : Advice)
+    → AllOf (VienghulacRecommend table recipients isMutual reply r) → AllOf (VienghulacRecommend table recipients isMutual reply q) → r ≡ q
+vienghulac-recommend-unique table recipients isMutual reply r q = one-answer _ r q
+
+pub vienghulac-target-key-unique : (table recipients : List ℕ) (isMutual reply : Bool) (place : ℕ) (r q : PartInC)
+    → AllOf (VienghulacTargetKey table recipients isMutual reply place r) → AllOf (VienghulacTargetKey table recipients isMutual reply place q) → r ≡ q
+vienghulac-target-key-unique table recipients isMutual reply place r q = one-answer _ r q
+
+pub vienghulac-write-autocrypt-unique : (address key : List ℕ) (isMutual : Bool) (out : List ℕ) (r q : WrittenInC) (left other : List ℕ)
+    → AllOf (VienghulacWriteAutocrypt address key isMutual out r left) → AllOf (VienghulacWriteAutocrypt address key isMutual out q other)
+    → (r ≡ q) × (left ≡ other)
+vienghulac-write-autocrypt-unique address key isMutual out r q left other = one-outcome _ _ r q left other
+
+pub vienghulac-write-gossip-unique : (address key out : List ℕ) (r q : WrittenInC) (left other : List ℕ)
+    → AllOf (VienghulacWriteGossip address key out r left) → AllOf (VienghulacWriteGossip address key out q other) → (r ≡ q) × (left ≡ other)
+vienghulac-write-gossip-unique address key out r q left other = one-outcome _ _ r q left other
 
 -- "A refusal carries its number .. and writes nothing."
 pub process-refusal : (table : List ℕ) (receipt : ℕ) (outer payload : List ℕ) (gossip : Gossip) (refusal : Refusal) (left : List ℕ)
-    → Process table receipt outer payload gossip (NotProcessed refusal) left → left ≡ table
+    → AllOf (Process table receipt outer payload gossip (NotProcessed refusal) left) → left ≡ table
 process-refusal table receipt outer payload gossip refusal left h =
-    h .leaves ∙ unprocessed table receipt outer payload gossip refusal (sym (h .answers))
+    h .1 ∙ unprocessed table receipt outer payload gossip refusal (sym (h .0))
 
 pub write-autocrypt-refusal : (address key : List ℕ) (isMutual : Bool) (out : List ℕ) (refusal : Refusal) (left : List ℕ)
-    → WriteAutocrypt address key isMutual out (NotWritten refusal) left → left ≡ out
+    → AllOf (WriteAutocrypt address key isMutual out (NotWritten refusal) left) → left ≡ out
 write-autocrypt-refusal address key isMutual out refusal left h =
-    h .leaves ∙ refused-untouched address key (autocryptField address isMutual key) out refusal (h .answers)
+    h .1 ∙ refused-untouched address key (autocryptField address isMutual key) out refusal (h .0)
 
 pub write-gossip-refusal : (address key out : List ℕ) (refusal : Refusal) (left : List ℕ)
-    → WriteGossip address key out (NotWritten refusal) left → left ≡ out
+    → AllOf (WriteGossip address key out (NotWritten refusal) left) → left ≡ out
 write-gossip-refusal address key out refusal left h =
-    h .leaves ∙ refused-untouched address key (gossipField address key) out refusal (h .answers)
+    h .1 ∙ refused-untouched address key (gossipField address key) out refusal (h .0)

@@ -1,8 +1,6 @@
 -- What the writers write is read back.
---     ReadsBack                                   octets that are read as one field, with this name, address, preference and key
---     reads-alone                                 alone they are the only field
---     Writable                                    what a field can be written for: a plain address, and a key of 1 to 2,048 octets
---     written-reads-back                          every such field is read back
+--     reads-alone                                 octets that are read back are alone the only field
+--     written-reads-back                          every field that can be written is read back
 --     autocrypt-reads-back, gossip-reads-back     so is what the two writers leave in front of the output when they answer 0; gossip has no preference
 -- Assumes nothing.
 use Prim.Native.Nat.{ℕ, zero, suc, _<_}
@@ -22,11 +20,11 @@ use Rattle.base64.specs.Joined.{ending, spread, Free}
 use Rattle.base64.proofs.Lengths.{length-encode}
 use Rattle.base64.proofs.RoundTrip.{encode-free, ending-other, one-other, spread-free, spread-read-back}
 use Rattle.address.specs.Pieces.{every}
-use Rattle.address.specs.Address.{oneTo, plain, canonical, addressOctet}
+use Rattle.address.specs.Address.{plain, canonical, addressOctet}
 use Rattle.address.proofs.Every.{and-left, and-right, every-append, every-weaker}
 use Rattle.address.proofs.Sides.{plain-octets, low-apart}
 use Rattle.address.proofs.Spelling.{canonical-twice, plain-canonical}
-use Rattle.header.specs.Header.{over, belongs, runLength, FieldText, inFront, fields}
+use Rattle.header.specs.Header.{over, belongs, runLength, inFront, fields}
 use Rattle.header.specs.declared.Class.the-variants.{Name, Blank}
 use Rattle.header.proofs.Unfolding.{NoLf}
 use Rattle.header.proofs.Fields.{fields-over}
@@ -35,10 +33,11 @@ use Rattle.keyfield.specs.Field.{keyLimit, limited, keyOf, fieldOf}
 use Rattle.keyfield.proofs.ReadBack.{other, valueOf, read-back-key}
 use Rattle.writer.specs.Writing.{preference, fieldText, written}
 use Rattle.promises.proofs.Folded.{folded-raw, folded-value}
-use Rattle.autocrypt.specs.Writing.{autocryptField, gossipField, writtenOf, leftByWriting, numberIn}
+use Rattle.autocrypt.specs.Writing.{autocryptField, gossipField, writtenOf, leftByWriting, numberIn, Row, nought}
 use Rattle.autocrypt.specs.declared.Written.the-variants.{Done}
-use Rattle.autocrypt.proofs.Exactly.{Row, nought, exactly, done-length, done-there}
-use Rattle.promises.proofs.Among.{Lines, none as no-lines, inFrontAll, opens-plain, fields-among}
+use Rattle.autocrypt.proofs.Exactly.{exactly, done-length, done-there}
+use Rattle.promises.specs.RoundTrip.{none as no-lines, inFrontAll, ReadsBack, Writable}
+use Rattle.promises.proofs.Among.{opens-plain, fields-among}
 
 -- a text that `every` finds without LF has none
 no-lf : (s : List ℕ) → every (other lf) s ≡ true → NoLf s
@@ -59,27 +58,12 @@ address-no-lf a p = every-weaker addressOctet (other lf) apart a (plain-octets a
     apart : (x : ℕ) → addressOctet x ≡ true → other lf x ≡ true
     apart x e = ap not (ne-eqb x lf (λ q. false≢true (sym (low-apart lf (omega arith)) ∙ ap addressOctet (sym q) ∙ e)))
 
--- Octets that are read back: among whole fields, and before a text that does not open with space or tab, they are one field, which has this
--- name, and its value says this address in canonical form, this preference and this key.
-pub record ReadsBack (name address key : List ℕ) (m : Bool) (octets : List ℕ) : Type 0 where
-  pub found : FieldText
-  pub named : found .name ≡ name
-  pub says : fieldOf (found .value) ≡ some (record { address = canonical address; isMutual = m; key = key })
-  pub among : (s : List ℕ) (fs : List FieldText) → Lines s fs → (rest : List ℕ) → belongs Blank (getD rest 0 0) ≡ false
-      → fields (s ++ (octets ++ rest)) ≡ inFrontAll fs (inFront found (fields rest))
-
 -- alone they are the only field
 pub reads-alone : (name address key octets : List ℕ) (m : Bool) (r : ReadsBack name address key m octets) → fields octets ≡ some (r .found ∷ [])
 unfolding inFrontAll inFront belongs over
 reads-alone name address key octets m r =
     let e : fields (octets ++ []) ≡ inFront (r .found) (fields []) = r .among [] [] no-lines [] refl in
     ap fields (sym (append-nil octets)) ∙ e ∙ rw (fields-over [] refl)
-
--- what a field can be written for
-pub record Writable (address key : List ℕ) : Type 0 where
-  pub plainly : plain address ≡ true
-  pub octets : AllOctets key
-  pub limit : oneTo keyLimit (length key) ≡ true
 
 module _ (address key : List ℕ) (m : Bool) (w : Writable address key) where
   -- the value before its lines, and the text that they are

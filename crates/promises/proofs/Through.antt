@@ -16,10 +16,10 @@ use Rattle.update.specs.Message.{entryAfter}
 use Rattle.message.specs.Message.{fieldsIn, senderIn}
 use Rattle.message.proofs.Asking.{fields-are}
 use Rattle.delivery.specs.Delivery.{messageBy}
-use Rattle.autocrypt.specs.Processing.{payloadFields, processed, numberAfter}
+use Rattle.autocrypt.specs.Processing.{payloadFields, processed, numberAfter, Row, nought}
 use Rattle.autocrypt.specs.declared.Gossip.{Gossip}
 use Rattle.autocrypt.specs.declared.Processed.the-variants.{Done}
-use Rattle.autocrypt.proofs.ExactlyProcessing.{Row, nought, exactly, processed-keeps, processed-octets, done-entry}
+use Rattle.autocrypt.proofs.ExactlyProcessing.{exactly, processed-keeps, processed-octets, done-entry}
 
 pub record Through (t : List ℕ) (receipt : ℕ) (outer payload : List ℕ) (setting : Gossip) : Type 0 where
   pub outer-read : fieldsOf outer ≡ some (fieldsIn outer)

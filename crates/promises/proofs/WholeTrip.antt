@@ -33,9 +33,10 @@ use Rattle.autocrypt.specs.declared.Gossip.{Gossip}
 use Rattle.autocrypt.specs.declared.Processed.the-variants.{Done}
 use Rattle.autocrypt.specs.declared.Written.the-variants.{Done as Wrote}
 use Rattle.autocrypt.proofs.Processing.{fields-taken}
+use Rattle.promises.specs.RoundTrip.{ReadsBack, Writable, Holding, behind, others}
 use Rattle.promises.specs.Standing.{directHalf, gossipHalf, HasDirect, HasGossip, noneAbout}
-use Rattle.promises.proofs.RoundTrip.{ReadsBack, Writable, written-reads-back, autocrypt-reads-back, gossip-reads-back}
-use Rattle.promises.proofs.Holding.{Holding, behind, others, holding-fields}
+use Rattle.promises.proofs.RoundTrip.{written-reads-back, autocrypt-reads-back, gossip-reads-back}
+use Rattle.promises.proofs.Holding.{holding-fields}
 use Rattle.promises.proofs.Through.{Through, done-through}
 use Rattle.promises.proofs.Standing.{Held, sender-there, direct-set, direct-kept, gossip-there, gossip-set, gossip-kept}
 

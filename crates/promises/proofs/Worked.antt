@@ -4,8 +4,8 @@ use mathlib.Core.List.{[], _∷_}
 use native.Mathlib.Omega.{arith}
 use Rattle.octets.specs.Octets.{ascii}
 use Rattle.header.specs.Header.{belongs, runLength, closes, ofEnding, unfolded}
-use Rattle.header.proofs.InFront.{isRaw}
-use Rattle.promises.proofs.Among.{Lines, none, one}
+use Rattle.header.specs.Blocks.{isRaw}
+use Rattle.promises.specs.RoundTrip.{Lines, none, one}
 
 two-fields : Lines (ascii "To: x@y\r\nAutocrypt: addr=a@b.example; keydata=\r\n Zm9v\r\n")
     (record { name = ascii "To"; value = ascii " x@y" } ∷ record { name = ascii "Autocrypt"; value = ascii " addr=a@b.example; keydata= Zm9v" } ∷ [])

@@ -18,7 +18,7 @@ use Rattle.octets.proofs.Joined.{replicate-octets}
 use Rattle.tokens.specs.Tokens as tokens
 use Rattle.base64.specs.Base64 as base64
 use Rattle.header.specs.Header as header
-use Rattle.header.proofs.InFront.{isRaw}
+use Rattle.header.specs.Blocks.{isRaw}
 use Rattle.address.specs.Pieces as pieces
 use Rattle.address.specs.Pieces.{every}
 use Rattle.address.specs.Address as address
@@ -36,27 +36,25 @@ use Rattle.update.specs.Update as update
 use Rattle.update.specs.Message as brought
 use Rattle.message.specs.Message as message
 use Rattle.delivery.specs.Delivery as delivery
-use Rattle.autocrypt.specs.Processing.{taken, payloadFields, Outcome, processed}
+use Rattle.autocrypt.specs.Processing.{taken, payloadFields, Outcome, processed, Readied}
 use Rattle.autocrypt.specs.Recommending.{targetKeyOf}
 use Rattle.autocrypt.specs.Writing.{autocryptField}
 use Rattle.autocrypt.specs.declared.Gossip.the-variants.{Unset}
 use Rattle.autocrypt.specs.declared.Processed.the-variants.{Done}
-use Rattle.autocrypt.proofs.ExactlyProcessing.{Readied, done-outcome}
+use Rattle.autocrypt.proofs.ExactlyProcessing.{done-outcome}
+use Rattle.promises.specs.RoundTrip.{one, none as no-lines, Writable, Holding, behind, others}
 use Rattle.promises.specs.Standing.{directHalf}
-use Rattle.promises.proofs.Among.{one, none as no-lines}
-use Rattle.promises.proofs.RoundTrip.{Writable}
-use Rattle.promises.proofs.Holding.{Holding, behind, others}
 use Rattle.promises.proofs.WholeTrip.{autocrypt-processed}
 use Rattle.promises.proofs.HandedOut.{key-handed-out}
 
 -- octets that a test finds to be octets
-tested : (s : List ℕ) → every (λ x. leb x 255) s ≡ true → AllOctets s
+pub tested : (s : List ℕ) → every (λ x. leb x 255) s ≡ true → AllOctets s
 unfolding pieces.every
 tested [] e i = omega arith
 tested (x ∷ s) e zero = let l = leb-true x 255 (and-left (leb x 255) (every (λ y. leb y 255) s) e) in omega arith
 tested (x ∷ s) e (suc i) = tested s (and-right (leb x 255) (every (λ y. leb y 255) s) e) i
 
-abbrev free : List ℕ
+abbrev pub free : List ℕ
 free = replicate 4392 0
 
 abbrev address-given : List ℕ

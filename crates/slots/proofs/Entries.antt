@@ -28,7 +28,8 @@ use Rattle.slots.specs.Slot.{slotLength, addressRoom, keyLimit, part, od
 use Rattle.slots.specs.Entry.{Direct, Gossip, Entry, present, orElse, isPresent, noDirect, noGossip, entryOf, numbersFor, bitsOf, opening, times, lengths, head, padded, areas, slotOf, seenBy, withDirect, withGossip, numbersSeen, numbersDirect, numbersGossip}
 use Rattle.slots.proofs.Parts.{follows, put-front, put-over, put-behind}
 use Rattle.slots.proofs.Heads.{length-head, length-padded}
-use Rattle.slots.proofs.Sounds.{Sound, sound-parts}
+use Rattle.slots.specs.Facts.{Sound}
+use Rattle.slots.proofs.Sounds.{sound-parts}
 
 pub canonical-most : (a : List ℕ) → isCanonical a ≡ true → length a ≤ 254
 unfolding isCanonical

@@ -16,7 +16,7 @@ use Rattle.octets.proofs.Lists.{take-octets, drop-octets}
 use Rattle.address.specs.Address.{isCanonical}
 use Rattle.slots.specs.Slot.{slotLength, timeLimit, hasLastSeen, hasDirect, hasGossip, isMutual, lastSeen, timestamp, gossipTimestamp, addressLength, addressArea, directLength, gossipLength, directArea, gossipArea, addressOf, directKeyOf, gossipKeyOf}
 use Rattle.slots.specs.Entry.{Direct, Gossip, Entry, present, orElse, entryOf, newcomer, seenBy, withDirect, withGossip, GoodKey, GoodDirect, GoodGossip, GoodHalf, Good}
-use Rattle.slots.proofs.Sounds.{Sound}
+use Rattle.slots.specs.Facts.{Sound}
 use Rattle.slots.proofs.Entries.{direct-long, gossip-long}
 use Rattle.slots.proofs.Made.{good-seen}
 

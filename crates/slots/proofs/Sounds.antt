@@ -1,10 +1,9 @@
 -- What a sound slot satisfies, as facts.
---     Sound s                 the conditions
---     sound-parts             a slot that the test calls sound has them
+--     sound-parts             a slot that the test calls sound has the conditions of `Sound`
 --     marked-not-free         a slot with a mark is not free
 --     unmarked-not-sound      and one without is not sound
 -- Assumes nothing.
-use Prim.Native.Nat.{ℕ, _-_, _<_, _≤_}
+use Prim.Native.Nat.{ℕ, _≤_}
 use mathlib.Core.Path.{_≡_, refl, sym, _∙_}
 use mathlib.Core.Bool.{Bool, true, false, not, _&&_, _||_, false≢true}
 use mathlib.Core.List.{List, [], _∷_}
@@ -14,10 +13,10 @@ use lib.Dec.{leb, ltb, eqb}
 use lib.ListN.{drop}
 use Rattle.octets.specs.Octets.{allZero}
 use Rattle.octets.proofs.Comparing.{same-true}
-use Rattle.address.specs.Address.{canonical, isCanonical}
 use Rattle.address.proofs.Every.{and-left, and-right}
 use Rattle.slots.specs.declared.Slot.{Slot}
-use Rattle.slots.specs.Slot.{keyLimit, timeLimit, mark, part, oneTo, addressLength, bits, hasLastSeen, hasDirect, hasGossip, isMutual, lastSeen, timestamp, gossipTimestamp, directLength, gossipLength, addressArea, directArea, gossipArea, addressOf, numbersOf, free, marked, canonicalAddress, clear, inRange, lengthsInRange, absentZero, zeroPast, mutualDirect, directSeen, sound}
+use Rattle.slots.specs.Facts.{Sound}
+use Rattle.slots.specs.Slot.{keyLimit, timeLimit, mark, part, oneTo, addressLength, bits, hasLastSeen, hasDirect, hasGossip, isMutual, lastSeen, timestamp, gossipTimestamp, directLength, gossipLength, addressArea, directArea, gossipArea, numbersOf, free, marked, canonicalAddress, clear, inRange, lengthsInRange, absentZero, zeroPast, mutualDirect, directSeen, sound}
 
 -- tests joined by "and", "or" and "implies"
 pub all-three : (a b c : Bool) → (a && b && c) ≡ true → (a ≡ true) × (b ≡ true) × (c ≡ true)
@@ -46,26 +45,6 @@ otherwise false b h e = h
 pub implied : (a b : Bool) → (not a || b) ≡ true → a ≡ true → b ≡ true
 implied true b h e = h
 implied false b h e = absurd (false≢true e)
-
-pub record Sound (s : List ℕ) : Type 0 where
-  pub opens : part 0 1 s ≡ mark
-  pub canonical : isCanonical (addressOf s) ≡ true
-  pub low : bits s < 16
-  pub zeros : allZero (part 5 7 s) ≡ true
-  pub zeros-too : allZero (part 36 39 s) ≡ true
-  pub seen-range : lastSeen s ≤ timeLimit
-  pub direct-range : timestamp s ≤ timeLimit
-  pub gossip-range : gossipTimestamp s ≤ timeLimit
-  pub direct-length : hasDirect s ≡ true → (1 ≤ directLength s) × (directLength s ≤ keyLimit)
-  pub gossip-length : hasGossip s ≡ true → (1 ≤ gossipLength s) × (gossipLength s ≤ keyLimit)
-  pub no-seen : hasLastSeen s ≡ false → lastSeen s ≡ 0
-  pub no-direct : hasDirect s ≡ false → (timestamp s ≡ 0) × (directLength s ≡ 0)
-  pub no-gossip : hasGossip s ≡ false → (gossipTimestamp s ≡ 0) × (gossipLength s ≡ 0)
-  pub past-address : allZero (drop (addressLength s) (addressArea s)) ≡ true
-  pub past-direct : allZero (drop (directLength s) (directArea s)) ≡ true
-  pub past-gossip : allZero (drop (gossipLength s) (gossipArea s)) ≡ true
-  pub no-mutual : hasDirect s ≡ false → isMutual s ≡ false
-  pub direct-seen : hasDirect s ≡ true → (hasLastSeen s ≡ true) × (timestamp s ≤ lastSeen s)
 
 -- a length of 1 to 2,048; two numbers that are zero
 in-one-to : (n : ℕ) → oneTo keyLimit n ≡ true → (1 ≤ n) × (n ≤ keyLimit)

@@ -1,7 +1,6 @@
 -- Refusals 1 and 2, as facts: what the answer of the check says of the table, and back.
 --     by-check                           one of the three answers of the check
---     Broken t i                         slot i is the lowest that is neither free nor sound, in a table of whole slots
---     checked-broken, broken-checked     the check answers the slot i exactly where this holds
+--     checked-broken, broken-checked     the check answers the slot i exactly where it is the lowest broken one
 --     checked-out                        and the length only where it is not that of 1 to 256 whole slots
 -- Assumes nothing.
 use Prim.Native.Nat.{ℕ, suc, zero, _+_, _<_, _≤_}
@@ -13,6 +12,7 @@ use native.Mathlib.Omega.{arith}
 use Rattle.octets.proofs.Lists.{lt-or-le}
 use Rattle.address.proofs.Every.{by-test}
 use Rattle.table.specs.Table.{slots, right, whole, judged, checked}
+use Rattle.table.specs.Slotwise.{Broken}
 use Rattle.table.specs.declared.Checked.{Checked}
 use Rattle.table.specs.declared.Checked.the-variants.{Sound, Length, Slot}
 use Rattle.table.proofs.Judging.{judged-on, judged-here, checked-slots, checked-length}
@@ -21,12 +21,6 @@ pub by-check : {P : Type 0} (c : Checked) → (c ≡ Sound → P) → (c ≡ Len
 by-check Sound a b d = a refl
 by-check Length a b d = b refl
 by-check (Slot i) a b d = d i refl
-
-pub record Broken (t : List ℕ) (i : ℕ) : Type 0 where
-  pub whole-slots : whole t ≡ true
-  pub within : i < slots t
-  pub not-right : right t i ≡ false
-  pub lower : (j : ℕ) → j < i → right t j ≡ true
 
 -- the first of the k slots from slot i on that is not right
 record First (t : List ℕ) (i k j : ℕ) : Type 0 where

@@ -1,5 +1,4 @@
 -- A sound table, and that writing a good entry keeps it sound.
---     SoundTable              of whole slots, each of them right
 --     table-sound, sound-table    what the check tells, and back
 --     used-sound, unused-free     its used slots are sound and its other slots free
 --     alone                   no two slots have one address
@@ -25,16 +24,13 @@ use Rattle.slots.specs.Entry.{Entry, slotOf, Good}
 use Rattle.slots.proofs.Sounds.{marked-not-free, unmarked-not-sound}
 use Rattle.slots.proofs.Made.{slot-long, slot-sound, address-kept}
 use Rattle.table.specs.Table.{slots, slotAt, withSlot, holds, lowest, isAt, inLower, right, whole, judged, checked, found}
+use Rattle.table.specs.Slotwise.{SoundTable}
 use Rattle.table.specs.declared.Checked.the-variants.{Sound, Length, Slot}
 use Rattle.table.specs.declared.Found.{Found}
 use Rattle.table.specs.declared.Found.the-variants.{At, Nothing}
 use Rattle.table.proofs.Slots.{length-kept, slots-kept, slot-same, slot-other}
 use Rattle.table.proofs.Judging.{judged-on, judged-here, checked-slots, checked-length}
 use Rattle.table.proofs.Finding.{lowest-nothing, lowest-none, found-at, found-nothing, holds-used, holds-address}
-
-pub record SoundTable (t : List ℕ) : Type 0 where
-  pub whole-slots : whole t ≡ true
-  pub each : (i : ℕ) → i < slots t → right t i ≡ true
 
 module _ (t : List ℕ) where
   judged-each : (i k : ℕ) → judged t i k ≡ Sound → (m : ℕ) → i ≤ m → m < i + k → right t m ≡ true

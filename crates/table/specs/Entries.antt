@@ -1,6 +1,8 @@
 -- What a table holds of an address, whichever slot that stands in.
 --     entryIn    the entry of an address, none where it has none
+--     Alike      two tables hold the same of every address
 use Prim.Native.Nat.{ℕ}
+use mathlib.Core.Path.{_≡_}
 use mathlib.Core.List.{List}
 use mathlib.Core.Option.{Option, some, none}
 use Rattle.slots.specs.Entry.{Entry, entryOf}
@@ -9,3 +11,7 @@ use Rattle.table.specs.declared.Found.the-variants.{At, Nothing}
 
 unfoldable pub entryIn : List ℕ → List ℕ → Option Entry
 entryIn t a = elim (found t a) [ At i ↦ some (entryOf (slotAt t i)) | Nothing ↦ none ]
+
+-- whichever slots it stands in: a word of statements, which no contract cites
+abbrev pub Alike : List ℕ → List ℕ → Type 0
+Alike t u = (a : List ℕ) → entryIn t a ≡ entryIn u a

@@ -1,0 +1,61 @@
+-- The words of demand 2: what can be written, what it is to read it back, and where it stands in a block.
+--     Writable          what a field can be written for: a plain address, and a key of 1 to 2,048 octets
+--     Lines s fs        the text s is whole fields, one behind the other, and fs are these
+--     inFrontAll        fields in front of others, where these are readable
+--     ReadsBack         octets that are read as one field, with this name, address, preference and key
+--     Holding           a block that holds octets among other whole fields: where they stand
+--     behind, others    the fields behind them, and all but them
+use Prim.Native.Nat.{ℕ, _<_}
+use mathlib.Core.Path.{_≡_}
+use mathlib.Core.Bool.{Bool, true, false}
+use mathlib.Core.List.{List, [], _∷_, _++_}
+use mathlib.Core.Option.{Option, some}
+use lib.ListN.{length, getD}
+use Rattle.octets.specs.Octets.{octet, AllOctets}
+use Rattle.header.specs.Header.{belongs, runLength, unfolded, FieldText, inFront, fields}
+use Rattle.header.specs.Blocks.{isRaw}
+use Rattle.header.specs.declared.Class.the-variants.{Name, Blank}
+use Rattle.address.specs.Address.{oneTo, plain, canonical}
+use Rattle.keyfield.specs.Field.{keyLimit, fieldOf}
+use Rattle.message.specs.Message.{readFields}
+
+-- what a field can be written for
+pub record Writable (address key : List ℕ) : Type 0 where
+  pub plainly : plain address ≡ true
+  pub octets : AllOctets key
+  pub limit : oneTo keyLimit (length key) ≡ true
+
+-- a field is its name, a colon and a value with its line endings
+pub data Lines : List ℕ → List FieldText → Type 0 where
+  none : Lines [] []
+  one : (name raw rest : List ℕ) (fs : List FieldText) → runLength Name name ≡ length name → 0 < length name → isRaw raw ≡ true → Lines rest fs
+      → Lines (name ++ (octet ":" ∷ (raw ++ rest))) (record { name = name; value = unfolded raw } ∷ fs)
+
+unfoldable pub inFrontAll : List FieldText → Option (List FieldText) → Option (List FieldText)
+inFrontAll [] others = others
+inFrontAll (f ∷ fs) others = inFront f (inFrontAll fs others)
+
+-- Octets that are read back: among whole fields, and before a text that does not open with space or tab, they are one field, which has this
+-- name, and its value says this address in canonical form, this preference and this key.
+pub record ReadsBack (name address key : List ℕ) (m : Bool) (octets : List ℕ) : Type 0 where
+  pub found : FieldText
+  pub named : found .name ≡ name
+  pub says : fieldOf (found .value) ≡ some (record { address = canonical address; isMutual = m; key = key })
+  pub among : (s : List ℕ) (fs : List FieldText) → Lines s fs → (rest : List ℕ) → belongs Blank (getD rest 0 0) ≡ false
+      → fields (s ++ (octets ++ rest)) ≡ inFrontAll fs (inFront found (fields rest))
+
+-- whole fields stand in front of them, and what follows does not continue them
+pub record Holding (block octets : List ℕ) : Type 0 where
+  pub front : List ℕ
+  pub before : List FieldText
+  pub whole-fields : Lines front before
+  pub rest : List ℕ
+  pub no-continuation : belongs Blank (getD rest 0 0) ≡ false
+  pub is : block ≡ front ++ (octets ++ rest)
+
+module _ {block octets : List ℕ} (h : Holding block octets) where
+  unfoldable pub behind : List FieldText
+  behind = readFields (fields (h .rest))
+
+  unfoldable pub others : List FieldText
+  others = h .before ++ behind

@@ -1,0 +1,30 @@
+-- What a sound slot satisfies, as facts: `sound` of Slot.antt, condition by condition, for statements about slots.
+--     Sound s    the conditions
+use Prim.Native.Nat.{ℕ, _<_, _≤_}
+use mathlib.Core.Path.{_≡_}
+use mathlib.Core.Bool.{true, false}
+use mathlib.Core.List.{List}
+use lib.ListN.{drop}
+use Rattle.octets.specs.Octets.{allZero}
+use Rattle.address.specs.Address.{isCanonical}
+use Rattle.slots.specs.Slot.{keyLimit, timeLimit, mark, part, addressLength, bits, hasLastSeen, hasDirect, hasGossip, isMutual, lastSeen, timestamp, gossipTimestamp, directLength, gossipLength, addressArea, directArea, gossipArea, addressOf}
+
+pub record Sound (s : List ℕ) : Type 0 where
+  pub opens : part 0 1 s ≡ mark
+  pub canonical : isCanonical (addressOf s) ≡ true
+  pub low : bits s < 16
+  pub zeros : allZero (part 5 7 s) ≡ true
+  pub zeros-too : allZero (part 36 39 s) ≡ true
+  pub seen-range : lastSeen s ≤ timeLimit
+  pub direct-range : timestamp s ≤ timeLimit
+  pub gossip-range : gossipTimestamp s ≤ timeLimit
+  pub direct-length : hasDirect s ≡ true → (1 ≤ directLength s) × (directLength s ≤ keyLimit)
+  pub gossip-length : hasGossip s ≡ true → (1 ≤ gossipLength s) × (gossipLength s ≤ keyLimit)
+  pub no-seen : hasLastSeen s ≡ false → lastSeen s ≡ 0
+  pub no-direct : hasDirect s ≡ false → (timestamp s ≡ 0) × (directLength s ≡ 0)
+  pub no-gossip : hasGossip s ≡ false → (gossipTimestamp s ≡ 0) × (gossipLength s ≡ 0)
+  pub past-address : allZero (drop (addressLength s) (addressArea s)) ≡ true
+  pub past-direct : allZero (drop (directLength s) (directArea s)) ≡ true
+  pub past-gossip : allZero (drop (gossipLength s) (gossipArea s)) ≡ true
+  pub no-mutual : hasDirect s ≡ false → isMutual s ≡ false
+  pub direct-seen : hasDirect s ≡ true → (hasLastSeen s ≡ true) × (timestamp s ≤ lastSeen s)
