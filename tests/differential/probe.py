@@ -119,16 +119,12 @@ class Probe(Bound):
 
     # base64
 
-    def decode(self, text: bytes, out: bytes, name: str = "probe_decode") -> tuple[int, int, bytes]:
-        """kind 0: so many octets; 1: no Base64; 2: too little room"""
+    def decode(self, text: bytes, out: bytes) -> tuple[int, bytes] | None:
+        """The number of octets, and the buffer; None for no Base64 or too little room: then the buffer means nothing."""
         lent = Lent(out)
-        r = self._call(name, Answer, _read + _write, text, len(text), *lent.words())
-        return r.kind, r.value, lent.now()
-
-    def decode_once(self, text: bytes, out: bytes) -> tuple[int, int, bytes]:
-        """As above, with the octets alone: what the memory holds behind them, and after a refusal, means nothing."""
-        kind, value, now = self.decode(text, out, "probe_decode_once")
-        return kind, value, now[:value]
+        r = self._call("probe_decode", Answer, _read + _write, text, len(text), *lent.words())
+        now = lent.now()
+        return (r.value, now) if r.kind == 0 else None
 
     def lines(self, key: bytes, out: bytes, at: int) -> tuple[int, int, bytes]:
         """kind 0: the place behind the lines; 2: too little room"""

@@ -20,8 +20,8 @@ TEXTS = [base64.encode(octets) for octets in PLAIN] + [
     b" Zm 9v\t", b"Z\tg = =", b"Zm9v\r", b"Zm9-", b"Zm_v", b"//79", b"\xffm9v",
 ]
 
-# lines of 76 characters: 57 octets fill one; the empty line is no case of its own
-KEYS = [b"f", b"foo", b"a" * 56, b"b" * 57, b"c" * 58, b"d" * 114, b"e" * 115]
+# lines of 76 characters: 57 octets fill one; no octets have no line, and so are no case
+KEYS = PLAIN[1:] + [b"a" * 56, b"b" * 57, b"c" * 58, b"d" * 114, b"e" * 115]
 
 COMMENTS = [
     b"", b"x", b" \t x", b"(a)b", b"(a", b"a)", b"(a(b)c) (d)e", b"(\\))x", b"(\\", b"(\\()x", b'(")x', b"(\x7f)", b"(\x01)",

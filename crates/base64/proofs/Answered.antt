@@ -1,33 +1,31 @@
 -- What callers ask of the answers.
 --     Stands, stands       a text and the octets that it stands for, group by group
---     decode-length        a text stands for at most three octets for every four characters
 --     decode-octets        what a text stands for is octets
---     octets-answered, wrong-answered, full-answered    what each answer says of the text
---     octets-left, wrong-left, full-left, left-length    and of the memory after it
---     octets-held          the same where only the octets count
+--     octets-answered, refused-answered    what each answer says of the text
+--     octets-held          what the memory holds where octets were answered
 -- Assumes nothing.
-use Prim.Native.Nat.{ℕ, zero, suc, _*_, _%_, _<_, _≤_}
+use Prim.Native.Nat.{ℕ, zero, suc, _%_, _<_, _≤_}
 use mathlib.Core.Path.{_≡_, refl}
 use mathlib.Core.Bool.{Bool, true, false, cond}
-use mathlib.Core.List.{List, [], _∷_, _++_}
+use mathlib.Core.List.{List, [], _∷_}
 use mathlib.Core.Option.{Option, some, none}
 use native.Mathlib.Omega.{arith}
-use borrow.Author.Tests.{leb-true, leb-false, le-leb, lt-leb}
+use borrow.Author.Tests.{leb-true, leb-false}
 use lib.Dec.{leb, eqb}
-use lib.ListN.{length, drop, length-append, length-drop}
+use lib.ListN.{length}
 use Rattle.octets.specs.Octets.{AllOctets}
 use Rattle.octets.specs.Written.{onto}
 use Rattle.base64.specs.Base64.{signOf, closed, grouped, groupOf, atEnd, follow, decode}
-use Rattle.base64.specs.Answers.{decodedOf, octetsIn, leftIn, Decodes}
-use Rattle.base64.specs.Steps.{Low}
+use Rattle.base64.specs.Answers.{decodedOf, octetsIn, Decodes}
+use Rattle.base64.specs.Steps.{Low, NoneFit}
 use Rattle.base64.proofs.Alphabet.{by-test, below}
-use Rattle.base64.proofs.Filling.{behind-three}
+use Rattle.base64.proofs.Filling.{behind-three, nothing-fits}
 use Rattle.base64.specs.declared.Sign.{Sign}
 use Rattle.base64.specs.declared.Sign.the-variants.{Value, Pad, Other}
 use Rattle.base64.specs.declared.Group.{Group}
 use Rattle.base64.specs.declared.Group.the-variants.{Three, Two, One, Broken}
 use Rattle.base64.specs.declared.Decoded.{Decoded}
-use Rattle.base64.specs.declared.Decoded.the-variants.{Octets, NotBase64, NoRoom}
+use Rattle.base64.specs.declared.Decoded.the-variants.{Octets, Refused}
 
 -- a text and the octets that it stands for, group by group
 pub data Stands : List ℕ → List ℕ → Type 0 where
@@ -56,15 +54,6 @@ stands (a ∷ []) w e = let z : _≡_ {A = ℕ} 0 1 = cc in absurd (omega arith)
 stands (a ∷ b ∷ []) w e = let z : _≡_ {A = ℕ} 0 1 = cc in absurd (omega arith)
 stands (a ∷ b ∷ c ∷ []) w e = let z : _≡_ {A = ℕ} 0 1 = cc in absurd (omega arith)
 stands (a ∷ b ∷ c ∷ d ∷ t) w e = stands-by a b c d w (groupOf a b c d) refl t (λ v q. stands t v q) e
-
-long : {t w : List ℕ} → Stands t w → length w * 4 ≤ length t * 3
-long nothing = omega arith
-long (three q r) = omega (arith, long r)
-long (two q) = omega arith
-long (one q) = omega arith
-
-pub decode-length : (t w : List ℕ) → decode t ≡ some w → length w * 4 ≤ length t * 3
-decode-length t w e = long (stands t w e)
 
 -- the octets of a group
 OctetsOf : Group → Type 0
@@ -130,52 +119,21 @@ unfolding decodedOf octetsIn
 octets-answered none room n e = let z : _≡_ {A = ℕ} 0 1 = cc in absurd (omega arith)
 octets-answered (some w) room n e = go (leb (length w) room) refl e
   where
-    go : (b : Bool) → leb (length w) room ≡ b → Octets n ≡ cond b (Octets (length w)) NoRoom
+    go : (b : Bool) → leb (length w) room ≡ b → Octets n ≡ cond b (Octets (length w)) Refused
         → (some w ≡ some w) × (length w ≡ n) × (n ≤ room)
     go true t q = let r : length w ≡ n = cc in (refl, r, omega (arith, leb-true (length w) room t))
     go false t q = let z : _≡_ {A = ℕ} 0 1 = cc in absurd (omega arith)
 
-pub wrong-answered : (o : Option (List ℕ)) (room : ℕ) → NotBase64 ≡ decodedOf o room → o ≡ none
+pub refused-answered : (o : Option (List ℕ)) (room : ℕ) → Refused ≡ decodedOf o room → NoneFit o room
 unfolding decodedOf
-wrong-answered none room e = refl
-wrong-answered (some w) room e = go (leb (length w) room) e
+refused-answered none room e = nothing-fits room
+refused-answered (some w) room e = go (leb (length w) room) refl e
   where
-    go : (b : Bool) → NotBase64 ≡ cond b (Octets (length w)) NoRoom → some w ≡ none
-    go true q = cc
-    go false q = cc
-
-pub full-answered : (o : Option (List ℕ)) (room : ℕ) → NoRoom ≡ decodedOf o room → (o ≡ some (octetsIn o)) × (room < length (octetsIn o))
-unfolding decodedOf octetsIn
-full-answered none room e = let z : _≡_ {A = ℕ} 0 1 = cc in absurd (omega arith)
-full-answered (some w) room e = go (leb (length w) room) refl e
-  where
-    go : (b : Bool) → leb (length w) room ≡ b → NoRoom ≡ cond b (Octets (length w)) NoRoom → (some w ≡ some w) × (room < length w)
+    go : (b : Bool) → leb (length w) room ≡ b → Refused ≡ cond b (Octets (length w)) Refused → NoneFit (some w) room
     go true t q = let z : _≡_ {A = ℕ} 0 1 = cc in absurd (omega arith)
-    go false t q = (refl, leb-false (length w) room t)
+    go false t q = record { over = λ v r. let e : w ≡ v = cc in rw e at (leb-false (length w) room t) }
 
 -- the memory after them
-module _ (o : Option (List ℕ)) (d : List ℕ) where
-  pub octets-left : (n : ℕ) → Octets n ≡ decodedOf o (length d) → leftIn o d ≡ onto (octetsIn o) d
-  unfolding leftIn octetsIn
-  octets-left n e = let r = octets-answered o (length d) n e in rw (r .0, le-leb (length (octetsIn o)) (length d) (omega arith))
-
-  pub wrong-left : NotBase64 ≡ decodedOf o (length d) → leftIn o d ≡ d
-  unfolding leftIn
-  wrong-left e = rw (wrong-answered o (length d) e)
-
-  pub full-left : NoRoom ≡ decodedOf o (length d) → leftIn o d ≡ d
-  unfolding leftIn
-  full-left e = let r = full-answered o (length d) e in rw (r .0, lt-leb (length (octetsIn o)) (length d) (r .1))
-
-pub octets-held : (o : Option (List ℕ)) (d out : List ℕ) (r : Decoded) (n : ℕ) → Decodes o d out r → r ≡ Octets n → out ≡ leftIn o d
+pub octets-held : (o : Option (List ℕ)) (d out : List ℕ) (r : Decoded) (n : ℕ) → Decodes o d out r → r ≡ Octets n → out ≡ onto (octetsIn o) d
 unfolding Decodes
 octets-held o d out r n h e = rw e at h
-
-pub left-length : (o : Option (List ℕ)) (d : List ℕ) → length (leftIn o d) ≡ length d
-unfolding leftIn onto
-left-length none d = refl
-left-length (some w) d = go (leb (length w) (length d)) refl
-  where
-    go : (b : Bool) → leb (length w) (length d) ≡ b → length (cond b (w ++ drop (length w) d) d) ≡ length d
-    go true t = simp (length-append, length-drop) (omega (arith, leb-true (length w) (length d) t))
-    go false t = refl

@@ -2,8 +2,8 @@
 --     behind-three        what a text stands for behind its first octets
 --     run-blanks, run-then, run-last    what is read and written: blanks, one run behind another, the last octets
 --     decoded, decodes    what is answered where all is written, and what the memory then holds
---     the rulesets        grouping for `write_groups`, turning for `write_next`, refusing for `refusal`, filling for `write` and
---                         `decode_once`, answering for `decode`
+--     none-decoded        and what is answered where it had no room, or stands for nothing
+--     the rulesets        grouping for `write_groups`, turning for `write_next`, filling for `write`
 -- Assumes nothing.
 use Prim.Native.Nat.{ℕ, _+_, _-_, _<_, _≤_}
 use mathlib.Core.Path.{_≡_, refl, sym, ap, _∙_}
@@ -19,19 +19,16 @@ use Rattle.octets.proofs.Lists.{drop-done}
 use Rattle.base64.proofs.Blanks.{without-none}
 use Rattle.base64.proofs.Putting.{put-long, put-both, over-none, over-one, over-two}
 use Rattle.base64.specs.Base64.{before, decode, blank, withoutBlanks}
-use Rattle.base64.specs.Answers.{decodedOf, leftIn, octetsIn, Decodes}
-use Rattle.base64.specs.Steps.{NextPlace, NextGroup, WholeGroup, Run, TooLong, Onward, TurnedTo, Turned, sizeOf, refused}
-use Rattle.base64.proofs.Measuring.{nearer-whole, read-whole, read-three, read-two, read-one, read-end, read-broken}
+use Rattle.base64.specs.Answers.{decodedOf, octetsIn, Decodes}
+use Rattle.base64.specs.Steps.{NextPlace, NextGroup, WholeGroup, Run, NoneFit, Onward, TurnedTo, Turned}
+use Rattle.base64.proofs.Nexts.{nearer-whole, read-whole, read-three, read-two, read-one, read-end, read-broken}
 use Rattle.base64.specs.declared.Next.{Next}
 use Rattle.base64.specs.declared.Next.the-variants.{Three, Two, One, End, Broken}
 use Rattle.base64.specs.declared.Whole.{Whole}
 use Rattle.base64.specs.declared.Whole.the-variants.{Three as WThree}
 use Rattle.base64.specs.declared.Turn.{Turn}
-use Rattle.base64.specs.declared.Turn.the-variants.{On, Last, Broken as TBroken, Full}
-use Rattle.base64.specs.declared.Size.{Size}
-use Rattle.base64.specs.declared.Size.the-variants.{Of, Wrong}
-use Rattle.base64.specs.declared.Decoded.{Decoded}
-use Rattle.base64.specs.declared.Decoded.the-variants.{Octets, NotBase64, NoRoom}
+use Rattle.base64.specs.declared.Turn.the-variants.{On, Last, Refused as TRefused}
+use Rattle.base64.specs.declared.Decoded.the-variants.{Octets, Refused}
 
 -- what a text stands for, where it goes on with three octets
 pub behind-three : (w v : List ℕ) (o : Option (List ℕ)) → before w o ≡ some v → (o ≡ some (octetsIn o)) × (v ≡ w ++ octetsIn o)
@@ -116,17 +113,20 @@ last-octets : (s : List ℕ) (at : ℕ) (v : List ℕ) → decode (withoutBlanks
 unfolding before decode
 last-octets s at v e = rw (e, drop-done s (length s) (omega arith), without-none blank, append-nil)
 
-too-long : (s : List ℕ) (at : ℕ) (v : List ℕ) (o : Option (List ℕ)) (room : ℕ) → decode (withoutBlanks (drop at s)) ≡ before v o → room < length v
-    → TooLong s at room
-too-long s at v o room e l = record {
-  over = λ w q. let r = behind-three v w o (sym e ∙ q) in omega (arith, ap length (r .1), length-append v (octetsIn o));
+-- octets that go on with v, where not even v has room
+too-long : (v : List ℕ) (o : Option (List ℕ)) (room : ℕ) → room < length v → NoneFit (before v o) room
+too-long v o room l = record {
+  over = λ w q. let r = behind-three v w o q in omega (arith, ap length (r .1), length-append v (octetsIn o));
 }
+
+pub nothing-fits : (room : ℕ) → NoneFit none room
+nothing-fits room = record { over = λ w q. let z : _≡_ {A = ℕ} 0 1 = cc in absurd (omega arith) }
 
 module _ (s : List ℕ) (at : ℕ) (d : List ℕ) (to : ℕ) (l : at ≤ length s) (k : to ≤ length d) (g : Next) (h : NextGroup s at g) where
   module _ (x y z n : ℕ) (e : g ≡ Three x y z n) where
-    pub three-full : length d - to < 3 → Turned s at d to d Full
+    pub three-full : length d - to < 3 → Turned s at d to d TRefused
     unfolding TurnedTo
-    three-full m = record { same = refl; says = too-long s at (x ∷ y ∷ z ∷ []) _ _ (read-three s at g h x y z n e .0) m }
+    three-full m = record { same = refl; says = rw (read-three s at g h x y z n e .0) (too-long (x ∷ y ∷ z ∷ []) _ _ m) }
 
     pub three-on : 3 ≤ length d - to → (out : List ℕ) → out ≡ putAt d to (x ∷ y ∷ z ∷ []) → Turned s at d to out (On n (to + 3))
     unfolding TurnedTo
@@ -137,9 +137,9 @@ module _ (s : List ℕ) (at : ℕ) (d : List ℕ) (to : ℕ) (l : at ≤ length 
 
   -- its last octets
   module _ (v : List ℕ) (e : decode (withoutBlanks (drop at s)) ≡ some v) where
-    last-full : length d - to < length v → Turned s at d to d Full
+    last-full : length d - to < length v → Turned s at d to d TRefused
     unfolding TurnedTo
-    last-full m = record { same = refl; says = too-long s at v _ _ (last-octets s at v e) m }
+    last-full m = record { same = refl; says = rw (last-octets s at v e) (too-long v _ _ m) }
 
     last-run : to + length v ≤ length d → (out : List ℕ) → out ≡ putAt d to v → Turned s at d to out (Last (to + length v))
     unfolding TurnedTo
@@ -148,7 +148,7 @@ module _ (s : List ℕ) (at : ℕ) (d : List ℕ) (to : ℕ) (l : at ≤ length 
         record { same = run-long s at d to out (length s) (to + length v) f; says = f }
 
   module _ (x y : ℕ) (e : g ≡ Two x y) where
-    pub two-full : length d - to < 2 → Turned s at d to d Full
+    pub two-full : length d - to < 2 → Turned s at d to d TRefused
     two-full m = last-full (x ∷ y ∷ []) (read-two s at g h x y e) m
 
     pub two-last : 2 ≤ length d - to → Turned s at d to (set (set d to x) (to + 1) y) (Last (to + 2))
@@ -158,7 +158,7 @@ module _ (s : List ℕ) (at : ℕ) (d : List ℕ) (to : ℕ) (l : at ≤ length 
     two-room m = simp length-set (omega arith)
 
   module _ (x : ℕ) (e : g ≡ One x) where
-    pub one-full : length d - to < 1 → Turned s at d to d Full
+    pub one-full : length d - to < 1 → Turned s at d to d TRefused
     one-full m = last-full (x ∷ []) (read-one s at g h x e) m
 
     pub one-last : 1 ≤ length d - to → Turned s at d to (set d to x) (Last (to + 1))
@@ -169,45 +169,17 @@ module _ (s : List ℕ) (at : ℕ) (d : List ℕ) (to : ℕ) (l : at ≤ length 
       let z : to + 0 ≡ to = omega arith in
       rw z at (last-run [] (read-end s at g h e) (omega arith) d (over-none d to))
 
-  pub turned-broken : g ≡ Broken → Turned s at d to d TBroken
+  pub turned-broken : g ≡ Broken → Turned s at d to d TRefused
   unfolding TurnedTo
-  turned-broken e = record { same = refl; says = read-broken s at g h e }
+  turned-broken e = record { same = refl; says = rw (read-broken s at g h e) (nothing-fits _) }
 
 pub ruleset turning = (three-full, three-on, two-full, two-room, two-last, one-full, one-last, none-last, turned-broken, needs)
 
--- a text by its size
-is-wrong : (o : Option (List ℕ)) → sizeOf o ≡ Wrong → o ≡ none
-unfolding sizeOf
-is-wrong none e = refl
-is-wrong (some w) e = cc
-
-is-sized : (o : Option (List ℕ)) (n : ℕ) → sizeOf o ≡ Of n → (o ≡ some (octetsIn o)) × (length (octetsIn o) ≡ n)
-unfolding sizeOf octetsIn
-is-sized none n e = let z : _≡_ {A = ℕ} 0 1 = cc in absurd (omega arith)
-is-sized (some w) n e = (refl, cc)
-
--- `refusal`
-module _ (o : Option (List ℕ)) (r : Size) (e : r ≡ sizeOf o) where
-  pub refused-wrong : r ≡ Wrong → NotBase64 ≡ refused o
-  unfolding refused
-  refused-wrong p = rw (is-wrong o (sym e ∙ p))
-
-  pub refused-full : (n : ℕ) → r ≡ Of n → NoRoom ≡ refused o
-  unfolding refused
-  refused-full n p = rw (is-sized o n (sym e ∙ p) .0)
-
-pub ruleset refusing = (refused-wrong, refused-full, needs)
-
 -- `write`
-refused-long : (o : Option (List ℕ)) (room : ℕ) → ((w : List ℕ) → o ≡ some w → room < length w) → refused o ≡ decodedOf o room
-unfolding refused decodedOf
-refused-long none room h = refl
-refused-long (some w) room h = rw (lt-leb (length w) room (h w refl))
-
-refused-holds : (o : Option (List ℕ)) (d out : List ℕ) → Decodes o d out (refused o)
-unfolding refused Decodes
-refused-holds none d out = tt
-refused-holds (some w) d out = tt
+none-decoded : (o : Option (List ℕ)) (room : ℕ) → NoneFit o room → Refused ≡ decodedOf o room
+unfolding decodedOf
+none-decoded none room h = refl
+none-decoded (some w) room h = rw (lt-leb (length w) room (h .over w refl))
 
 module _ (s d out : List ℕ) (i o : ℕ) (h : Run s 0 d 0 out i o) (out₁ : List ℕ) (j p : ℕ) (k : Run s i out o out₁ j p)
     (out₂ : List ℕ) (g : Turn) (t : Turned s j out₁ p out₂ g) where
@@ -245,55 +217,22 @@ module _ (s d out : List ℕ) (i o : ℕ) (h : Run s 0 d 0 out i o) (out₁ : Li
     decoded = rw (all-octets, le-leb _ _ all-there) (ap Octets (all-run .counts ∙ zero-add _))
 
     pub decodes : Decodes (decode (withoutBlanks s)) d out₂ (Octets n)
-    unfolding Decodes leftIn onto putAt
-    decodes = rw (all-octets, le-leb _ _ all-there) (all-run .writes ∙ rw zero-add)
+    unfolding Decodes octetsIn onto putAt
+    decodes = rw all-octets (all-run .writes ∙ rw zero-add)
 
-  pub broken : g ≡ TBroken → NotBase64 ≡ decodedOf (decode (withoutBlanks s)) (length d)
-  unfolding TurnedTo before decodedOf
-  broken e = rw (both .reads, rw e at (t .says))
+  pub refused : g ≡ TRefused → Refused ≡ decodedOf (decode (withoutBlanks s)) (length d)
+  unfolding TurnedTo
+  refused e =
+      let z : NoneFit (decode (withoutBlanks (drop j s))) (length out₁ - p) = rw e at (t .says) in
+      none-decoded _ (length d)
+      record {
+        over = λ w u.
+            let f = behind-three (both .octets) w _ (sym (both .reads) ∙ u) in
+            omega (arith, z .over _ (f .0), ap length (f .1), length-append (both .octets) (octetsIn (decode (withoutBlanks (drop j s)))), both .counts, run-long s 0 d 0 out₁ j p both);
+      }
 
-  module _ (e : g ≡ Full) (r : Decoded) (q : r ≡ refused (decode (withoutBlanks s))) where
-    pub full : r ≡ decodedOf (decode (withoutBlanks s)) (length d)
-    unfolding TurnedTo
-    full =
-        let z : TooLong s j (length out₁ - p) = rw e at (t .says) in
-        q ∙ refused-long _ (length d)
-        λ w u.
-        let f = behind-three (both .octets) w _ (sym (both .reads) ∙ u) in
-        omega (arith, z .over _ (f .0), ap length (f .1), length-append (both .octets) (octetsIn (decode (withoutBlanks (drop j s)))), both .counts, run-long s 0 d 0 out₁ j p both)
-
-pub full-holds : (o : Option (List ℕ)) (d out : List ℕ) (r : Decoded) → r ≡ refused o → Decodes o d out r
-full-holds o d out r q = rw q (refused-holds o d out)
-
-pub broken-holds : (o : Option (List ℕ)) (d out : List ℕ) → Decodes o d out NotBase64
+pub refused-holds : (o : Option (List ℕ)) (d out : List ℕ) → Decodes o d out Refused
 unfolding Decodes
-broken-holds o d out = tt
+refused-holds o d out = tt
 
-pub ruleset filling = (run-none, run-then, run-upto, run-room, run-long, run-nearer, turned-long, turned-on, turned-nearer, decoded, decodes, broken, broken-holds, full, full-holds, needs)
-
--- `decode`, by what was measured
-module _ (o : Option (List ℕ)) (r : Size) (e : r ≡ sizeOf o) where
-  pub not-base64 : (room : ℕ) → r ≡ Wrong → NotBase64 ≡ decodedOf o room
-  unfolding decodedOf
-  not-base64 room p = rw (is-wrong o (sym e ∙ p))
-
-  pub left-wrong : (d : List ℕ) → r ≡ Wrong → d ≡ leftIn o d
-  unfolding leftIn
-  left-wrong d p = rw (is-wrong o (sym e ∙ p))
-
-  module _ (n : ℕ) (p : r ≡ Of n) where
-    pub no-room : (room : ℕ) → room < n → NoRoom ≡ decodedOf o room
-    unfolding decodedOf
-    no-room room l = let q = is-sized o n (sym e ∙ p) in rw (q .0, lt-leb (length (octetsIn o)) room (omega arith))
-
-    pub left-no-room : (d : List ℕ) → length d < n → d ≡ leftIn o d
-    unfolding leftIn
-    left-no-room d l = let q = is-sized o n (sym e ∙ p) in rw (q .0, lt-leb (length (octetsIn o)) (length d) (omega arith))
-
-    pub left-octets : (d : List ℕ) → n ≤ length d → (g : Decoded) → g ≡ decodedOf o (length d) → (out : List ℕ) → Decodes o d out g → out ≡ leftIn o d
-    unfolding decodedOf Decodes
-    left-octets d l g u out t =
-        let q = is-sized o n (sym e ∙ p) in
-        rw (u, q .0, le-leb (length (octetsIn o)) (length d) (omega arith), ← q .0) at t
-
-pub ruleset answering = (not-base64, left-wrong, no-room, left-no-room, left-octets, needs)
+pub ruleset filling = (run-none, run-then, run-upto, run-room, run-long, run-nearer, turned-long, turned-on, turned-nearer, decoded, decodes, refused, refused-holds, needs)

@@ -2,7 +2,6 @@ pub mod Alphabet
 pub mod Groups
 pub mod Blanks
 pub mod Nexts
-pub mod Measuring
 pub mod Putting
 pub mod Filling
 pub mod Lengths

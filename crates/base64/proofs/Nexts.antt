@@ -1,23 +1,27 @@
 -- What a text goes on with: its next letters, its next group.
 --     got, ended       what an answer of `next_letter` says of the text
 --     decode-short, decode-four    one step of the rule
+--     read-three .. read-broken    what an answer of `next_group` says of the text
+--     read-whole       and what one of `whole_group` says
 --     the rulesets     stepping for `step`, spacing for `next_group`, nearing for `whole_group`
 -- Assumes nothing.
 use Prim.Native.Nat.{ℕ, _+_, _-_, _*_, _/_, _%_, _<_, _≤_}
 use mathlib.Core.Path.{_≡_, refl, sym, ap}
 use mathlib.Core.Bool.{Bool, true, false}
 use mathlib.Core.List.{List, [], _∷_}
+use mathlib.Core.Option.{some, none}
 use native.Mathlib.Omega.{arith}
 use borrow.Author.Needs.{needs}
 use lib.ListN.{length, getD, drop}
 use Rattle.octets.proofs.Lists.{drop-one}
 use Rattle.base64.proofs.Alphabet.{found-value}
 use Rattle.base64.proofs.Blanks.{without-other, blank-other}
-use Rattle.base64.specs.Base64.{signOf, closed, grouped, groupOf, atEnd, follow, decode, blank, withoutBlanks}
+use Rattle.base64.specs.Base64.{signOf, closed, grouped, groupOf, before, atEnd, follow, decode, blank, withoutBlanks}
 use Rattle.base64.specs.Steps.{codeOf, NextLetter, stepOf, NextGroup, WholeGroup}
 use Rattle.base64.specs.declared.Sign.the-variants.{Value}
 use Rattle.base64.specs.declared.Group.{Group}
 use Rattle.base64.specs.declared.Group.the-variants.{Three as GThree, Two as GTwo, One as GOne, Broken as GBroken}
+use Rattle.base64.specs.declared.Whole.{Whole}
 use Rattle.base64.specs.declared.Whole.the-variants.{Three as WThree, Other as WOther}
 use Rattle.base64.specs.declared.Letter.{Letter}
 use Rattle.base64.specs.declared.Letter.the-variants.{End as Over, At}
@@ -161,3 +165,35 @@ unfolding WholeGroup
 whole-other s at = tt
 
 pub ruleset nearing = (whole-three, whole-other, needs)
+
+-- `next_group`'s answer, read
+module _ (s : List ℕ) (at : ℕ) (g : Next) (h : NextGroup s at g) where
+  pub read-three : (x y z n : ℕ) → g ≡ Three x y z n
+      → (decode (withoutBlanks (drop at s)) ≡ before (x ∷ y ∷ z ∷ []) (decode (withoutBlanks (drop n s)))) × (at + 4 ≤ n) × (n ≤ length s)
+  unfolding NextGroup
+  read-three x y z n e = rw e at h
+
+  pub read-two : (x y : ℕ) → g ≡ Two x y → decode (withoutBlanks (drop at s)) ≡ some (x ∷ y ∷ [])
+  unfolding NextGroup
+  read-two x y e = rw e at h
+
+  pub read-one : (x : ℕ) → g ≡ One x → decode (withoutBlanks (drop at s)) ≡ some (x ∷ [])
+  unfolding NextGroup
+  read-one x e = rw e at h
+
+  pub read-end : g ≡ End → decode (withoutBlanks (drop at s)) ≡ some []
+  unfolding NextGroup
+  read-end e = rw e at h
+
+  pub read-broken : g ≡ Broken → decode (withoutBlanks (drop at s)) ≡ none
+  unfolding NextGroup
+  read-broken e = rw e at h
+
+-- `whole_group`'s answer, read
+module _ (s : List ℕ) (at : ℕ) (w : Whole) (h : WholeGroup s at w) (x y z : ℕ) (e : w ≡ WThree x y z) where
+  pub read-whole : NextGroup s at (Three x y z (at + 4))
+  unfolding WholeGroup
+  read-whole = rw e at h
+
+  pub nearer-whole : length s - (at + 4) < length s - at
+  nearer-whole = let r = read-three s at _ read-whole x y z (at + 4) refl in omega arith

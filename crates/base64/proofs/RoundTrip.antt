@@ -2,15 +2,14 @@
 --     decode-encode          the text of octets decodes to them
 --     encode-alphabetic      it has letters, digits, "+", "/" and "=" alone, and so
 --     encode-free            none of its characters passes a test that only other characters pass: no blank, CR, LF or ";"
---     without-free           a text in which no character passes a test stays what it is without those that do
 --     joined-lines           the lines of a text, unfolded, are the text with a space before each 76 characters
 --     without-spread         which is the text, with blanks removed
 --     spread-free            and in which no character passes a test that neither a space nor one of the text's passes
---     without-encode, joined-encode, spread-encode    the three of them at the text of octets
+--     joined-encode, spread-encode    both of them at the text of octets
 --     spread-read-back, lines-read-back    it decodes to the octets, and so do the written lines
 -- Assumes nothing.
 use Prim.Native.Nat.{ℕ, zero, suc, _+_, _*_, _/_, _%_, _<_, _≤_}
-use mathlib.Core.Path.{_≡_, refl, ap, _∙_}
+use mathlib.Core.Path.{_≡_, refl, ap}
 use mathlib.Core.Bool.{Bool, true, false}
 use mathlib.Core.List.{List, [], _∷_}
 use mathlib.Core.Option.{some}
@@ -23,7 +22,7 @@ use Rattle.octets.proofs.Lists.{lt-or-le}
 use Rattle.base64.specs.Base64.{letter, signOf, closed, grouped, groupOf, before, atEnd, follow, decode, without, blank, withoutBlanks, encode, space, laid, lines}
 use Rattle.base64.specs.Joined.{ending, joined, spaced, spread, Free, Alphabetic}
 use Rattle.base64.proofs.Alphabet.{sign-of-letter}
-use Rattle.base64.proofs.Blanks.{either-other, blank-other, without-other, without-none}
+use Rattle.base64.proofs.Blanks.{either-other, blank-other, without-other}
 use Rattle.base64.specs.declared.Sign.the-variants.{Value, Other}
 use Rattle.base64.specs.declared.Group.the-variants.{Three, Two, One}
 
@@ -108,11 +107,6 @@ ending-other x e = either-other 13 10 refl refl x e
 pub one-other : (c : ℕ) → signOf c ≡ Other → (x : ℕ) → eqb x c ≡ true → signOf x ≡ Other
 one-other c h x e = rw (eqb-true x c e) h
 
-pub without-free : (test : ℕ → Bool) (t : List ℕ) → Free test t → without test t ≡ t
-unfolding Free
-without-free test [] h = without-none test
-without-free test (x ∷ t) h = without-other test x t (h .0) ∙ ap (λ r. x ∷ r) (without-free test t (h .1))
-
 -- lines, unfolded
 joined-laid : (k : ℕ) (t : List ℕ) → Free ending t → joined (laid k t) ≡ spaced k t
 unfolding Free laid spaced without ending
@@ -154,9 +148,6 @@ module _ (test : ℕ → Bool) (e : test space ≡ false) where
 
 -- what is written reads back
 module _ (s : List ℕ) where
-  pub without-encode : withoutBlanks (encode s) ≡ encode s
-  without-encode = without-free blank (encode s) (encode-free blank blank-other s)
-
   pub joined-encode : joined (lines (encode s)) ≡ spread (encode s)
   joined-encode = joined-lines (encode s) (encode-free ending ending-other s)
 

@@ -8,9 +8,8 @@
 --     NextGroup        what `next_group` answers
 --     WholeGroup       what `whole_group` answers
 --     Run              what `write_groups` answers: a text has been read a way, and its octets are written
+--     NoneFit          what is refused: octets that have no room, or none at all
 --     Turned           what `write_next` answers
---     sizeOf           how many octets a text stands for
---     refused          what `refusal` answers
 use Prim.Native.Nat.{ℕ, _+_, _-_, _<_, _≤_}
 use mathlib.Core.Path.{_≡_}
 use mathlib.Core.Bool.{false}
@@ -30,11 +29,7 @@ use Rattle.base64.specs.declared.Next.the-variants.{Three, Two, One, End
 use Rattle.base64.specs.declared.Whole.{Whole}
 use Rattle.base64.specs.declared.Whole.the-variants.{Three as WThree, Other as WOther}
 use Rattle.base64.specs.declared.Turn.{Turn}
-use Rattle.base64.specs.declared.Turn.the-variants.{On, Last, Broken as TBroken, Full}
-use Rattle.base64.specs.declared.Decoded.{Decoded}
-use Rattle.base64.specs.declared.Decoded.the-variants.{NotBase64, NoRoom}
-use Rattle.base64.specs.declared.Size.{Size}
-use Rattle.base64.specs.declared.Size.the-variants.{Of, Wrong}
+use Rattle.base64.specs.declared.Turn.the-variants.{On, Last, Refused}
 
 pub record Letters (table : List ℕ) : Type 0 where
   pub at : (v : ℕ) → v < 64 → getD table v 0 ≡ letter v
@@ -89,10 +84,6 @@ unfoldable pub WholeGroup : List ℕ → ℕ → Whole → Type 0
 WholeGroup s at (WThree x y z) = NextGroup s at (Three x y z (at + 4))
 WholeGroup s at WOther = Unit
 
-unfoldable pub sizeOf : Option (List ℕ) → Size
-sizeOf none = Wrong
-sizeOf (some w) = Of (length w)
-
 -- s has been read from the place `at` up to the place i, and the octets that stand there are written over d from the place `to` up to the place o
 pub record Run (s : List ℕ) (at : ℕ) (d : List ℕ) (to : ℕ) (out : List ℕ) (i o : ℕ) : Type 0 where
   pub octets : List ℕ
@@ -103,9 +94,9 @@ pub record Run (s : List ℕ) (at : ℕ) (d : List ℕ) (to : ℕ) (out : List �
   pub room : o ≤ length d
   pub onward : at ≤ i
 
--- what s stands for from the place `at` on, where that is Base64, has no room in so much
-pub record TooLong (s : List ℕ) (at room : ℕ) : Type 0 where
-  pub over : (w : List ℕ) → decode (withoutBlanks (drop at s)) ≡ some w → room < length w
+-- o holds no octets that have room in so much
+pub record NoneFit (o : Option (List ℕ)) (room : ℕ) : Type 0 where
+  pub over : (w : List ℕ) → o ≡ some w → room < length w
 
 pub record Onward (s : List ℕ) (at : ℕ) (d : List ℕ) (to : ℕ) (out : List ℕ) (i o : ℕ) : Type 0 where
   pub run : Run s at d to out i o
@@ -114,14 +105,8 @@ pub record Onward (s : List ℕ) (at : ℕ) (d : List ℕ) (to : ℕ) (out : Lis
 unfoldable pub TurnedTo : List ℕ → ℕ → List ℕ → ℕ → List ℕ → Turn → Type 0
 TurnedTo s at d to out (On i o) = Onward s at d to out i o
 TurnedTo s at d to out (Last n) = Run s at d to out (length s) n
-TurnedTo s at d to out TBroken = decode (withoutBlanks (drop at s)) ≡ none
-TurnedTo s at d to out Full = TooLong s at (length d - to)
+TurnedTo s at d to out Refused = NoneFit (decode (withoutBlanks (drop at s))) (length d - to)
 
 pub record Turned (s : List ℕ) (at : ℕ) (d : List ℕ) (to : ℕ) (out : List ℕ) (r : Turn) : Type 0 where
   pub same : length out ≡ length d
   pub says : TurnedTo s at d to out r
-
--- a text whose octets have no room
-unfoldable pub refused : Option (List ℕ) → Decoded
-refused none = NotBase64
-refused (some w) = NoRoom

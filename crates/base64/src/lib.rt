@@ -6,8 +6,8 @@ ghost use mathlib.Core.List.{[], _∷_};
 ghost use lib.ListN.{length, drop};
 ghost use Rattle.octets.specs.Written.{putAt};
 ghost use Rattle.base64.specs.Base64.{letter, signOf, closed, groupOf, decode as octetsOf, blank, withoutBlanks};
-ghost use Rattle.base64.specs.Answers.{decodedOf, leftIn, Decodes};
-ghost use Rattle.base64.specs.Steps.{Letters, codeOf, Signs, Low, NextPlace, NextLetter, stepOf, NextGroup, WholeGroup, Run, Turned, sizeOf, refused};
+ghost use Rattle.base64.specs.Answers.{decodedOf, Decodes};
+ghost use Rattle.base64.specs.Steps.{Letters, codeOf, Signs, Low, NextPlace, NextLetter, stepOf, NextGroup, WholeGroup, Run, Turned};
 
 // What a character stands for.
 pub enum Sign {
@@ -24,11 +24,10 @@ pub enum Group {
     Broken,
 }
 
-// What decoding answers: how many octets it wrote, or why it wrote none.
+// What decoding answers: how many octets it wrote, or that the text is no Base64 or stands for more than there is room for.
 pub enum Decoded {
     Octets(usize),
-    NotBase64,
-    NoRoom,
+    Refused,
 }
 
 // The next character that is no blank, with the place behind it.
@@ -60,18 +59,11 @@ struct Reached {
 }
 
 // What writing comes to, with a group more: it goes on, as far read and written; it has written so many octets, and the text is
-// at its end; or the text is not Base64, or has more octets than there is room for.
+// at its end; or the text is no Base64, or has more octets than there is room for.
 enum Turn {
     On(usize, usize),
     Last(usize),
-    Broken,
-    Full,
-}
-
-// How many octets a text stands for.
-enum Size {
-    Of(usize),
-    Wrong,
+    Refused,
 }
 
 // The letter of each value. Looking letters up, where the values are as good as random, takes about a tenth of the time of
@@ -281,9 +273,9 @@ fn bits(p: u8, q: u8, r: u8, s: u8) -> u32
     (p as u32) * 262144 + (q as u32) * 4096 + (r as u32) * 64 + (s as u32)
 }
 
-// The octets of the four characters from the place `at` on, where all are letters. Nearly all groups of a text are such: its
-// loops take them by this, where no character is compared with a blank and no answer goes through memory, and call `next_group`
-// for the others.
+// The octets of the four characters from the place `at` on, where all are letters. Nearly all groups of a text are such: they
+// are taken by this, where no character is compared with a blank and no answer goes through memory, and the others by
+// `next_group`.
 fn whole_group(table: &[u8; 256], src: &[u8], at: usize) -> Whole
     requires { ⌜ Signs (now table) × (at ≤ length (now src)) ⌝ }
     ensures { λ r. ⌜ WholeGroup (now (src .entry)) at r ⌝ }
@@ -309,32 +301,6 @@ fn whole_group(table: &[u8; 256], src: &[u8], at: usize) -> Whole
     }
     let n = bits(p, q, r, s);
     Whole::Three((n / 65536) as u8, (n / 256 % 256) as u8, (n % 256) as u8)
-}
-
-// How many octets the text stands for.
-fn measure(table: &[u8; 256], src: &[u8]) -> Size
-    requires { ⌜ Signs (now table) ⌝ }
-    ensures { λ r. ⌜ r ≡ sizeOf (octetsOf (withoutBlanks (now (src .entry)))) ⌝ }
-{
-    let mut n: usize = 0;
-    let mut i: usize = 0;
-    loop {
-        if let Whole::Three(_, _, _) = whole_group(table, src, i) {
-            n += 3;
-            i += 4;
-            continue;
-        }
-        match next_group(table, src, i) {
-            Next::Three(_, _, _, behind) => {
-                n += 3;
-                i = behind;
-            }
-            Next::Two(_, _) => return Size::Of(n + 2),
-            Next::One(_) => return Size::Of(n + 1),
-            Next::End => return Size::Of(n),
-            Next::Broken => return Size::Wrong,
-        }
-    }
 }
 
 // Writes three octets from the place `at` on.
@@ -377,14 +343,14 @@ fn write_next(table: &[u8; 256], src: &[u8], at: usize, out: &mut [u8], to: usiz
     match next_group(table, src, at) {
         Next::Three(x, y, z, behind) => {
             if room < 3 {
-                return Turn::Full;
+                return Turn::Refused;
             }
             put_three(out, to, x, y, z);
             Turn::On(behind, to + 3)
         }
         Next::Two(x, y) => {
             if room < 2 {
-                return Turn::Full;
+                return Turn::Refused;
             }
             out[to] = x;
             out[to + 1] = y;
@@ -392,24 +358,13 @@ fn write_next(table: &[u8; 256], src: &[u8], at: usize, out: &mut [u8], to: usiz
         }
         Next::One(x) => {
             if room < 1 {
-                return Turn::Full;
+                return Turn::Refused;
             }
             out[to] = x;
             Turn::Last(to + 1)
         }
         Next::End => Turn::Last(to),
-        Next::Broken => Turn::Broken,
-    }
-}
-
-// What is answered on a text whose octets have no room: it may be no Base64 besides.
-fn refusal(table: &[u8; 256], src: &[u8]) -> Decoded
-    requires { ⌜ Signs (now table) ⌝ }
-    ensures { λ r. ⌜ r ≡ refused (octetsOf (withoutBlanks (now (src .entry)))) ⌝ }
-{
-    match measure(table, src) {
-        Size::Of(_) => Decoded::NoRoom,
-        Size::Wrong => Decoded::NotBase64,
+        Next::Broken => Turn::Refused,
     }
 }
 
@@ -435,36 +390,17 @@ fn write(table: &[u8; 256], src: &[u8], out: &mut [u8]) -> Decoded
                 o = wrote;
             }
             Turn::Last(n) => return Decoded::Octets(n),
-            Turn::Broken => return Decoded::NotBase64,
-            Turn::Full => return refusal(table, src),
+            Turn::Refused => return Decoded::Refused,
         }
     }
 }
 
-// Decodes key data, with spaces and tabs anywhere, into the beginning of `out`. The text is read once, and again only where
-// its octets have no room: after a refusal, what `out` holds means nothing.
-pub fn decode_once(src: &[u8], out: &mut [u8]) -> Decoded
+// Decodes key data, with spaces and tabs anywhere, into the beginning of `out`. The text is read once and written as it is
+// read: after a refusal, what `out` holds means nothing.
+pub fn decode(src: &[u8], out: &mut [u8]) -> Decoded
     ensures { λ r. ⌜ r ≡ decodedOf (octetsOf (withoutBlanks (now (src .entry)))) (length (now (out .entry))) ⌝ }
     ensures { λ r. ⌜ Decodes (octetsOf (withoutBlanks (now (src .entry)))) (now (out .entry)) (now (out .exit)) r ⌝ }
 {
     let table = signs();
     write(&table, src, out)
-}
-
-// The same for whoever wants `out` back as it was: the text is read twice, and `out` is written only when all of it is
-// good and has room.
-pub fn decode(src: &[u8], out: &mut [u8]) -> Decoded
-    ensures { λ r. ⌜ r ≡ decodedOf (octetsOf (withoutBlanks (now (src .entry)))) (length (now (out .entry))) ⌝ }
-    ensures { λ _. ⌜ now (out .exit) ≡ leftIn (octetsOf (withoutBlanks (now (src .entry)))) (now (out .entry)) ⌝ }
-{
-    let table = signs();
-    match measure(&table, src) {
-        Size::Of(n) => {
-            if out.len() < n {
-                return Decoded::NoRoom;
-            }
-            write(&table, src, out)
-        }
-        Size::Wrong => Decoded::NotBase64,
-    }
 }

@@ -1,14 +1,14 @@
 -- The key that key data stands for, by what decoding into room for 2,048 octets answered.
---     key-empty, key-wrong, key-long     there is none
+--     key-empty, key-refused             there is none
 --     none-answered, none-left           what is then answered and left
 --     key-short .. key-left              there is one, which has room or has none
 --     key-most, put-there                its octets stand in that room, and fit the memory they are put into
 -- Assumes nothing.
 use Prim.Native.Nat.{ℕ, _+_, _-_, _<_, _≤_}
-use mathlib.Core.Path.{_≡_, sym, _∙_}
+use mathlib.Core.Path.{_≡_, refl, sym, _∙_}
 use mathlib.Core.Bool.{and-false}
 use mathlib.Core.List.{List}
-use mathlib.Core.Option.{some, none}
+use mathlib.Core.Option.{Option, some, none}
 use native.Mathlib.Omega.{arith}
 use native.Mathlib.Nat.{zero-add, sub-zero}
 use borrow.Author.Needs.{needs}
@@ -17,18 +17,24 @@ use lib.ListN.{length, take, drop}
 use lib.Seq.{take-at}
 use Rattle.octets.specs.Written.{putAt, onto}
 use Rattle.base64.specs.Base64.{decode, withoutBlanks}
-use Rattle.base64.specs.Answers.{decodedOf, octetsIn, leftIn, Decodes}
-use Rattle.base64.proofs.Answered.{octets-answered, wrong-answered, full-answered, octets-left, octets-held}
+use Rattle.base64.specs.Answers.{decodedOf, octetsIn, Decodes}
+use Rattle.base64.specs.Steps.{NoneFit}
+use Rattle.base64.proofs.Answered.{octets-answered, refused-answered, octets-held}
 use Rattle.base64.specs.declared.Decoded.{Decoded}
-use Rattle.base64.specs.declared.Decoded.the-variants.{Octets, NotBase64, NoRoom}
+use Rattle.base64.specs.declared.Decoded.the-variants.{Octets, Refused}
 use Rattle.keyfield.specs.Field.{limited, keyOf}
-use Rattle.keyfield.specs.Answers.{keyAnswer}
+use Rattle.keyfield.specs.Answers.{keyAnswer, leftIn}
 use Rattle.keyfield.specs.declared.Key.the-variants.{Length, NoKey, Short}
 use Rattle.keyfield.proofs.Fields.{key-made}
 
 -- the octets of a text that stands for some
 abbrev octets : List ℕ → List ℕ
 octets text = octetsIn (decode (withoutBlanks text))
+
+limited-none : (o : Option (List ℕ)) → NoneFit o 2048 → limited o ≡ none
+unfolding limited
+limited-none none h = refl
+limited-none (some k) h = rw (lt-leb (length k) 2048 (h .over k refl), and-false)
 
 module _ (text : List ℕ) where
   module _ (e : keyOf text ≡ none) where
@@ -41,15 +47,9 @@ module _ (text : List ℕ) where
     none-left d = rw e
 
   module _ (g : Decoded) (e : g ≡ decodedOf (decode (withoutBlanks text)) 2048) where
-    pub key-wrong : g ≡ NotBase64 → keyOf text ≡ none
-    unfolding keyOf limited
-    key-wrong k = rw (wrong-answered (decode (withoutBlanks text)) 2048 (sym k ∙ e))
-
-    pub key-long : g ≡ NoRoom → keyOf text ≡ none
-    unfolding keyOf limited
-    key-long k =
-        let r = full-answered (decode (withoutBlanks text)) 2048 (sym k ∙ e) in
-        rw (r .0, lt-leb (length (octets text)) 2048 (r .1), and-false)
+    pub key-refused : g ≡ Refused → keyOf text ≡ none
+    unfolding keyOf
+    key-refused k = limited-none _ (refused-answered (decode (withoutBlanks text)) 2048 (sym k ∙ e))
 
     module _ (n : ℕ) (k : g ≡ Octets n) where
       answered : (decode (withoutBlanks text) ≡ some (octets text)) × (length (octets text) ≡ n) × (n ≤ 2048)
@@ -83,12 +83,12 @@ module _ (text : List ℕ) where
             unfolding keyAnswer
             key-length = rw (key-is, answered .1, le-leb n (length d) l)
 
-            module _ (R room : List ℕ) (m : length R ≡ 2048) (p : Decodes (decode (withoutBlanks text)) R room g) where
+            module _ (R room : List ℕ) (p : Decodes (decode (withoutBlanks text)) R room g) where
               -- the room opens with them
               opens : take (n - 0) room ≡ octets text
               unfolding onto
               opens =
-                  rw (octets-held _ R room g n p k, sub-zero n, octets-left (decode (withoutBlanks text)) R n (rw m (sym k ∙ e)))
+                  rw (octets-held _ R room g n p k, sub-zero n)
                   (take-at (octets text) (drop (length (octets text)) R) n (answered .1))
 
               pub put-there : 0 + length (take (n - 0) room) ≤ length d
@@ -98,4 +98,4 @@ module _ (text : List ℕ) where
               unfolding leftIn putAt onto
               key-left out q = q ∙ rw (opens, zero-add, key-is, answered .1, le-leb n (length d) l)
 
-pub ruleset keying = (none-answered, none-left, key-wrong, key-long, key-empty, key-short, short-left, key-length, put-there, key-left, needs)
+pub ruleset keying = (none-answered, none-left, key-refused, key-empty, key-short, short-left, key-length, put-there, key-left, needs)

@@ -11,11 +11,10 @@ use mathlib.Core.Option.{Option, some, none}
 use borrow.Author.Needs.{needs}
 use lib.Dec.{leb}
 use lib.ListN.{length, take, drop}
-use Rattle.base64.specs.Answers.{leftIn}
 use Rattle.address.specs.Address.{canonical}
 use Rattle.address.proofs.Every.{by-test}
 use Rattle.keyfield.specs.Field.{keyOf, withKey, fieldBy, fieldOf}
-use Rattle.keyfield.specs.Answers.{part, saidAt, WholeWithin, Scans, keyAnswer, Outcome, valid, spoiled, crowded, outcomeOf, shown, AddressWithin, Answered, keyIn}
+use Rattle.keyfield.specs.Answers.{part, saidAt, WholeWithin, Scans, keyAnswer, Outcome, valid, spoiled, crowded, outcomeOf, shown, AddressWithin, Answered, keyIn, leftIn}
 use Rattle.keyfield.specs.declared.Scanned.{Scanned}
 use Rattle.keyfield.specs.declared.Scanned.the-variants.{Whole, Broken}
 use Rattle.keyfield.specs.declared.Key.{Key}

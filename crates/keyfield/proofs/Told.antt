@@ -16,11 +16,10 @@ use borrow.Author.Tests.{leb-true, leb-false, le-leb, lt-leb}
 use lib.Dec.{leb}
 use lib.ListN.{length}
 use Rattle.octets.specs.Written.{onto}
-use Rattle.base64.specs.Answers.{leftIn}
 use Rattle.address.specs.Address.{canonical}
 use Rattle.address.proofs.Every.{by-test}
 use Rattle.keyfield.specs.Field.{Field, fieldOf}
-use Rattle.keyfield.specs.Answers.{part, PlainAt, valid, spoiled, crowded, outcomeOf, shown, AddressWithin, Answered, keyIn}
+use Rattle.keyfield.specs.Answers.{part, PlainAt, valid, spoiled, crowded, outcomeOf, shown, AddressWithin, Answered, keyIn, leftIn}
 use Rattle.keyfield.specs.declared.Read.{Read}
 use Rattle.keyfield.specs.declared.Read.the-variants.{Valid, Spoiled, NoRoom}
 use Rattle.keyfield.proofs.Fields.{field-most}

@@ -10,7 +10,7 @@
 --     Outcome, outcomeOf   what is answered on a field, with so much room for its key
 --     shown                the outcome that an answer shows
 --     keyAnswer            the answer on a key alone
---     keyIn                the key of a field, for what the memory lent for it holds afterwards
+--     keyIn, leftIn        the key of a field, and what the memory lent for it holds afterwards: the key, or what it held
 use Prim.Native.Nat.{ℕ, _+_, _-_, _≤_}
 use mathlib.Core.Path.{_≡_}
 use mathlib.Core.Bool.{Bool, true, false, cond}
@@ -18,6 +18,7 @@ use mathlib.Core.List.{List}
 use mathlib.Core.Option.{Option, some, none}
 use lib.Dec.{leb}
 use lib.ListN.{length, take, drop}
+use Rattle.octets.specs.Written.{onto}
 use Rattle.address.specs.Pieces.{before}
 use Rattle.address.specs.Address.{plain, canonical}
 use Rattle.keyfield.specs.Field.{Attribute, addr, preferEncrypt, keydata, ignored, spoiling, Step, on, last, spoils, Said, Field, mutualBy, saidOf, fieldOf, trimmedFront, trimmedBack, trimmed}
@@ -169,3 +170,7 @@ pub record Answered (s : List ℕ) (room : ℕ) (r : Read) : Type 0 where
 unfoldable pub keyIn : Option Field → Option (List ℕ)
 keyIn none = none
 keyIn (some f) = some (f .key)
+
+unfoldable pub leftIn : Option (List ℕ) → List ℕ → List ℕ
+leftIn none d = d
+leftIn (some w) d = cond (leb (length w) (length d)) (onto w d) d

@@ -2,9 +2,8 @@
 // key is decoded once the rest is known to be good. What is right is said by specs/Field.antt.
 ghost use mathlib.Core.Path.{_≡_};
 ghost use lib.ListN.{length};
-ghost use Rattle.base64.specs.Answers.{leftIn};
 ghost use Rattle.keyfield.specs.Field.{nameOf, attributeOf, withAddress, withPreference, step, mutualBy, keyOf, fieldOf};
-ghost use Rattle.keyfield.specs.Answers.{part, Within, FirstAt, TrimmedFrom, TrimmedTo, Trimmed, Tells, addressAt, Stands, stated, Steps, wholeOf, Scans, keyAnswer, Answered, keyIn};
+ghost use Rattle.keyfield.specs.Answers.{part, Within, FirstAt, TrimmedFrom, TrimmedTo, Trimmed, Tells, addressAt, Stands, stated, Steps, wholeOf, Scans, keyAnswer, Answered, keyIn, leftIn};
 use base64::Decoded;
 use slots::Slot;
 
@@ -288,7 +287,7 @@ fn read_key(text: &[u8], out: &mut [u8]) -> Key
     ensures { λ _. ⌜ now (out .exit) ≡ leftIn (keyOf (now (text .entry))) (now (out .entry)) ⌝ }
 {
     let mut room = [0u8; Slot::KEY_LIMIT];
-    match base64::decode_once(text, &mut room) {
+    match base64::decode(text, &mut room) {
         Decoded::Octets(n) => {
             if n == 0 {
                 return Key::NoKey;
@@ -299,8 +298,7 @@ fn read_key(text: &[u8], out: &mut [u8]) -> Key
             octets::put(out, 0, &room[0..n]);
             Key::Length(n)
         }
-        Decoded::NotBase64 => Key::NoKey,
-        Decoded::NoRoom => Key::NoKey,
+        Decoded::Refused => Key::NoKey,
     }
 }
 

@@ -14,7 +14,6 @@ use native.Mathlib.Nat.{sub-zero}
 use borrow.Author.Needs.{needs}
 use lib.ListN.{length, take, drop}
 use Rattle.octets.specs.Written.{onto}
-use Rattle.base64.specs.Answers.{leftIn}
 use Rattle.header.proofs.Unfolding.{value-within, value-there}
 use Rattle.address.specs.Address.{canonical}
 use Rattle.address.specs.Answers.{writtenOf, ontoIfFits}
@@ -25,7 +24,7 @@ use Rattle.address.proofs.Spelling.{canonical-most}
 use Rattle.list.specs.List.{among}
 use Rattle.slots.specs.Slot.{addressRoom, keyLimit}
 use Rattle.keyfield.specs.Field.{Field, fieldOf}
-use Rattle.keyfield.specs.Answers.{part, Answered, keyIn}
+use Rattle.keyfield.specs.Answers.{part, Answered, keyIn, leftIn}
 use Rattle.keyfield.specs.declared.Read.{Read}
 use Rattle.keyfield.specs.declared.Read.the-variants.{Valid, Spoiled, NoRoom}
 use Rattle.keyfield.proofs.Told.{told-address, told-spoiled, never-crowded}

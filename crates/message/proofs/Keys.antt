@@ -10,13 +10,12 @@ use mathlib.Core.List.{List}
 use mathlib.Core.Option.{some}
 use native.Mathlib.Omega.{arith}
 use lib.ListN.{length, take, drop}
-use Rattle.base64.specs.Answers.{leftIn}
 use Rattle.octets.specs.Written.{onto}
 use Rattle.header.proofs.Unfolding.{value-within, value-there}
 use Rattle.address.specs.Address.{canonical, isCanonical}
 use Rattle.slots.specs.Slot.{keyLimit}
 use Rattle.keyfield.specs.Field.{Field, fieldOf}
-use Rattle.keyfield.specs.Answers.{part, Answered, keyIn}
+use Rattle.keyfield.specs.Answers.{part, Answered, keyIn, leftIn}
 use Rattle.keyfield.specs.declared.Read.{Read}
 use Rattle.keyfield.specs.declared.Read.the-variants.{Valid}
 use Rattle.keyfield.proofs.Fields.{field-canonical, field-least, field-most}

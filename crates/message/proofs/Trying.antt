@@ -15,7 +15,6 @@ use lib.ListN.{length, take, drop, length-take}
 use Rattle.octets.specs.Octets.{sameOctets}
 use Rattle.octets.specs.Written.{onto}
 use Rattle.octets.proofs.Comparing.{same-true}
-use Rattle.base64.specs.Answers.{leftIn}
 use Rattle.header.specs.Header.{isSome}
 use Rattle.header.specs.Answers.{fieldsFrom}
 use Rattle.header.proofs.Unfolding.{value-within, value-there-from}
@@ -23,7 +22,7 @@ use Rattle.address.specs.Address.{canonical, isCanonical}
 use Rattle.address.proofs.Spelling.{canonical-same}
 use Rattle.slots.specs.Slot.{keyLimit}
 use Rattle.keyfield.specs.Field.{Field, fieldOf, validFor, validFields}
-use Rattle.keyfield.specs.Answers.{Answered, keyIn}
+use Rattle.keyfield.specs.Answers.{Answered, keyIn, leftIn}
 use Rattle.keyfield.specs.declared.Read.{Read}
 use Rattle.keyfield.specs.declared.Read.the-variants.{Valid as ValidField, Spoiled, NoRoom}
 use Rattle.keyfield.proofs.Told.{told-spoiled, never-crowded}

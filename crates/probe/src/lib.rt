@@ -90,26 +90,16 @@ pub extern "C" fn probe_put_number(out: &mut [u8], at: usize, width: usize, n: u
     true
 }
 
-// kind 0: the octets decoded; 1: no Base64; 2: too little room
-fn decoded(r: base64::Decoded) -> Answer {
-    match r {
+// kind 0: the octets decoded; 1: no Base64, or too little room
+#[no_mangle]
+pub extern "C" fn probe_decode(text: &[u8], out: &mut [u8]) -> Answer {
+    match base64::decode(text, out) {
         base64::Decoded::Octets(n) => Answer {
             kind: 0,
             value: n as u64,
         },
-        base64::Decoded::NotBase64 => Answer { kind: 1, value: 0 },
-        base64::Decoded::NoRoom => Answer { kind: 2, value: 0 },
+        base64::Decoded::Refused => Answer { kind: 1, value: 0 },
     }
-}
-
-#[no_mangle]
-pub extern "C" fn probe_decode(text: &[u8], out: &mut [u8]) -> Answer {
-    decoded(base64::decode(text, out))
-}
-
-#[no_mangle]
-pub extern "C" fn probe_decode_once(text: &[u8], out: &mut [u8]) -> Answer {
-    decoded(base64::decode_once(text, out))
 }
 
 // kind 0: the place behind the lines; 2: too little room

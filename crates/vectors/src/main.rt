@@ -45,8 +45,7 @@ fn run_decode(text: &[u8]) {
     let mut out = io::buffer();
     match base64::decode(text, &mut out) {
         base64::Decoded::Octets(n) => print_octets(&out[0..n]),
-        base64::Decoded::NotBase64 => print(b"spoiled\n"),
-        base64::Decoded::NoRoom => print(b"no room\n"),
+        base64::Decoded::Refused => print(b"spoiled\n"),
     }
 }
 

@@ -54,18 +54,6 @@ same-length-2 c = search filling
 returns-2 : tie.Need-returns-2 Inv-loop μ-loop
 returns-2 c = search filling
 
-enum-told-2 : tie.Need-enum-told-2 Inv-loop μ-loop
-enum-told-2 c = search filling
-
-refusal-requires : tie.Need-refusal-requires Inv-loop μ-loop
-refusal-requires c κs = search filling
-
-same-length-3 : tie.Need-same-length-3 Inv-loop μ-loop
-same-length-3 c = search filling
-
-returns-3 : tie.Need-returns-3 Inv-loop μ-loop
-returns-3 c = search filling
-
 pub write-spec : {M : Type 1} → statement M
 write-spec =
     tie.close
@@ -85,8 +73,4 @@ write-spec =
     returns
     enum-told
     same-length-2
-    returns-2
-    enum-told-2
-    refusal-requires
-    same-length-3
-    returns-3)
+    returns-2)

@@ -4,11 +4,11 @@ use Rattle.keyfield.proofs.read_key.Tie as tie
 use native.Mathlib.Omega.{arith}
 use Rattle.keyfield.proofs.Keying.{key-most, keying}
 
-slice-aggregate-decode-once : tie.Need-slice-aggregate-decode-once
-slice-aggregate-decode-once c = search keying
+slice-aggregate-decode : tie.Need-slice-aggregate-decode
+slice-aggregate-decode c = search keying
 
-decode-once-requires : tie.Need-decode-once-requires
-decode-once-requires c κs = search keying
+decode-requires : tie.Need-decode-requires
+decode-requires c κs = search keying
 
 enum-known-n : tie.Need-enum-known-n
 enum-known-n c = search keying
@@ -27,16 +27,13 @@ part-put-start c = search keying
 
 part-put-end : tie.Need-part-put-end
 part-put-end c =
-    omega (arith, key-most _ _ (c .before .before .before .before .before .before .before .before .decode-once .ensures .0) _ (c .before .before .before .before .before .n .given .1))
+    omega (arith, key-most _ _ (c .before .before .before .before .before .before .before .before .decode .ensures .0) _ (c .before .before .before .before .before .n .given .1))
 
 put-requires : tie.Need-put-requires
 put-requires c κs = search keying
 
 enum-told : tie.Need-enum-told
 enum-told c = search keying
-
-enum-told-2 : tie.Need-enum-told-2
-enum-told-2 c = search keying
 
 same-length : tie.Need-same-length
 same-length c = search keying
@@ -47,15 +44,12 @@ returns-3 c = search keying
 returns-4 : tie.Need-returns-4
 returns-4 c = search keying
 
-returns-5 : tie.Need-returns-5
-returns-5 c = search keying
-
 pub read-key-spec : {M : Type 1} → statement M
 read-key-spec =
     tie.close
     (tie.spec
-    slice-aggregate-decode-once
-    decode-once-requires
+    slice-aggregate-decode
+    decode-requires
     enum-known-n
     returns
     returns-2
@@ -64,8 +58,6 @@ read-key-spec =
     part-put-end
     put-requires
     enum-told
-    enum-told-2
     same-length
     returns-3
-    returns-4
-    returns-5)
+    returns-4)

@@ -42,23 +42,11 @@ slice-aggregate-print c = search needs
 print-requires : tie.Need-print-requires
 print-requires c κs = search needs
 
-enum-told-2 : tie.Need-enum-told-2
-enum-told-2 c = search needs
-
-slice-aggregate-print-2 : tie.Need-slice-aggregate-print-2
-slice-aggregate-print-2 c = search needs
-
-print-requires-2 : tie.Need-print-requires-2
-print-requires-2 c κs = search needs
-
 returns : tie.Need-returns
 returns c = search needs
 
 returns-2 : tie.Need-returns-2
 returns-2 c = search needs
-
-returns-3 : tie.Need-returns-3
-returns-3 c = search needs
 
 pub run-decode-spec : {M : Type 1} → statement M
 run-decode-spec =
@@ -75,9 +63,5 @@ run-decode-spec =
     enum-told
     slice-aggregate-print
     print-requires
-    enum-told-2
-    slice-aggregate-print-2
-    print-requires-2
     returns
-    returns-2
-    returns-3)
+    returns-2)
