@@ -13,7 +13,7 @@ use Rattle.address.specs.Pieces.{every, onFirst, pieces, before, behind, run}
 use Rattle.address.specs.Address.{addressOctet, atom, localPart, labelOctet, freeEnds, label, domain, plain, canonical}
 use Rattle.list.specs.List.{openingOf, holdsAt, runToken, quotedToken, tokenAt, firstToken, afterAddress, after, inFront, listedBy, listed, addresses, given}
 use Rattle.list.specs.Answers.{onlyOf}
-use Rattle.date.specs.Calendar as calendar
+use Rattle.calendar.specs.Calendar as calendar
 use Rattle.date.specs.Date as date
 use Rattle.message.specs.Message.{
   readFields,

@@ -9,7 +9,7 @@ use Rattle.address.specs.Pieces as pieces
 use Rattle.address.specs.Address as address
 use Rattle.list.specs.List as list
 use Rattle.list.specs.Answers as answers
-use Rattle.date.specs.Calendar as calendar
+use Rattle.calendar.specs.Calendar as calendar
 use Rattle.date.specs.Date as date
 use Rattle.keyfield.specs.Field as keyfield
 use Rattle.message.specs.Message as message
