@@ -1,23 +1,21 @@
 -- How large a number is, by the place of a date where it stands, so that no sum wraps.
 --     range-..                      what a reader answers, by the place
 -- Assumes nothing.
-use Prim.Native.Nat.{ℕ, _+_, _-_, _*_, _/_, _%_, _^_, _≤_, _<_}
+use Prim.Native.Nat.{ℕ, _+_, _*_, _≤_}
 use mathlib.Core.Path.{_≡_, refl}
-use mathlib.Core.Bool.{Bool, true, false, _&&_}
+use mathlib.Core.Bool.{_&&_}
 use mathlib.Core.List.{List}
-use mathlib.Core.Option.{Option, some, none, bind, Option·none-ne-some}
+use mathlib.Core.Option.{Option, some, none}
 use native.Mathlib.Omega.{arith}
 use mir.Val.{Fits}
 use mir.Syntax.{w64}
-use borrow.Author.Tests.{leb-true, eqb-true, eq-eqb}
-use lib.Dec.{leb, eqb}
-use lib.ListN.{length, drop}
+use borrow.Author.Tests.{leb-true}
+use lib.Dec.{leb}
+use lib.ListN.{drop}
 use Rattle.calendar.specs.Calendar.{monthLength, dayCount}
-use Rattle.datewords.specs.Words.{onlyIf, numberOf, monthNames, zoneNames, zoneHours, placeIn, monthOf, yearBy, yearOf, twoDigits, offsetBy, offsetOf, hoursWest, westBy, opensWith, meant, Token, token, end, unreadable, firstToken}
+use Rattle.datewords.specs.Words.{opensWith, meant, Token, token, end, unreadable, firstToken}
 use Rattle.date.specs.Date.{Read, got, missing, readOf, andThen, next, optional, existing, calendarDay, timeOfDay, localTime}
 use Rattle.date.specs.Answers.{readIn}
-use Rattle.datewords.specs.declared.token.Opening.{Opening}
-use Rattle.datewords.specs.declared.token.Opening.the-variants.{Number, Word, Plus, Minus, Mark}
 use Rattle.datewords.specs.declared.meaning.Place.{Place}
 use Rattle.datewords.specs.declared.meaning.Place.the-variants.{Day, Month, Year, UpTo, Colon, West}
 use Rattle.date.specs.declared.Part.{Part}
