@@ -12,19 +12,21 @@ use mathlib.Core.Option.{Option}
 use borrow.Author.Needs.{needs}
 use borrow.Author.Tests.{le-leb, lt-leb}
 use lib.ListN.{drop}
-use Rattle.date.specs.Calendar.{leap, leapDay, monthLength, yearDays, monthDays, dayCount}
-use Rattle.date.specs.Date.{onlyIf, Read, got, firstToken, readOf, andThen, next, existing, zoned, epoch, ended}
-use Rattle.date.specs.Answers.{datedOf, meaning, tokenIn, readIn}
-use Rattle.date.specs.declared.token.Found.{Found}
-use Rattle.date.specs.declared.token.Found.the-variants.{Between, End, Unreadable}
-use Rattle.date.specs.declared.meaning.Place.the-variants.{East, West}
-use Rattle.date.specs.declared.meaning.Meaning.{Meaning}
-use Rattle.date.specs.declared.meaning.Meaning.the-variants.{Value, Nothing}
+use Rattle.calendar.specs.Calendar.{leap, leapDay, monthLength, yearDays, monthDays, dayCount}
+use Rattle.datewords.specs.Words.{onlyIf, firstToken}
+use Rattle.date.specs.Date.{Read, got, readOf, andThen, next, existing, zoned, epoch, ended}
+use Rattle.datewords.specs.Answers.{meaning, tokenIn}
+use Rattle.date.specs.Answers.{datedOf, readIn}
+use Rattle.datewords.specs.declared.token.Found.{Found}
+use Rattle.datewords.specs.declared.token.Found.the-variants.{Between, End, Unreadable}
+use Rattle.datewords.specs.declared.meaning.Place.the-variants.{East, West}
+use Rattle.datewords.specs.declared.meaning.Meaning.{Meaning}
+use Rattle.datewords.specs.declared.meaning.Meaning.the-variants.{Value, Nothing}
 use Rattle.date.specs.declared.Part.{Part}
 use Rattle.date.specs.declared.Part.the-variants.{Got, Missing}
 use Rattle.date.specs.declared.Dated.{Dated}
 use Rattle.date.specs.declared.Dated.the-variants.{Available, Unavailable}
-use Rattle.date.proofs.Digits.{value-is, nothing-is}
+use Rattle.datewords.proofs.Digits.{value-is, nothing-is}
 use Rattle.date.proofs.Reading.{first-between, first-end, first-unreadable, read-got, read-missing, then-got, then-missing}
 use Rattle.date.proofs.Ranges.{ranges}
 

@@ -10,16 +10,18 @@ use mathlib.Core.Path.{_≡_, sym, _∙_}
 use mathlib.Core.List.{List}
 use borrow.Author.Needs.{needs}
 use lib.ListN.{length, take, drop}
-use Rattle.date.specs.Date.{token, end, unreadable, firstToken, meant, Read, got, missing, readOf, andThen, next, optional}
-use Rattle.date.specs.Answers.{meaning, tokenIn, Inside, readIn}
-use Rattle.date.specs.declared.token.Found.{Found}
-use Rattle.date.specs.declared.token.Found.the-variants.{Between, End, Unreadable}
-use Rattle.date.specs.declared.meaning.Place.{Place}
-use Rattle.date.specs.declared.meaning.Meaning.{Meaning}
-use Rattle.date.specs.declared.meaning.Meaning.the-variants.{Value, Nothing}
+use Rattle.datewords.specs.Words.{token, end, unreadable, firstToken, meant}
+use Rattle.date.specs.Date.{Read, got, missing, readOf, andThen, next, optional}
+use Rattle.datewords.specs.Answers.{meaning, tokenIn, Inside}
+use Rattle.date.specs.Answers.{readIn}
+use Rattle.datewords.specs.declared.token.Found.{Found}
+use Rattle.datewords.specs.declared.token.Found.the-variants.{Between, End, Unreadable}
+use Rattle.datewords.specs.declared.meaning.Place.{Place}
+use Rattle.datewords.specs.declared.meaning.Meaning.{Meaning}
+use Rattle.datewords.specs.declared.meaning.Meaning.the-variants.{Value, Nothing}
 use Rattle.date.specs.declared.Part.{Part}
 use Rattle.date.specs.declared.Part.the-variants.{Got, Missing}
-use Rattle.date.proofs.Digits.{value-is, nothing-is}
+use Rattle.datewords.proofs.Digits.{value-is, nothing-is}
 
 -- what an answer of `token` says of the text u that is left
 module _ (s u : List ℕ) (g : Found) (e : tokenIn s g ≡ firstToken u) where

@@ -7,42 +7,9 @@ use mathlib.Core.List.{List, [], _∷_, map}
 use mathlib.Core.Option.{Option, some, none, bind}
 use Rattle.octets.specs.Octets.{ascii, lower, lowered, sameName, sameOctets}
 use Rattle.tokens.specs.Tokens.{blank, past, kindOf, control, belongs, runLength}
-use Rattle.date.specs.Calendar.{leap, leapDay, monthLength, yearDays, monthDays, dayCount}
-use Rattle.date.specs.Date.{
-  openingOf,
-  further,
-  tokenAt,
-  firstToken,
-  onlyIf,
-  digitOf,
-  valueFrom,
-  numberOf,
-  hereOr,
-  placeFrom,
-  markOf,
-  dayOf,
-  monthOf,
-  yearBy,
-  yearOf,
-  twoDigits,
-  offsetBy,
-  offsetOf,
-  hoursWest,
-  eastBy,
-  westBy,
-  meant,
-  readOf,
-  andThen,
-  next,
-  optional,
-  existing,
-  calendarDay,
-  timeOfDay,
-  localTime,
-  zoned,
-  ended,
-  dateOf,
-}
+use Rattle.calendar.specs.Calendar.{leap, leapDay, monthLength, yearDays, monthDays, dayCount}
+use Rattle.datewords.specs.Words.{openingOf, further, tokenAt, firstToken, onlyIf, digitOf, valueFrom, numberOf, hereOr, placeFrom, markOf, dayOf, monthOf, yearBy, yearOf, twoDigits, offsetBy, offsetOf, hoursWest, eastBy, westBy, meant}
+use Rattle.date.specs.Date.{readOf, andThen, next, optional, existing, calendarDay, timeOfDay, localTime, zoned, ended, dateOf}
 
 -- a text, and the Date that it stands for
 data Example : Type 0 where

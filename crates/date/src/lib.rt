@@ -1,17 +1,16 @@
 // The Date of a message: a field's value that reads as `[day-name,] day month year hh:mm[:ss] zone`, in seconds since
 // 1970; and the effective date.
-pub mod calendar; // leap years, months and the count of days
-pub mod meaning; // what a token means at each place of a date
-pub mod token; // the tokens of a date
-
-use meaning::Meaning;
-use meaning::Place;
-use token::Found;
+use datewords::meaning;
+use datewords::meaning::Meaning;
+use datewords::meaning::Place;
+use datewords::token;
+use datewords::token::Found;
 ghost use Prim.Native.Nat.{_+_, _-_, _*_, _≤_};
 ghost use mathlib.Core.Path.{_≡_};
 ghost use lib.ListN.{drop};
 ghost use Rattle.date.specs.Date.{next as nextOf, optional as optionalOf, existing as existingOf, calendarDay, timeOfDay, localTime, zoned as zonedOf, ended as endedOf, dateOf, effectiveDate, got};
-ghost use Rattle.date.specs.Answers.{datedOf, optionOf, meaning as meaningOf, readIn};
+ghost use Rattle.datewords.specs.Answers.{meaning as meaningOf};
+ghost use Rattle.date.specs.Answers.{datedOf, optionOf, readIn};
 
 // The seconds from 1900 to 1970.
 const EPOCH: u64 = 2_208_988_800;

@@ -3,9 +3,8 @@
 --     valid-is                                       what is valid is a field that names the sender
 --     valid-skip, valid-next, valid-append           the valid fields, from the front of the list, and of two lists
 --     counted-none, counted-one, counted-two         what counts, by how many are valid
---     counted-is, counted-sender                     what counts is the one valid field, and names the sender
+--     counted-is                                     what counts is the one valid field
 --     counted-value                                  and is the field of a value
---     counted-skip, counted-first                    what counts, from the front of the list
 -- Assumes nothing.
 use Prim.Native.Nat.{ℕ}
 use mathlib.Core.Path.{_≡_, refl, sym, ap, _∙_}
@@ -104,18 +103,5 @@ module _ (sender : List ℕ) (values : List (List ℕ)) where
   unfolding counted
   counted-is f e = only-is (validFields sender values) f e
 
-  -- so it is a field of one of the values, and names the sender
-  pub counted-sender : (f : Field) → counted values sender ≡ some f → f .address ≡ sender
-  counted-sender f e = valid-all sender values f (counted-is f e) .1 .1
-
   pub counted-value : (f : Field) → counted values sender ≡ some f → (v : List ℕ) × (fieldOf v ≡ some f)
   counted-value f e = let h = valid-all sender values f (counted-is f e) in (h .0, h .1 .0)
-
-module _ (sender s : List ℕ) (rest : List (List ℕ)) where
-  pub counted-skip : validFor sender s ≡ none → counted (s ∷ rest) sender ≡ counted rest sender
-  unfolding counted
-  counted-skip e = rw (valid-skip sender s rest e)
-
-  pub counted-first : (f : Field) → validFor sender s ≡ some f → counted (s ∷ rest) sender ≡ onlyOne (f ∷ validFields sender rest)
-  unfolding counted
-  counted-first f e = rw (valid-next sender s rest f e)

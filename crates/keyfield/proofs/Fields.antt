@@ -2,7 +2,7 @@
 --     said-plain, said-octets                   the address of what a value says is plain, and octets where the value is
 --     KeyOf, key-parts, key-made                a key is what its text decodes to, 1 to 2,048 octets
 --     FieldOf, field-parts                      a field is made of what its value says and of its key
---     field-canonical, field-plain              its address is canonical, and plain
+--     field-canonical                           its address is canonical
 --     field-octets                              and octets where the value is
 --     field-least, field-most, field-key-octets     its key has 1 to 2,048 octets, which are octets
 -- Assumes nothing.
@@ -25,7 +25,7 @@ use Rattle.address.specs.Pieces.{every, onFirst, pieces, before, behind}
 use Rattle.address.specs.Address.{oneTo, plain, canonical, isCanonical}
 use Rattle.address.proofs.Every.{by-test, and-left, and-right, every-at}
 use Rattle.address.proofs.Pieces.{others, pieces-first}
-use Rattle.address.proofs.Spelling.{plain-is-canonical, canonical-plain, canonical-octets}
+use Rattle.address.proofs.Spelling.{plain-is-canonical, canonical-octets}
 use Rattle.keyfield.specs.Field.{trimmedFront, trimmedBack, trimmed, nameOf, attribute, holds, Attribute, addr, preferEncrypt, keydata, ignored, spoiling, attributeOf, Step, on, last, spoils, withAddress, withPreference, step, Said, saidWith, ifLast, saidFrom, saidOf, limited, keyOf, Field, withKey, fieldBy, fieldOf}
 use Rattle.keyfield.specs.declared.Name.{Name}
 use Rattle.keyfield.specs.declared.Name.the-variants.{Addr, PreferEncrypt, Keydata, Ignored, Unknown}
@@ -240,9 +240,6 @@ module _ (s : List ℕ) (f : Field) (e : fieldOf s ≡ some f) where
 
   pub field-canonical : isCanonical (f .address) ≡ true
   field-canonical = rw (parts .address) (plain-is-canonical (parts .said .address) (said-plain s (parts .said) (parts .says)))
-
-  pub field-plain : plain (f .address) ≡ true
-  field-plain = canonical-plain (f .address) field-canonical
 
   pub field-least : 1 ≤ length (f .key)
   field-least = key-is .least

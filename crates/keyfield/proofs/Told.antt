@@ -4,7 +4,7 @@
 --     told-spoiled                 a spoiled field
 --     Crowded, told-crowded        a valid field whose key has no room
 --     never-crowded                room for 2,048 octets is enough
---     kept-valid, kept-spoiled, kept-crowded     what the memory lent for the key then holds
+--     kept-valid                                 what the memory lent for the key then holds
 -- Assumes nothing.
 use Prim.Native.Nat.{ℕ, _<_, _≤_}
 use mathlib.Core.Path.{_≡_, refl}
@@ -12,7 +12,7 @@ use mathlib.Core.Bool.{Bool}
 use mathlib.Core.List.{List}
 use mathlib.Core.Option.{Option, some, none}
 use native.Mathlib.Omega.{arith}
-use borrow.Author.Tests.{leb-true, leb-false, le-leb, lt-leb}
+use borrow.Author.Tests.{leb-true, leb-false, le-leb}
 use lib.Dec.{leb}
 use lib.ListN.{length}
 use Rattle.octets.specs.Written.{onto}
@@ -98,11 +98,3 @@ module _ (s d : List ℕ) where
   pub kept-valid : (f : Field) → fieldOf s ≡ some f → length (f .key) ≤ length d → leftIn (keyIn (fieldOf s)) d ≡ onto (f .key) d
   unfolding leftIn keyIn
   kept-valid f e l = rw (e, le-leb (length (f .key)) (length d) l)
-
-  pub kept-crowded : (f : Field) → fieldOf s ≡ some f → length d < length (f .key) → leftIn (keyIn (fieldOf s)) d ≡ d
-  unfolding leftIn keyIn
-  kept-crowded f e l = rw (e, lt-leb (length (f .key)) (length d) l)
-
-  pub kept-spoiled : fieldOf s ≡ none → leftIn (keyIn (fieldOf s)) d ≡ d
-  unfolding leftIn keyIn
-  kept-spoiled e = rw e

@@ -1,22 +1,19 @@
 -- What holds of every readable list.
 --     plain-alone              a plain address is a list of that one address
 --     readable-plain, readable-at     every address of a readable list is plain
---     readable-length          a readable list has no more addresses than octets
 --     counted-some, counted-none      what a count says
 --     only-some                what the one address of a list says
---     hand-readable .. hand-rest      a loop over the addresses of a readable list, by their places
 -- Assumes nothing.
-use Prim.Native.Nat.{ℕ, zero, suc, _+_, _-_, _<_, _≤_, zero-le}
+use Prim.Native.Nat.{ℕ, zero, suc, _<_, _≤_, zero-le}
 use mathlib.Core.Path.{_≡_, refl, sym, ap, _∙_}
 use mathlib.Core.Logic.{⊎-elim}
 use mathlib.Core.Bool.{Bool, true, false, false≢true}
 use mathlib.Core.List.{List, [], _∷_}
 use mathlib.Core.Option.{Option, some, none}
 use native.Mathlib.Omega.{arith}
-use native.Mathlib.Numerals.{add-one}
 use borrow.Author.Tests.{ne-eqb}
-use lib.ListN.{length, getD, drop, length-drop}
-use lib.Seq.{drop-cons, take-length, drop-length}
+use lib.ListN.{length, getD}
+use lib.Seq.{take-length, drop-length}
 use Rattle.octets.proofs.Lists.{lt-or-le}
 use Rattle.tokens.specs.Tokens.{blank, belongs, past}
 use Rattle.tokens.proofs.Skipping.{stays}
@@ -25,16 +22,12 @@ use Rattle.address.specs.Address.{addressOctet, plain}
 use Rattle.address.proofs.Every.{and-left, and-right}
 use Rattle.address.proofs.Sides.{plain-least, plain-octets, plain-at, low-apart}
 use Rattle.list.specs.List.{address, runToken, tokenAt, firstToken, afterAddress, inFront, listedBy, listed, addresses}
-use Rattle.list.specs.Answers.{between, left, Hands, countedOf, onlyOf}
+use Rattle.list.specs.Answers.{countedOf, onlyOf}
 use Rattle.list.specs.declared.grammar.Stage.{Stage}
 use Rattle.list.specs.declared.grammar.Stage.the-variants.{Place, Behind}
-use Rattle.list.specs.declared.Cursor.{Cursor}
-use Rattle.list.specs.declared.Handed.{Handed}
-use Rattle.list.specs.declared.Handed.the-variants.{Address, End, Unreadable}
 use Rattle.list.specs.declared.Counted.the-variants.{Count, Unreadable as Uncounted}
 use Rattle.list.proofs.Telling.{opens-run}
 use Rattle.list.proofs.Listing.{Turn, over, unread, hands, goes, turn, listed-address, listed-end}
-use Rattle.list.proofs.Handing.{hand-gives, hand-end, hand-unread}
 
 -- a run that is the whole text
 run-whole : (s : List ℕ) → every addressOctet s ≡ true → run addressOctet s ≡ length s
@@ -119,9 +112,6 @@ module _ (s : List ℕ) (list : List (List ℕ)) (e : addresses s ≡ some list)
   pub readable-at : (i : ℕ) → i < length list → plain (getD list i []) ≡ true
   readable-at i l = each-plain list readable-plain i l
 
-  pub readable-length : length list ≤ length s
-  readable-length = both .1
-
 -- what a count and the one address say
 pub counted-some : (o : Option (List (List ℕ))) (n : ℕ) → Count n ≡ countedOf o → (list : List (List ℕ)) × ((o ≡ some list) × (n ≡ length list))
 unfolding countedOf
@@ -139,36 +129,3 @@ only-some none a e = cc
 only-some (some []) a e = cc
 only-some (some (b ∷ [])) a e = cc
 only-some (some (b ∷ d ∷ rest)) a e = cc
-
--- a first address, and what follows
-front : (a : List ℕ) (o : Option (List (List ℕ))) (list : List (List ℕ)) (i : ℕ) → inFront a o ≡ some (drop i list)
-    → (rest : List (List ℕ)) × ((o ≡ some rest) × (drop i list ≡ a ∷ rest))
-unfolding inFront
-front a none list i e = let z : _≡_ {A = ℕ} 0 1 = cc in absurd (omega arith)
-front a (some rest) list i e = (rest, (refl, cc))
-
--- A loop over the addresses of a readable list: from a cursor on it gives those from the place i on.
-module _ (s : List ℕ) (c : Cursor) (k : Handed) (p : Hands s c k) (list : List (List ℕ)) (i : ℕ) (e : left s c ≡ some (drop i list)) where
-  pub hand-readable : k ≡ Unreadable → ⊥
-  hand-readable q = let z : _≡_ {A = ℕ} 0 1 = cc (hand-unread s c k p q) in omega arith
-
-  pub hand-last : k ≡ End → length list ≤ i
-  hand-last q =
-      let n : drop i list ≡ [] = cc (hand-end s c k p q) in
-      omega (arith, length-drop i list, ap length n)
-
-  module _ (from to : ℕ) (next : Cursor) (q : k ≡ Address from to next) where
-    parts : (rest : List (List ℕ)) × ((left s next ≡ some rest) × (drop i list ≡ between s from to ∷ rest))
-    parts = front (between s from to) (left s next) list i (sym (hand-gives s c k p from to next q) ∙ e)
-
-    pub hand-more : i < length list
-    hand-more = omega (arith, length-drop i list, ap length (parts .1 .1))
-
-    cut : drop i list ≡ getD list i [] ∷ drop (i + 1) list
-    cut = let h : i < length list = hand-more in rw (add-one, drop-cons list i [])
-
-    pub hand-is : getD list i [] ≡ between s from to
-    hand-is = cc (cut, parts .1 .1)
-
-    pub hand-rest : left s next ≡ some (drop (i + 1) list)
-    hand-rest = cc (cut, parts .1 .1, parts .1 .0)

@@ -13,7 +13,8 @@ use Rattle.address.specs.Pieces.{every, onFirst, pieces, before, behind, run}
 use Rattle.address.specs.Address.{addressOctet, atom, localPart, labelOctet, freeEnds, label, domain, plain, canonical}
 use Rattle.list.specs.List.{openingOf, holdsAt, runToken, quotedToken, tokenAt, firstToken, afterAddress, after, inFront, listedBy, listed, addresses, given}
 use Rattle.list.specs.Answers.{onlyOf}
-use Rattle.date.specs.Calendar as calendar
+use Rattle.calendar.specs.Calendar as calendar
+use Rattle.datewords.specs.Words as words
 use Rattle.date.specs.Date as date
 use Rattle.message.specs.Message.{
   readFields,
@@ -78,7 +79,7 @@ dates :
     ∷ "Date: 1 Jan 1970 00:02 GMT"
     ∷ [])
     ≡ 60 ∷ 100 ∷ 100 ∷ 100 ∷ []
-unfolding header.fieldsOf header.fields header.fieldsWithin header.inFront header.unfolded header.over header.ofEnding header.opensField header.runLength header.rawLength header.belongs header.closes sameName sameOctets lowered lower blank past kindOf control belongs runLength bind calendar.leap calendar.leapDay calendar.monthLength calendar.yearDays calendar.monthDays calendar.dayCount date.openingOf date.further date.tokenAt date.firstToken date.onlyIf date.digitOf date.valueFrom date.numberOf date.hereOr date.placeFrom date.markOf date.dayOf date.monthOf date.yearBy date.yearOf date.twoDigits date.offsetBy date.offsetOf date.hoursWest date.eastBy date.westBy date.meant date.readOf date.andThen date.next date.optional date.existing date.calendarDay date.timeOfDay date.localTime date.zoned date.ended date.dateOf date.effectiveDate readFields fieldsIn isKind valuesOf onlyValue dateBy dateIn
+unfolding header.fieldsOf header.fields header.fieldsWithin header.inFront header.unfolded header.over header.ofEnding header.opensField header.runLength header.rawLength header.belongs header.closes sameName sameOctets lowered lower blank past kindOf control belongs runLength bind calendar.leap calendar.leapDay calendar.monthLength calendar.yearDays calendar.monthDays calendar.dayCount words.openingOf words.further words.tokenAt words.firstToken words.onlyIf words.digitOf words.valueFrom words.numberOf words.hereOr words.placeFrom words.markOf words.dayOf words.monthOf words.yearBy words.yearOf words.twoDigits words.offsetBy words.offsetOf words.hoursWest words.eastBy words.westBy words.meant date.readOf date.andThen date.next date.optional date.existing date.calendarDay date.timeOfDay date.localTime date.zoned date.ended date.dateOf date.effectiveDate readFields fieldsIn isKind valuesOf onlyValue dateBy dateIn
 dates = refl
 
 -- as they stand, in order; an unreadable list gives none, and takes none from the others

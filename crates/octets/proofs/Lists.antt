@@ -4,6 +4,7 @@
 --     take-one              the first n + 1 elements
 --     drop-done             nothing is left from the end on
 --     left-one              n - i falls by one to n - (i + 1)
+--     AtMost, at-most       no element of a list is above a number
 --     given-octets          what owning a slice tells of its elements: they are octets
 --     drop-octets, take-octets    so are those of a part
 -- Assumes nothing.
@@ -55,3 +56,13 @@ take-octets n s h i =
     (λ (l : i < n). rw (getD-take n s i 0 l) (h i))
     (λ (l : n ≤ i). rw (List·getD-eq-default (take n s) 0 {n = i} (simp length-take (omega arith))) (omega arith))
     (lt-or-le i n)
+
+-- no number of a table is above m
+abbrev pub AtMost : ℕ → List ℕ → Type 0
+AtMost m [] = Unit
+AtMost m (x ∷ xs) = (x ≤ m) × AtMost m xs
+
+pub at-most : (m : ℕ) (xs : List ℕ) → AtMost m xs → (k : ℕ) → getD xs k 0 ≤ m
+at-most m [] h k = omega arith
+at-most m (x ∷ xs) h zero = h .0
+at-most m (x ∷ xs) h (suc k) = at-most m xs (h .1) k

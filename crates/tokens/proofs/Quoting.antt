@@ -2,8 +2,7 @@
 --     Quoting s at i               what is left behind the quoted string is the same from `at` and from i
 --     quoting-begin .. quoting-end     the loop's steps
 --     quote-suffix                 what is left is a part of the text that does not begin before the second octet
---     quoted-to                    an answer `To n`: what is left is the text from n on, and n lies behind `at`; quoted-from, quoted-upto
---                                  and quoted-left say it one by one
+--     quoted-to                    an answer `To n`: what is left is the text from n on, and n lies behind `at`
 --     quoted-unreadable            an answer Unreadable: nothing is left
 -- Assumes nothing.
 use Prim.Native.Nat.{ℕ, _+_, _-_, _<_, _≤_}
@@ -104,15 +103,6 @@ module _ (s : List ℕ) (at : ℕ) (r : Reached) (e : r ≡ reached s (afterQuot
 
         beyond : length s ≤ at → Left s (at + 1) n (afterQuote false (drop at s))
         beyond l = let z : _≡_ {A = ℕ} 0 1 = cc (drop-done s at l) in absurd (omega arith)
-
-    pub quoted-from : at < n
-    quoted-from = omega (arith, quoted-to)
-
-    pub quoted-upto : n ≤ length s
-    quoted-upto = quoted-to .upto
-
-    pub quoted-left : afterQuote false (drop at s) ≡ some (drop n s)
-    quoted-left = quoted-to .left
 
   pub quoted-unreadable : r ≡ Unreadable → afterQuote false (drop at s) ≡ none
   quoted-unreadable q = reached-none s (afterQuote false (drop at s)) (sym q ∙ e)

@@ -3,13 +3,10 @@
 --     skipping-begin .. skipping-end    the loop's steps
 --     stays                        an octet that is neither blank nor "(" is where what is left begins
 --     skipped-suffix               what is left is a part of the text
---     skipped-again                behind what was skipped nothing is left to skip
---     left-not-blank, left-not-opens    so what is left opens neither with a blank nor with "("
---     skip-to                      an answer `To n`: what is left is the text from n on, and n is not before `at`; skip-from, skip-upto
---                                  and skip-left say it one by one
+--     skip-to                      an answer `To n`: what is left is the text from n on, and n is not before `at`; skip-left says the first alone
 --     skip-unreadable              an answer Unreadable: nothing is left
 -- Assumes nothing.
-use Prim.Native.Nat.{ℕ, suc, zero, _+_, _-_, _<_, _≤_}
+use Prim.Native.Nat.{ℕ, suc, zero, _+_, _<_, _≤_}
 use mathlib.Core.Path.{_≡_, refl, sym, _∙_}
 use mathlib.Core.Bool.{Bool, true, false}
 use mathlib.Core.List.{List, [], _∷_}
@@ -17,7 +14,7 @@ use mathlib.Core.Option.{some, none}
 use native.Mathlib.Omega.{arith}
 use native.Mathlib.Nat.{sub-zero}
 use borrow.Author.Needs.{needs}
-use borrow.Author.Tests.{eq-eqb, ne-eqb}
+use borrow.Author.Tests.{ne-eqb}
 use lib.Dec.{eqb, ltb}
 use lib.ListN.{length, getD, drop}
 use Rattle.octets.proofs.Lists.{drop-one, drop-done}
@@ -27,7 +24,7 @@ use Rattle.tokens.specs.declared.Kind.{Kind}
 use Rattle.tokens.specs.declared.Kind.the-variants.{Closes, Escapes, Control, Plain}
 use Rattle.tokens.specs.declared.Reached.{Reached}
 use Rattle.tokens.specs.declared.Reached.the-variants.{To, Unreadable}
-use Rattle.tokens.proofs.Places.{none-or-some, Suffix, whole, behind, suffix-length, Left, reached-at, reached-to, reached-none}
+use Rattle.tokens.proofs.Places.{none-or-some, Suffix, whole, behind, Left, reached-at, reached-to, reached-none}
 use Rattle.tokens.proofs.Commenting.{comment-nearer}
 
 pub stays : (x : ℕ) (s : List ℕ) → blank x ≡ false → (x ≡ 40 → ⊥) → skipped (x ∷ s) ≡ some (x ∷ s)
@@ -120,40 +117,11 @@ module _ (s rest : List ℕ) (e : skipped s ≡ some rest) where
   pub skipped-suffix : Suffix rest s
   skipped-suffix = left-behind 0 false s rest e .0
 
-  pub skipped-again : skipped rest ≡ some rest
-  skipped-again = left-behind 0 false s rest e .1
-
--- a list is no part of its own tail
-not-behind : (x : ℕ) (s : List ℕ) → Suffix (x ∷ s) s → ⊥
-not-behind x s h = omega (arith, suffix-length h)
-
-module _ (x : ℕ) (s rest : List ℕ) (e : skipped s ≡ some (x ∷ rest)) where
-  pub left-not-blank : blank x ≡ false
-  unfolding past
-  left-not-blank = go (blank x) refl
-    where
-      go : (b : Bool) → blank x ≡ b → b ≡ false
-      go true p = absurd (not-behind x rest (skipped-suffix rest (x ∷ rest) (rw (past, p) at (skipped-again s (x ∷ rest) e))))
-      go false p = refl
-
-  pub left-not-opens : x ≡ 40 → ⊥
-  unfolding past
-  left-not-opens p = not-behind x rest (left-behind 1 false rest (x ∷ rest) inside .0)
-    where
-      inside : past 1 false rest ≡ some (x ∷ rest)
-      inside = rw (past, left-not-blank, eq-eqb x 40 p) at (skipped-again s (x ∷ rest) e)
-
 -- what a caller of `skip` learns from its answer r
 module _ (s : List ℕ) (at : ℕ) (r : Reached) (e : r ≡ reached s (skipped (drop at s))) where
   module _ (n : ℕ) (q : r ≡ To n) (l : at ≤ length s) where
     pub skip-to : Left s at n (skipped (drop at s))
     skip-to = reached-to s at n (skipped (drop at s)) l (λ rest p. skipped-suffix (drop at s) rest p) (sym q ∙ e)
-
-    pub skip-from : at ≤ n
-    skip-from = skip-to .from
-
-    pub skip-upto : n ≤ length s
-    skip-upto = skip-to .upto
 
     pub skip-left : skipped (drop at s) ≡ some (drop n s)
     skip-left = skip-to .left

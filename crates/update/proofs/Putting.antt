@@ -6,7 +6,7 @@
 --     put-sound, put-octets          the table stays sound, and its octets octets
 --     put-own, put-other             the entry of the address, and any other
 --     put-entry                      both in one
---     keyless-sound .. heard-octets  sound, and octets, behind each of the three writers
+--     keyless-sound .. heard-sound   sound behind each of the three writers
 -- Assumes nothing.
 use Prim.Native.Nat.{ℕ, _<_, _≤_}
 use mathlib.Core.Path.{_≡_, refl, sym, ap, _∙_}
@@ -198,9 +198,6 @@ module _ (t a : List ℕ) (c : isCanonical a ≡ true) (p : AllOctets a) (s : ch
   pub keyless-sound : checked (put t a (updated date none)) ≡ Sound
   keyless-sound = put-sound t a c p (updated date none) (keeps-updated date h none tt) s o
 
-  pub keyless-octets : AllOctets (put t a (updated date none))
-  keyless-octets = put-octets t a c p (updated date none) (keeps-updated date h none tt) s o
-
   module _ (key : List ℕ) (k₁ : 1 ≤ length key) (k₂ : length key ≤ keyLimit) (k₃ : AllOctets key) where
     good-key : GoodKey key
     good-key = record { some-octet = k₁; most = k₂; octets = k₃ }
@@ -211,11 +208,5 @@ module _ (t a : List ℕ) (c : isCanonical a ≡ true) (p : AllOctets a) (s : ch
     pub keyed-sound : (m : Bool) → checked (put t a (updated date (some (record { timestamp = date; key = key; «mutual» = m })))) ≡ Sound
     keyed-sound m = put-sound t a c p (updated date (some (record { timestamp = date; key = key; «mutual» = m }))) (keeps-keyed m) s o
 
-    pub keyed-octets : (m : Bool) → AllOctets (put t a (updated date (some (record { timestamp = date; key = key; «mutual» = m }))))
-    keyed-octets m = put-octets t a c p (updated date (some (record { timestamp = date; key = key; «mutual» = m }))) (keeps-keyed m) s o
-
     pub heard-sound : checked (put t a (heard date key)) ≡ Sound
     heard-sound = put-sound t a c p (heard date key) (keeps-heard date h key good-key) s o
-
-    pub heard-octets : AllOctets (put t a (heard date key))
-    heard-octets = put-octets t a c p (heard date key) (keeps-heard date h key good-key) s o

@@ -4,7 +4,7 @@
 --     good-updated                    a direct half that was brought is good under last seen raised to its date
 --     setting                         what `set_field` asks: two writes to one slot
 --     entry-over                      an entry written over itself leaves the table
---     within, sound-place, good-place what is known of the slot that was placed
+--     within, sound-place             what is known of the slot that was placed
 --     written, left-alone             the table with the entry changed, and where the change leaves it
 --     seeing, keying, hearing         what `update_keyless`, `update_with_key` and `hear` ask
 -- Assumes nothing.
@@ -36,7 +36,7 @@ use Rattle.table.specs.declared.Found.{Found}
 use Rattle.table.specs.declared.Found.the-variants.{At, Nothing}
 use Rattle.table.proofs.Slots.{slots-kept, slot-same, slot-octets, slot-long as part-long}
 use Rattle.table.proofs.Finding.{found-at}
-use Rattle.table.proofs.Replaced.{written-over, written-back, found-good}
+use Rattle.table.proofs.Replaced.{written-over, written-back}
 use Rattle.table.proofs.Entries.{entry-sound}
 use Rattle.update.specs.Update.{younger, withField, updated, youngerGossip, heard, begun, put}
 use Rattle.update.proofs.Placing.{begun-sound, put-at, put-nothing}
@@ -147,9 +147,6 @@ module _ (t a u : List ℕ) (f : Found) (i : ℕ) (ef : f ≡ found (begun t a) 
     module _ (p : (j : ℕ) → Fits w8 (getD u j 0)) where
       octets : AllOctets (begun t a)
       octets = rw eu at (given-octets u p)
-
-      pub good-place : Good (entryOf (slotAt u i))
-      good-place = rw eu (found-good (begun t a) a (begun-sound t a c (given-octets a o) s) octets i here)
 
       pub left-alone : (change : Entry → Entry) → change (entryOf (slotAt u i)) ≡ entryOf (slotAt u i) → u ≡ put t a change
       left-alone change k =

@@ -1,0 +1,170 @@
+-- The words of a Date: its tokens, and what each means at the place where it stands. A value is read from its front, a token at a time.
+--     openingOf, firstToken     tokens
+--     numberOf, placeIn         runs of digits, and names
+--     meant                     what a token means at each place of a date
+use Prim.Native.Nat.{ℕ, _+_, _-_, _*_, _/_, _%_}
+use mathlib.Core.Bool.{Bool, true, false, _&&_}
+use mathlib.Core.List.{List, [], _∷_}
+use mathlib.Core.Option.{Option, some, none, bind}
+use lib.Dec.{leb, eqb}
+use lib.ListN.{length, getD, take, drop}
+use Rattle.octets.specs.Octets.{ascii, octet, sameOctets, sameName}
+use Rattle.tokens.specs.Tokens.{skipped, belongs, runLength}
+use Rattle.tokens.specs.declared.Class.the-variants.{Digit, Letter}
+use Rattle.datewords.specs.declared.token.Opening.{Opening}
+use Rattle.datewords.specs.declared.token.Opening.the-variants.{Number, Word, Plus, Minus, Mark}
+use Rattle.datewords.specs.declared.meaning.Place.{Place}
+use Rattle.datewords.specs.declared.meaning.Place.the-variants.{DayName, Comma, Day, Month, Year, UpTo, Colon, East, West}
+
+-- "Tokens are whole runs of digits or letters, a sign with its digits, comma and colon." What a token is shows in its first octet. Any
+-- other octet counts as a token by itself, which no place of a date takes.
+unfoldable pub openingOf : ℕ → Opening
+openingOf x =
+    elim (belongs Digit x) [
+      | true ↦ Number
+      | false ↦ elim (belongs Letter x) [
+        | true ↦ Word
+        | false ↦ elim (eqb x (octet "+")) [
+          | true ↦ Plus
+          | false ↦ elim (eqb x (octet "-")) [ true ↦ Minus | false ↦ Mark ]
+        ]
+      ]
+    ]
+
+-- how many of the octets s behind its first one a token has
+unfoldable pub further : Opening → List ℕ → ℕ
+further Number s = runLength Digit s
+further Word s = runLength Letter s
+further Plus s = runLength Digit s
+further Minus s = runLength Digit s
+further Mark s = 0
+
+-- a token and the octets behind it; or the end; or a comment that cannot be read
+pub data Token : Type 0 where
+  token : List ℕ → List ℕ → Token
+  end : Token
+  unreadable : Token
+
+unfoldable pub tokenAt : List ℕ → Token
+tokenAt [] = end
+tokenAt (x ∷ s) = let n = further (openingOf x) s in token (x ∷ take n s) (drop n s)
+
+-- "with any spaces, tabs and comments (as in lists), or none, between tokens and at both ends"
+unfoldable pub firstToken : List ℕ → Token
+firstToken s = elim (skipped s) [ none ↦ unreadable | some rest ↦ tokenAt rest ]
+
+-- the number, where the test holds
+unfoldable pub onlyIf : Bool → Option ℕ → Option ℕ
+onlyIf true o = o
+onlyIf false o = none
+
+unfoldable pub digitOf : ℕ → Option ℕ
+digitOf x = onlyIf (belongs Digit x) (some (x - octet "0"))
+
+-- the number that a run of digits stands for, n standing before it; none where an octet is no digit
+unfoldable pub valueFrom : ℕ → List ℕ → Option ℕ
+valueFrom n [] = some n
+valueFrom n (x ∷ s) = bind (digitOf x) (λ d. valueFrom (10 * n + d) s)
+
+-- no place of a date takes more than four digits
+unfoldable pub numberOf : List ℕ → Option ℕ
+numberOf t = onlyIf (leb (length t) 4) (valueFrom 0 t)
+
+-- "Day and month names have three letters; names and zones are in any case." A table has one name after the other.
+-- "The day name must be one of seven, its truth isn't tested."
+abbrev pub dayNames : List ℕ
+dayNames = ascii "MonTueWedThuFriSatSun"
+
+abbrev pub monthNames : List ℕ
+monthNames = ascii "JanFebMarAprMayJunJulAugSepOctNovDec"
+
+-- "EST -5, EDT -4, CST -6, CDT -5, MST -7, MDT -6, PST -8, PDT -7 hours"
+abbrev pub zoneNames : List ℕ
+zoneNames = ascii "ESTEDTCSTCDTMSTMDTPSTPDT"
+
+abbrev pub zoneHours : List ℕ
+zoneHours = 5 ∷ 4 ∷ 6 ∷ 5 ∷ 7 ∷ 6 ∷ 8 ∷ 7 ∷ []
+
+-- k here, or the place found later
+unfoldable pub hereOr : Bool → ℕ → Option ℕ → Option ℕ
+hereOr true k later = some k
+hereOr false k later = later
+
+-- which of the names t is, the first one being k; none where it is none of them
+unfoldable pub placeFrom : ℕ → List ℕ → List ℕ → Option ℕ
+placeFrom k t [] = none
+placeFrom k t (a ∷ []) = none
+placeFrom k t (a ∷ b ∷ []) = none
+placeFrom k t (a ∷ b ∷ c ∷ names) = hereOr (sameName t (a ∷ b ∷ c ∷ [])) k (placeFrom (k + 1) t names)
+
+abbrev pub placeIn : List ℕ → List ℕ → Option ℕ
+placeIn t names = placeFrom 0 t names
+
+-- a comma or a colon stands for nothing
+unfoldable pub markOf : List ℕ → List ℕ → Option ℕ
+markOf t mark = onlyIf (sameOctets t mark) (some 0)
+
+-- "Day has 1 or 2 digits"
+unfoldable pub dayOf : List ℕ → Option ℕ
+dayOf t = onlyIf (leb (length t) 2) (numberOf t)
+
+-- the months count from 1
+unfoldable pub monthOf : List ℕ → Option ℕ
+monthOf t = bind (placeIn t monthNames) (λ k. some (k + 1))
+
+-- "Years: two digits 00-49 add 2000, 50-99 add 1900, three digits add 1900, four digits from 1900."
+unfoldable pub yearBy : ℕ → ℕ → Option ℕ
+yearBy width n =
+    elim (eqb width 2) [
+      | true ↦ elim (leb n 49) [ true ↦ some (n + 2000) | false ↦ some (n + 1900) ]
+      | false ↦ elim (eqb width 3) [ true ↦ some (n + 1900) | false ↦ onlyIf (eqb width 4 && leb 1900 n) (some n) ]
+    ]
+
+unfoldable pub yearOf : List ℕ → Option ℕ
+yearOf t = bind (numberOf t) (λ n. yearBy (length t) n)
+
+-- "hours go to 23, minutes to 59, seconds to 60, two digits each"
+unfoldable pub twoDigits : ℕ → List ℕ → Option ℕ
+twoDigits most t = onlyIf (eqb (length t) 2) (bind (numberOf t) (λ n. onlyIf (leb n most) (some n)))
+
+-- "Zones: sign and four digits, minutes to 59": the seconds that the digits stand for
+unfoldable pub offsetBy : ℕ → Option ℕ
+offsetBy n = onlyIf (leb (n % 100) 59) (some (3600 * (n / 100) + 60 * (n % 100)))
+
+unfoldable pub offsetOf : List ℕ → Option ℕ
+offsetOf t = onlyIf (eqb (length t) 4) (bind (numberOf t) (λ n. offsetBy n))
+
+-- "other letters 0", UT and GMT among them
+unfoldable pub hoursWest : List ℕ → ℕ
+hoursWest t = elim (placeIn t zoneNames) [ none ↦ 0 | some k ↦ getD zoneHours k 0 ]
+
+abbrev pub opensWith : List ℕ → Opening
+opensWith t = openingOf (getD t 0 0)
+
+-- how many seconds a zone t lies east, by what it opens with
+unfoldable pub eastBy : Opening → List ℕ → Option ℕ
+eastBy Number t = none
+eastBy Word t = none
+eastBy Plus t = offsetOf (drop 1 t)
+eastBy Minus t = none
+eastBy Mark t = none
+
+-- how many seconds it lies west
+unfoldable pub westBy : Opening → List ℕ → Option ℕ
+westBy Number t = none
+westBy Word t = some (3600 * hoursWest t)
+westBy Plus t = none
+westBy Minus t = offsetOf (drop 1 t)
+westBy Mark t = none
+
+-- what a token means at a place of a date; none: it may not stand there
+unfoldable pub meant : Place → List ℕ → Option ℕ
+meant DayName t = placeIn t dayNames
+meant Comma t = markOf t (ascii ",")
+meant Day t = dayOf t
+meant Month t = monthOf t
+meant Year t = yearOf t
+meant (UpTo most) t = twoDigits most t
+meant Colon t = markOf t (ascii ":")
+meant East t = eastBy (opensWith t) t
+meant West t = westBy (opensWith t) t
