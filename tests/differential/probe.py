@@ -1,43 +1,24 @@
 """The functions of crate `probe`, called through ctypes.
 
 A slice is passed as a pointer and a length; a buffer that is lent for writing comes back as the octets it then holds.
-Guard octets stand before and behind each lent buffer, and are looked at after the call.
+Guard octets stand before and behind each lent buffer, and are looked at after the call. No export answers more than two
+numbers (tests/texts holds them to it): what is more is written to lent numbers.
 """
 import ctypes
 import os
+import struct
 from pathlib import Path
 
 ROOT = Path(__file__).resolve().parents[2]
 LIBRARY = ROOT / "build" / "libvienghulac_probe.so"
 SEED = int(os.environ.get("VIENGHULAC_SEED", "1"))
 GUARD = bytes(range(200, 232))
+TOO_FEW = 9
+UNWRITTEN = 0xFEEDFACE_DEADBEEF
 
 
 class Answer(ctypes.Structure):
     _fields_ = [("kind", ctypes.c_uint64), ("value", ctypes.c_uint64)]
-
-
-class FieldPlaces(ctypes.Structure):
-    _fields_ = [(name, ctypes.c_uint64) for name in ("kind", "name_end", "value", "end")]
-
-
-class NumberedPlaces(ctypes.Structure):
-    _fields_ = [(name, ctypes.c_uint64) for name in ("kind", "name", "name_end", "value", "end")]
-
-
-class ListPlaces(ctypes.Structure):
-    _fields_ = [
-        ("kind", ctypes.c_uint64),
-        ("from_", ctypes.c_uint64),
-        ("to", ctypes.c_uint64),
-        ("at", ctypes.c_size_t),
-        ("stage", ctypes.c_uint64),
-        ("inside", ctypes.c_bool),
-    ]
-
-
-class FieldRead(ctypes.Structure):
-    _fields_ = [(name, ctypes.c_uint64) for name in ("kind", "from_", "to", "key")] + [("mutual", ctypes.c_bool)]
 
 
 class Lent:
@@ -55,6 +36,20 @@ class Lent:
         if raw[: len(GUARD)] != GUARD or raw[len(GUARD) + self.length :] != GUARD:
             raise AssertionError("written outside the lent buffer")
         return raw[len(GUARD) : len(GUARD) + self.length]
+
+
+class LentNumbers:
+    """Numbers of 64 bits that are lent for one call."""
+
+    def __init__(self, count: int):
+        self.count = count
+        self.lent = Lent(struct.pack(f"{count}Q", *[UNWRITTEN] * count))
+
+    def words(self):
+        return self.lent.words()[0], self.count
+
+    def now(self) -> list[int]:
+        return list(struct.unpack(f"{self.count}Q", self.lent.now()))
 
 
 _size = ctypes.c_size_t
@@ -78,6 +73,17 @@ class Bound:
 class Probe(Bound):
     def __init__(self):
         super().__init__(LIBRARY)
+
+    def told(self, name: str, count: int, tells: int, kinds: list, *words) -> tuple[int, list[int]]:
+        """What an export answers that is lent `count` numbers: its kind and, with the kind `tells` alone, the numbers."""
+        lent = LentNumbers(count)
+        kind = self._call(name, ctypes.c_uint64, kinds + _write, *words, *lent.words())
+        numbers = lent.now()
+        if kind == tells:
+            return kind, numbers
+        if numbers != [UNWRITTEN] * count:
+            raise AssertionError(f"{name}: numbers written with the kind {kind}")
+        return kind, []
 
     # octets
 
@@ -165,23 +171,22 @@ class Probe(Bound):
         """The block's fields with their unfolded values, field by field; None: unreadable. The length limit is `readable`'s."""
         found, at = [], 0
         while True:
-            r = self._call("probe_field_at", FieldPlaces, _read + [_size], block, len(block), at)
-            if r.kind != 2:
-                return found if r.kind == 0 else None
-            if not at < r.name_end < r.value <= r.end <= len(block):
-                raise AssertionError(f"places out of order: {at} {r.name_end} {r.value} {r.end}")
-            kind, value = self.unfold(block[r.value : r.end], bytes(r.end - r.value))
-            found.append((block[at : r.name_end], value))
-            at = r.end
+            kind, places = self.told("probe_field_at", 3, 2, _read + [_size], block, len(block), at)
+            if kind != 2:
+                return found if kind == 0 else None
+            found.append(self._field(block, at, *places))
+            at = places[-1]
+
+    def _field(self, block: bytes, name: int, name_end: int, value: int, end: int) -> tuple[bytes, bytes]:
+        """The field at these places, with its unfolded value."""
+        if not name < name_end < value <= end <= len(block):
+            raise AssertionError(f"places out of order: {name} {name_end} {value} {end}")
+        return block[name:name_end], self.unfold(block[value:end], bytes(end - value))[1]
 
     def field_number(self, block: bytes, k: int) -> tuple[bytes, bytes] | int:
         """The field of that number, from 0, with its unfolded value; 0: the block is over before it; 1: it is unreadable before it."""
-        r = self._call("probe_field_number", NumberedPlaces, _read + [_size], block, len(block), k)
-        if r.kind != 2:
-            return r.kind
-        if not r.name < r.name_end < r.value <= r.end <= len(block):
-            raise AssertionError(f"places out of order: {r.name} {r.name_end} {r.value} {r.end}")
-        return block[r.name : r.name_end], self.unfold(block[r.value : r.end], bytes(r.end - r.value))[1]
+        kind, places = self.told("probe_field_number", 4, 2, _read + [_size], block, len(block), k)
+        return self._field(block, *places) if kind == 2 else kind
 
     def readable(self, block: bytes) -> bool:
         return self._call("probe_readable", ctypes.c_bool, _read, block, len(block))
@@ -221,21 +226,21 @@ class Probe(Bound):
         found, at, stage, inside = [], 0, 0, False
         kinds = _read + [_size, ctypes.c_uint64, ctypes.c_bool]
         while True:
-            r = self._call("probe_next_address", ListPlaces, kinds, s, len(s), at, stage, inside)
-            if r.kind != 0:
-                return found if r.kind == 2 else None
-            if not at <= r.from_ < r.to <= r.at <= len(s):
-                raise AssertionError(f"places out of order: {at} {r.from_} {r.to} {r.at}")
-            found.append(s[r.from_ : r.to])
-            at, stage, inside = r.at, r.stage, r.inside
+            kind, places = self.told("probe_next_address", 5, 0, kinds, s, len(s), at, stage, inside)
+            if kind != 0:
+                return found if kind == 2 else None
+            before, (start, to, at, stage, inside) = at, places
+            if not before <= start < to <= at <= len(s):
+                raise AssertionError(f"places out of order: {before} {start} {to} {at}")
+            found.append(s[start:to])
 
     def count(self, s: bytes) -> int | None:
         r = self._call("probe_count", Answer, _read, s, len(s))
         return r.value if r.kind == 0 else None
 
     def only(self, s: bytes) -> bytes | None:
-        r = self._call("probe_only", ListPlaces, _read, s, len(s))
-        return s[r.from_ : r.to] if r.kind == 0 else None
+        kind, places = self.told("probe_only", 2, 0, _read, s, len(s))
+        return s[slice(*places)] if kind == 0 else None
 
     # table
 
@@ -257,5 +262,6 @@ class Probe(Bound):
     def read_field(self, value: bytes, key: bytes) -> tuple[int, bytes, bool, int, bytes]:
         """The kind (0 valid, 1 spoiled, 2 too little room), the address as it stands, mutual, the key's length, the buffer."""
         lent = Lent(key)
-        r = self._call("probe_read_field", FieldRead, _read + _write, value, len(value), *lent.words())
-        return r.kind, value[r.from_ : r.to], r.mutual, r.key, lent.now()
+        kind, told = self.told("probe_read_field", 4, 0, _read + _write, value, len(value), *lent.words())
+        start, to, length, mutual = told or (0, 0, 0, 0)
+        return kind, value[start:to], bool(mutual), length, lent.now()

@@ -78,9 +78,9 @@ class Header(unittest.TestCase):
 
     def test_real_mail(self):
         blocks = mail.header_blocks()
-        self.assertGreater(len(blocks), 100)
+        self.assertGreaterEqual(len(blocks), mail.MESSAGES)
         readable = sum(not self.same(block) for block in blocks)
-        self.assertGreater(readable, len(blocks) // 2)
+        self.assertGreaterEqual(readable, mail.READABLE)
         for block in blocks:
             self.same(block.replace(b"\r\n", b"\n").replace(b"\n", b"\r\n"))
 

@@ -7,6 +7,23 @@ pub struct Answer {
     pub value: u64,
 }
 
+// An answer of more than two numbers goes into lent numbers: a struct of more than 16 octets isn't answered alike on all
+// machines. The export answers the kind alone, TOO_FEW where fewer numbers are lent; then, and where the kind has none, they
+// are as they were.
+const TOO_FEW: u64 = 9;
+
+fn tell(numbers: &mut [u64], told: &[u64], kind: u64) -> u64 {
+    if numbers.len() < told.len() {
+        return TOO_FEW;
+    }
+    let mut i = 0;
+    while i < told.len() {
+        numbers[i] = told[i];
+        i += 1;
+    }
+    kind
+}
+
 #[no_mangle]
 pub extern "C" fn probe_same(a: &[u8], b: &[u8]) -> bool {
     octets::same(a, b)
@@ -168,82 +185,39 @@ pub extern "C" fn probe_effective_date(available: bool, seconds: u64, receipt: u
     }
 }
 
-#[repr(C)]
-pub struct FieldPlaces {
-    pub kind: u64,
-    pub name_end: u64,
-    pub value: u64,
-    pub end: u64,
-}
-
-// kind 0: the block is over; 1: it is unreadable; 2: a field
+// kind 0: the block is over; 1: it is unreadable; 2: a field: where its name ends, its value begins, and the next line begins
 #[no_mangle]
-pub extern "C" fn probe_field_at(block: &[u8], at: usize) -> FieldPlaces {
+pub extern "C" fn probe_field_at(block: &[u8], at: usize, places: &mut [u64]) -> u64 {
     match header::field_at(block, at) {
-        header::Step::Over => FieldPlaces {
-            kind: 0,
-            name_end: 0,
-            value: 0,
-            end: 0,
-        },
-        header::Step::Broken => FieldPlaces {
-            kind: 1,
-            name_end: 0,
-            value: 0,
-            end: 0,
-        },
+        header::Step::Over => 0,
+        header::Step::Broken => 1,
         header::Step::Field {
             name_end,
             value,
             end,
-        } => FieldPlaces {
-            kind: 2,
-            name_end: name_end as u64,
-            value: value as u64,
-            end: end as u64,
-        },
+        } => {
+            let told = [name_end as u64, value as u64, end as u64];
+            tell(places, &told, 2)
+        }
     }
 }
 
-#[repr(C)]
-pub struct NumberedPlaces {
-    pub kind: u64,
-    pub name: u64,
-    pub name_end: u64,
-    pub value: u64,
-    pub end: u64,
-}
-
-// kind 0: the block is over before; 1: it is unreadable before; 2: the field of that number
+// kind 0: the block is over before; 1: it is unreadable before; 2: the field of that number: where its name begins and ends,
+// its value begins, and the next line begins
 #[no_mangle]
-pub extern "C" fn probe_field_number(block: &[u8], k: usize) -> NumberedPlaces {
+pub extern "C" fn probe_field_number(block: &[u8], k: usize, places: &mut [u64]) -> u64 {
     match reader::field_number(block, k) {
-        reader::Handed::Over => NumberedPlaces {
-            kind: 0,
-            name: 0,
-            name_end: 0,
-            value: 0,
-            end: 0,
-        },
-        reader::Handed::Broken => NumberedPlaces {
-            kind: 1,
-            name: 0,
-            name_end: 0,
-            value: 0,
-            end: 0,
-        },
+        reader::Handed::Over => 0,
+        reader::Handed::Broken => 1,
         reader::Handed::Field {
             name,
             name_end,
             value,
             end,
-        } => NumberedPlaces {
-            kind: 2,
-            name: name as u64,
-            name_end: name_end as u64,
-            value: value as u64,
-            end: end as u64,
-        },
+        } => {
+            let told = [name as u64, name_end as u64, value as u64, end as u64];
+            tell(places, &told, 2)
+        }
     }
 }
 
@@ -297,17 +271,6 @@ pub extern "C" fn probe_canonical(s: &[u8], out: &mut [u8]) -> Answer {
     }
 }
 
-// A cursor in a list and what was handed out before it. kind 0: an address; 1: the list is unreadable; 2: its end
-#[repr(C)]
-pub struct ListPlaces {
-    pub kind: u64,
-    pub from: u64,
-    pub to: u64,
-    pub at: usize,
-    pub stage: u64,
-    pub inside: bool,
-}
-
 fn stage_of(n: u64) -> list::grammar::Stage {
     match n {
         0 => list::grammar::Stage::Place,
@@ -330,19 +293,16 @@ fn stage_number(stage: list::grammar::Stage) -> u64 {
     }
 }
 
-fn handed_none(kind: u64) -> ListPlaces {
-    ListPlaces {
-        kind,
-        from: 0,
-        to: 0,
-        at: 0,
-        stage: 0,
-        inside: false,
-    }
-}
-
+// kind 0: an address, from where to where, and the cursor behind it: its place, its stage, 1 inside a group; 1: the list is
+// unreadable; 2: its end
 #[no_mangle]
-pub extern "C" fn probe_next_address(s: &[u8], at: usize, stage: u64, inside: bool) -> ListPlaces {
+pub extern "C" fn probe_next_address(
+    s: &[u8],
+    at: usize,
+    stage: u64,
+    inside: bool,
+    places: &mut [u64],
+) -> u64 {
     let cursor = list::Cursor {
         at,
         stage: stage_of(stage),
@@ -351,17 +311,17 @@ pub extern "C" fn probe_next_address(s: &[u8], at: usize, stage: u64, inside: bo
     match list::next_address(s, cursor) {
         list::Handed::Address { from, to, next } => {
             let stage = next.stage;
-            ListPlaces {
-                kind: 0,
-                from: from as u64,
-                to: to as u64,
-                at: next.at,
-                stage: stage_number(stage),
-                inside: next.inside,
-            }
+            let told = [
+                from as u64,
+                to as u64,
+                next.at as u64,
+                stage_number(stage),
+                next.inside as u64,
+            ];
+            tell(places, &told, 0)
         }
-        list::Handed::Unreadable => handed_none(1),
-        list::Handed::End => handed_none(2),
+        list::Handed::Unreadable => 1,
+        list::Handed::End => 2,
     }
 }
 
@@ -377,18 +337,15 @@ pub extern "C" fn probe_count(s: &[u8]) -> Answer {
     }
 }
 
+// kind 0: the one address, from where to where; 1: there is another number of them, or the list is unreadable
 #[no_mangle]
-pub extern "C" fn probe_only(s: &[u8]) -> ListPlaces {
+pub extern "C" fn probe_only(s: &[u8], places: &mut [u64]) -> u64 {
     match list::only_address(s) {
-        list::Only::One { from, to } => ListPlaces {
-            kind: 0,
-            from: from as u64,
-            to: to as u64,
-            at: 0,
-            stage: 0,
-            inside: false,
-        },
-        list::Only::Other => handed_none(1),
+        list::Only::One { from, to } => {
+            let told = [from as u64, to as u64];
+            tell(places, &told, 0)
+        }
+        list::Only::Other => 1,
     }
 }
 
@@ -417,44 +374,24 @@ pub extern "C" fn probe_count_free(t: &[u8]) -> usize {
     table::count_free(t)
 }
 
-// kind 0: valid; 1: spoiled; 2: too little room for the key
-#[repr(C)]
-pub struct FieldRead {
-    pub kind: u64,
-    pub from: u64,
-    pub to: u64,
-    pub key: u64,
-    pub mutual: bool,
-}
-
+// kind 0: valid: its address from where to where, the key's length, 1 for mutual; 1: spoiled; 2: too little room for the key
 #[no_mangle]
-pub extern "C" fn probe_read_field(value: &[u8], key: &mut [u8]) -> FieldRead {
+pub extern "C" fn probe_read_field(value: &[u8], key: &mut [u8], told: &mut [u64]) -> u64 {
+    // before the key is written
+    if told.len() < 4 {
+        return TOO_FEW;
+    }
     match keyfield::read_field(value, key) {
         keyfield::Read::Valid {
             from,
             to,
             mutual,
             key,
-        } => FieldRead {
-            kind: 0,
-            from: from as u64,
-            to: to as u64,
-            key: key as u64,
-            mutual,
-        },
-        keyfield::Read::Spoiled => FieldRead {
-            kind: 1,
-            from: 0,
-            to: 0,
-            key: 0,
-            mutual: false,
-        },
-        keyfield::Read::NoRoom => FieldRead {
-            kind: 2,
-            from: 0,
-            to: 0,
-            key: 0,
-            mutual: false,
-        },
+        } => {
+            let parts = [from as u64, to as u64, key as u64, mutual as u64];
+            tell(told, &parts, 0)
+        }
+        keyfield::Read::Spoiled => 1,
+        keyfield::Read::NoRoom => 2,
     }
 }
