@@ -1,6 +1,6 @@
 # make demo:    the whole job on an example: builds the library and the wheel, and runs the command line on a mailbox
 # make test:    the gate, as it runs on every change (proofs, must-fail edits, programs, all other tests)
-# make lib:     the libraries for this machine, below build/
+# make lib:     the libraries for this machine, below build/; with MACHINES="x86_64 aarch64" also for the other one
 # make wheel:   the Python package, build/wheel/vienghulac-*.whl
 # make bench:   the library beside C, GMime and Python's email, in one table (see bench/README.md)
 # make install: the C library, its header and its pkg-config file, below PREFIX
@@ -18,8 +18,8 @@ test:
 
 lib:
 	@tools/install
-	@tools/build-lib cabi vienghulac
-	@tools/build-lib probe vienghulac_probe
+	@tools/build-lib cabi vienghulac $(MACHINES)
+	@tools/build-lib probe vienghulac_probe $(MACHINES)
 
 bench: lib
 	@tools/install bench

@@ -74,12 +74,12 @@ class Probe(Bound):
     def __init__(self):
         super().__init__(LIBRARY)
 
-    def told(self, name: str, count: int, tells: int, kinds: list, *words) -> tuple[int, list[int]]:
-        """What an export answers that is lent `count` numbers: its kind and, with the kind `tells` alone, the numbers."""
+    def told(self, name: str, count: int, tells: set[int], kinds: list, *words) -> tuple[int, list[int]]:
+        """What an export answers that is lent `count` numbers: its kind and, with a kind of `tells` alone, the numbers."""
         lent = LentNumbers(count)
         kind = self._call(name, ctypes.c_uint64, kinds + _write, *words, *lent.words())
         numbers = lent.now()
-        if kind == tells:
+        if kind in tells:
             return kind, numbers
         if numbers != [UNWRITTEN] * count:
             raise AssertionError(f"{name}: numbers written with the kind {kind}")
@@ -171,7 +171,7 @@ class Probe(Bound):
         """The block's fields with their unfolded values, field by field; None: unreadable. The length limit is `readable`'s."""
         found, at = [], 0
         while True:
-            kind, places = self.told("probe_field_at", 3, 2, _read + [_size], block, len(block), at)
+            kind, places = self.told("probe_field_at", 3, {2}, _read + [_size], block, len(block), at)
             if kind != 2:
                 return found if kind == 0 else None
             found.append(self._field(block, at, *places))
@@ -185,8 +185,22 @@ class Probe(Bound):
 
     def field_number(self, block: bytes, k: int) -> tuple[bytes, bytes] | int:
         """The field of that number, from 0, with its unfolded value; 0: the block is over before it; 1: it is unreadable before it."""
-        kind, places = self.told("probe_field_number", 4, 2, _read + [_size], block, len(block), k)
+        kind, places = self.told("probe_field_number", 4, {2}, _read + [_size], block, len(block), k)
         return self._field(block, *places) if kind == 2 else kind
+
+    def steps(self, block: bytes) -> list[tuple[bytes, bytes]] | None:
+        """As `fields`, by a reader that hands out one field at a time; where there is none, it stays."""
+        found, at = [], 0
+        while True:
+            kind, (place, *places) = self.told("probe_take", 5, {0, 1, 2}, _read + [_size], block, len(block), at)
+            if kind != 2:
+                if (place, places) != (at, [UNWRITTEN] * 4):
+                    raise AssertionError(f"the reader at {at} handed out no field and is at {place}")
+                return found if kind == 0 else None
+            if (at, place) != (places[0], places[-1]):
+                raise AssertionError(f"the reader at {at} handed out {places} and is at {place}")
+            found.append(self._field(block, *places))
+            at = place
 
     def readable(self, block: bytes) -> bool:
         return self._call("probe_readable", ctypes.c_bool, _read, block, len(block))
@@ -226,7 +240,7 @@ class Probe(Bound):
         found, at, stage, inside = [], 0, 0, False
         kinds = _read + [_size, ctypes.c_uint64, ctypes.c_bool]
         while True:
-            kind, places = self.told("probe_next_address", 5, 0, kinds, s, len(s), at, stage, inside)
+            kind, places = self.told("probe_next_address", 5, {0}, kinds, s, len(s), at, stage, inside)
             if kind != 0:
                 return found if kind == 2 else None
             before, (start, to, at, stage, inside) = at, places
@@ -239,7 +253,7 @@ class Probe(Bound):
         return r.value if r.kind == 0 else None
 
     def only(self, s: bytes) -> bytes | None:
-        kind, places = self.told("probe_only", 2, 0, _read, s, len(s))
+        kind, places = self.told("probe_only", 2, {0}, _read, s, len(s))
         return s[slice(*places)] if kind == 0 else None
 
     # table
@@ -262,6 +276,6 @@ class Probe(Bound):
     def read_field(self, value: bytes, key: bytes) -> tuple[int, bytes, bool, int, bytes]:
         """The kind (0 valid, 1 spoiled, 2 too little room), the address as it stands, mutual, the key's length, the buffer."""
         lent = Lent(key)
-        kind, told = self.told("probe_read_field", 4, 0, _read + _write, value, len(value), *lent.words())
+        kind, told = self.told("probe_read_field", 4, {0}, _read + _write, value, len(value), *lent.words())
         start, to, length, mutual = told or (0, 0, 0, 0)
         return kind, value[start:to], bool(mutual), length, lent.now()

@@ -1,4 +1,4 @@
-"""Crate header against the independent program: generated blocks, blocks at the limit, and the header blocks of real mail."""
+"""Crates header and reader against the independent program: generated blocks, blocks at the limit, and the header blocks of real mail."""
 import unittest
 
 import mail
@@ -18,6 +18,7 @@ class Header(unittest.TestCase):
         self.assertEqual(self.probe.readable(block), expected is not None, block)
         if len(block) <= header.BLOCK_LIMIT:
             self.assertEqual(self.probe.fields(block), expected, block)
+            self.assertEqual(self.probe.steps(block), expected, block)
         return expected is None
 
     def test_blocks(self):

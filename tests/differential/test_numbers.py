@@ -17,17 +17,19 @@ class Numbers(unittest.TestCase):
     def same(self, name: str, kind: int, numbers: list[int], kinds: list, *words) -> None:
         """The export tells these numbers, with this kind."""
         for more in (0, 1, 5):
-            told = self.probe.told(name, len(numbers) + more, kind, kinds, *words)
+            told = self.probe.told(name, len(numbers) + more, {kind}, kinds, *words)
             self.assertEqual(told, (kind, numbers + [UNWRITTEN] * more), name)
         self.refused(name, kind, len(numbers), kinds, *words)
 
     def refused(self, name: str, kind: int, needed: int, kinds: list, *words) -> None:
         for count in range(needed):
-            self.assertEqual(self.probe.told(name, count, kind, kinds, *words), (TOO_FEW, []), name)
+            self.assertEqual(self.probe.told(name, count, {kind}, kinds, *words), (TOO_FEW, []), name)
 
     def test_fields(self):
         self.same("probe_field_at", 2, [6, 7, 12], READ + SIZE, BLOCK, len(BLOCK), 4)
         self.same("probe_field_number", 2, [4, 6, 7, 12], READ + SIZE, BLOCK, len(BLOCK), 1)
+        self.same("probe_take", 2, [12, 4, 6, 7, 12], READ + SIZE, BLOCK, len(BLOCK), 4)
+        self.same("probe_take", 0, [12], READ + SIZE, BLOCK, len(BLOCK), 12)
 
     def test_lists(self):
         kinds = READ + SIZE + [ctypes.c_uint64, ctypes.c_bool]

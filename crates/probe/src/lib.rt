@@ -221,6 +221,40 @@ pub extern "C" fn probe_field_number(block: &[u8], k: usize, places: &mut [u64])
     }
 }
 
+// One step of a reader that is at the place `at`, and told where it then is. kind 0: the block is over; 1: it is unreadable
+// there; 2: a field, whose places follow: where its name begins and ends, its value begins, and the next line begins
+#[no_mangle]
+pub extern "C" fn probe_take(block: &[u8], at: usize, places: &mut [u64]) -> u64 {
+    let taken = reader::take(block, at);
+    let handed = taken.handed;
+    let place = taken.at as u64;
+    match handed {
+        reader::Handed::Over => {
+            let told = [place];
+            tell(places, &told, 0)
+        }
+        reader::Handed::Broken => {
+            let told = [place];
+            tell(places, &told, 1)
+        }
+        reader::Handed::Field {
+            name,
+            name_end,
+            value,
+            end,
+        } => {
+            let told = [
+                place,
+                name as u64,
+                name_end as u64,
+                value as u64,
+                end as u64,
+            ];
+            tell(places, &told, 2)
+        }
+    }
+}
+
 #[no_mangle]
 pub extern "C" fn probe_readable(block: &[u8]) -> bool {
     header::readable(block)

@@ -15,8 +15,9 @@ use Rattle.header.specs.Answers.{stepAt}
 use Rattle.header.specs.declared.Step.{Step}
 use Rattle.header.specs.declared.Step.the-variants as step
 use Rattle.header.proofs.Stepping.{Places, field-places}
-use Rattle.reader.specs.Reading.{handed, handedAt, placeBehind, handedAfter}
+use Rattle.reader.specs.Reading.{handed, handedAt, placeBehind, handedAfter, takenAt}
 use Rattle.reader.specs.declared.Handed.{Handed}
+use Rattle.reader.specs.declared.Taken.{Taken}
 use Rattle.reader.specs.declared.Handed.the-variants.{Over, Broken, Field}
 
 module _ (s : List ℕ) (at : ℕ) (r : Step) (t : r ≡ stepAt s at) where
@@ -65,24 +66,25 @@ pub record Ahead (s : List ℕ) (at k i l : ℕ) : Type 0 where
 pub ahead-begin : (s : List ℕ) (at k : ℕ) → Ahead s at k at k
 ahead-begin s at k = record { same = refl }
 
-module _ (s : List ℕ) (at k i l : ℕ) (a : Ahead s at k i l) (h : Handed) (t : h ≡ handedAt s i) where
-  pub ahead-over : h ≡ Over → Over ≡ handedAfter k s at
-  ahead-over e = sym e ∙ stays l s i h t (behind-over h i e) ∙ sym (a .same)
+module _ (s : List ℕ) (at k i l : ℕ) (a : Ahead s at k i l) (r : Taken) (t : r ≡ takenAt s i) where
+  handed-is : r .handed ≡ handedAt s i
+  handed-is = ap (λ (x : Taken). x .handed) t
 
-  pub ahead-broken : h ≡ Broken → Broken ≡ handedAfter k s at
-  ahead-broken e = sym e ∙ stays l s i h t (behind-broken h i e) ∙ sym (a .same)
+  pub ahead-over : r .handed ≡ Over → Over ≡ handedAfter k s at
+  ahead-over e = sym e ∙ stays l s i (r .handed) handed-is (behind-over (r .handed) i e) ∙ sym (a .same)
 
-  module _ (m n v e : ℕ) (q : h ≡ Field m n v e) where
-    pub ahead-here : l ≡ 0 → Field m n v e ≡ handedAfter k s at
-    unfolding handedAfter
-    ahead-here z = sym q ∙ t ∙ sym (a .same ∙ ap (λ (x : ℕ). handedAfter x s i) z)
+  pub ahead-broken : r .handed ≡ Broken → Broken ≡ handedAfter k s at
+  ahead-broken e = sym e ∙ stays l s i (r .handed) handed-is (behind-broken (r .handed) i e) ∙ sym (a .same)
 
-    pub ahead-next : (l ≡ 0 → ⊥) → Ahead s at k e (l - 1)
-    unfolding handedAfter
-    ahead-next z =
-        let p : l ≡ (l - 1) + 1 = omega arith in
-        let j : placeBehind (handedAt s i) i ≡ e = sym (ap (λ (x : Handed). placeBehind x i) t) ∙ sym (behind-field h i m n v e q) in
-        record { same = a .same ∙ ap (λ (x : ℕ). handedAfter x s i) (p ∙ add-one (l - 1)) ∙ ap (handedAfter (l - 1) s) j }
+  pub ahead-here : (m n v e : ℕ) → r .handed ≡ Field m n v e → l ≡ 0 → Field m n v e ≡ handedAfter k s at
+  unfolding handedAfter
+  ahead-here m n v e q z = sym q ∙ handed-is ∙ sym (a .same ∙ ap (λ (x : ℕ). handedAfter x s i) z)
+
+  pub ahead-next : (l ≡ 0 → ⊥) → Ahead s at k (r .at) (l - 1)
+  unfolding handedAfter
+  ahead-next z =
+      let p : l ≡ (l - 1) + 1 = omega arith in
+      record { same = a .same ∙ ap (λ (x : ℕ). handedAfter x s i) (p ∙ add-one (l - 1)) ∙ ap (λ (x : Taken). handedAfter (l - 1) s (x .at)) (sym t) }
 
 pub ruleset reading-on = (ahead-begin, ahead-over, ahead-broken, ahead-here, ahead-next, needs)
 

@@ -3,6 +3,7 @@
 --     placeBehind              where the reader goes on
 --     handedAfter              what is handed out after so many others
 --     opened, movedOn          a reader at the beginning of a block, and behind what it handed out
+--     takenAt                  what is handed out at a place, and where the reader goes on
 --     textOf, fieldOf          the field that is handed out, and the field of a number of a list
 use Prim.Native.Nat.{ℕ, zero, suc}
 use mathlib.Core.List.{List, [], _∷_}
@@ -15,6 +16,7 @@ use Rattle.header.specs.declared.Step.the-variants as step
 use Rattle.reader.specs.declared.Handed.{Handed}
 use Rattle.reader.specs.declared.Handed.the-variants.{Over, Broken, Field}
 use Rattle.reader.specs.declared.Reader.{Reader}
+use Rattle.reader.specs.declared.Taken.{Taken}
 
 -- what is handed out at a place, by what stands there: a field with the place where its name begins
 unfoldable pub handed : ℕ → Step → Handed
@@ -43,6 +45,10 @@ opened block = record { block = block; at = 0 }
 -- the same block, and the place behind what is handed out
 abbrev pub movedOn : Reader → Reader
 movedOn r = record { block = r .block; at = placeBehind (handedAt (now (r .block)) (r .at)) (r .at) }
+
+-- both, for who keeps the place
+abbrev pub takenAt : List ℕ → ℕ → Taken
+takenAt s at = record { handed = handedAt s at; at = placeBehind (handedAt s at) at }
 
 -- the field that is handed out
 unfoldable pub textOf : List ℕ → Handed → Option FieldText

@@ -1,8 +1,8 @@
-// "A reader holds the block and its place and hands out one field at a time." The work is done by `hand_out`, `place_behind`
-// and `field_ahead`, which take the block and a place; what takes, makes or lends a reader is thin and leaves it to them.
-// Who has only a block and a number calls `field_number`.
+// "A reader holds the block and its place and hands out one field at a time." The work is done by `hand_out` and
+// `place_behind`, which take the block and a place; what takes, makes or lends a reader is thin and leaves it to them. Who keeps
+// a place and not a reader calls `take`, and who has only a block and a number `field_number`.
 ghost use mathlib.Core.Path.{_≡_};
-ghost use Rattle.reader.specs.Reading.{handedAt, placeBehind, handedAfter, opened, movedOn};
+ghost use Rattle.reader.specs.Reading.{handedAt, placeBehind, handedAfter, opened, movedOn, takenAt};
 
 // What a reader hands out: a field, whose name lies from `name` to `name_end` and its value, not unfolded yet, from `value`
 // to `end`, where the next line begins; or word that the block is over, or unreadable at the reader's place.
@@ -53,37 +53,6 @@ fn place_behind(handed: Handed, at: usize) -> usize
     }
 }
 
-// What a reader that begins at the place `at` hands out after `count` others.
-fn field_ahead(block: &[u8], at: usize, count: usize) -> Handed
-    ensures { λ r. ⌜ r ≡ handedAfter count (now (block .entry)) at ⌝ }
-{
-    let mut here = at;
-    let mut left = count;
-    loop {
-        match hand_out(block, here) {
-            Handed::Over => return Handed::Over,
-            Handed::Broken => return Handed::Broken,
-            Handed::Field {
-                name,
-                name_end,
-                value,
-                end,
-            } => {
-                if left == 0 {
-                    return Handed::Field {
-                        name,
-                        name_end,
-                        value,
-                        end,
-                    };
-                }
-                left -= 1;
-                here = end;
-            }
-        }
-    }
-}
-
 pub struct Reader<'a> {
     pub block: &'a [u8],
     pub at: usize,
@@ -107,12 +76,24 @@ impl<'a> Reader<'a> {
         self.at = place_behind(handed, at);
         handed
     }
+}
 
-    // What the reader would hand out after `count` others.
-    pub fn ahead(self, count: usize) -> Handed
-        ensures { λ r. ⌜ r ≡ handedAfter count (now (self .entry .block)) (self .entry .at) ⌝ }
-    {
-        field_ahead(self.block, self.at, count)
+// What a reader hands out, and the place where it then is.
+pub struct Taken {
+    pub handed: Handed,
+    pub at: usize,
+}
+
+// One step of a reader that is at the place `at`, for who keeps the place and not the reader.
+pub fn take(block: &[u8], at: usize) -> Taken
+    ensures { λ r. ⌜ r ≡ takenAt (now (block .entry)) at ⌝ }
+{
+    let mut reader = Reader::new(block);
+    reader.at = at;
+    let handed = reader.next();
+    Taken {
+        handed,
+        at: reader.at,
     }
 }
 
@@ -120,5 +101,31 @@ impl<'a> Reader<'a> {
 pub fn field_number(block: &[u8], k: usize) -> Handed
     ensures { λ r. ⌜ r ≡ handedAfter k (now (block .entry)) 0 ⌝ }
 {
-    Reader::new(block).ahead(k)
+    let mut at = 0;
+    let mut left = k;
+    loop {
+        let taken = take(block, at);
+        let handed = taken.handed;
+        match handed {
+            Handed::Over => return Handed::Over,
+            Handed::Broken => return Handed::Broken,
+            Handed::Field {
+                name,
+                name_end,
+                value,
+                end,
+            } => {
+                if left == 0 {
+                    return Handed::Field {
+                        name,
+                        name_end,
+                        value,
+                        end,
+                    };
+                }
+                left -= 1;
+                at = taken.at;
+            }
+        }
+    }
 }
