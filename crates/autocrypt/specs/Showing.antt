@@ -11,8 +11,7 @@ use mathlib.Core.Option.{Option, some, none}
 use lib.Dec.{leb}
 use lib.ListN.{length}
 use Rattle.table.specs.Table.{whole, checked}
-use Rattle.table.proofs.Keeping.{SoundTable}
-use Rattle.table.proofs.Broken.{Broken}
+use Rattle.table.specs.Slotwise.{SoundTable, Broken}
 use Rattle.entry.specs.Shown.{shownCount, shownAt}
 use Rattle.autocrypt.specs.Refusals.{numberOf}
 use Rattle.autocrypt.specs.Checking.{checkedAs}
