@@ -14,7 +14,7 @@ use lib.ListN.{length, getD}
 use Rattle.address.proofs.Every.{by-test}
 use Rattle.header.specs.Header.{limit, belongs, FieldText, inFront, fields, fieldsOf}
 use Rattle.header.specs.declared.Class.the-variants.{Blank}
-use Rattle.message.specs.Message.{readFields}
+use Rattle.fields.specs.Fields.{readFields}
 use Rattle.promises.proofs.Among.{Lines, inFrontAll}
 use Rattle.promises.proofs.RoundTrip.{ReadsBack}
 
