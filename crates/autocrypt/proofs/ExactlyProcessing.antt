@@ -29,7 +29,7 @@ use Rattle.table.proofs.Keeping.{table-sound, sound-table}
 use Rattle.table.proofs.Broken.{checked-broken, broken-checked, checked-out}
 use Rattle.update.specs.Message.{Message, GoodMessage, hasRoom, applied, entryAfter}
 use Rattle.update.proofs.Applying.{applied-sound, applied-octets, applied-entry}
-use Rattle.message.specs.Message.{senderIn, isReported}
+use Rattle.outer.specs.Outer.{senderIn, isReported}
 use Rattle.delivery.specs.Delivery.{messageBy}
 use Rattle.delivery.proofs.Good.{message-good}
 use Rattle.autocrypt.specs.Refusals.{numberOf}

@@ -24,17 +24,18 @@ use Rattle.table.specs.Table.{checked}
 use Rattle.table.specs.declared.Checked.{Checked as OfTable}
 use Rattle.table.specs.declared.Checked.the-variants.{Sound as Whole, Length, Slot}
 use Rattle.update.specs.Message.{Message, hasRoom, applied}
-use Rattle.message.specs.Message.{fieldsIn, senderIn, isReported}
-use Rattle.message.specs.Answers.{senderOf, leftBySender}
-use Rattle.message.specs.declared.Sender.{Sender as Sent}
-use Rattle.message.specs.declared.Sender.the-variants.{Address, NotOne}
-use Rattle.message.specs.Spans.{SurveyAs, SurveyedAs}
-use Rattle.message.specs.declared.Survey.{Survey}
-use Rattle.message.specs.declared.Surveyed.{Surveyed}
-use Rattle.message.specs.declared.Surveyed.the-variants.{Readable, Unreadable}
-use Rattle.message.proofs.Asking.{fields-are, fields-read}
-use Rattle.message.proofs.Walking.{survey-readable, surveyed-as}
-use Rattle.message.proofs.Sending.{sender-canonical, answer-none, left-is, left-within}
+use Rattle.fields.specs.Fields.{fieldsIn}
+use Rattle.fields.specs.Spans.{SurveyAs, SurveyedAs}
+use Rattle.fields.specs.declared.Survey.{Survey}
+use Rattle.fields.specs.declared.Surveyed.{Surveyed}
+use Rattle.fields.specs.declared.Surveyed.the-variants.{Readable, Unreadable}
+use Rattle.fields.proofs.Values.{fields-are, fields-read}
+use Rattle.fields.proofs.Walking.{survey-readable, surveyed-as}
+use Rattle.outer.specs.Outer.{senderIn, isReported}
+use Rattle.outer.specs.Answers.{senderOf, leftBySender}
+use Rattle.outer.specs.declared.Sender.{Sender as Sent}
+use Rattle.outer.specs.declared.Sender.the-variants.{Address, NotOne}
+use Rattle.outer.proofs.Senders.{sender-canonical, answer-none, left-is, left-within}
 use Rattle.delivery.specs.Delivery.{messageBy, delivered}
 use Rattle.delivery.proofs.Delivering.{block-short}
 use Rattle.autocrypt.specs.Checking.{checkedAs}

@@ -17,7 +17,7 @@ use Rattle.table.specs.Table.{whole, checked}
 use Rattle.table.specs.Slotwise.{SoundTable, Broken}
 use Rattle.table.specs.declared.Checked.the-variants.{Sound, Length, Slot}
 use Rattle.update.specs.Message.{Message, hasRoom, applied}
-use Rattle.message.specs.Message.{senderIn, isReported}
+use Rattle.outer.specs.Outer.{senderIn, isReported}
 use Rattle.delivery.specs.Delivery.{messageBy}
 use Rattle.autocrypt.specs.Refusals.{numberOf}
 use Rattle.autocrypt.specs.declared.Refusal.{Refusal}

@@ -12,8 +12,9 @@ ghost use Rattle.address.specs.Address.{isCanonical};
 ghost use Rattle.slots.specs.Slot.{timeLimit};
 ghost use Rattle.table.specs.Table.{checked};
 ghost use Rattle.table.specs.declared.Checked.the-variants.{Sound};
-ghost use Rattle.message.specs.Message.{fieldsIn, senderIn};
-ghost use Rattle.message.specs.Spans.{SurveyAs};
+ghost use Rattle.fields.specs.Fields.{fieldsIn};
+ghost use Rattle.fields.specs.Spans.{SurveyAs};
+ghost use Rattle.outer.specs.Outer.{senderIn};
 ghost use Rattle.autocrypt.specs.Checking.{checkedAs};
 ghost use Rattle.autocrypt.specs.Processing.{taken, payloadFields, withSender, withPayload, broughtBy, putInto, processed};
 ghost use Rattle.autocrypt.specs.Writing.{autocryptField, gossipField, writtenOf, leftByWriting};
@@ -23,10 +24,10 @@ ghost use Rattle.autocrypt.specs.Showing.{shownOf, leftByShowing};
 ghost use Rattle.autocrypt.specs.Recommending.{recipientList, recommendedOf, targetPartOf, targetKeyOf};
 pub use advice::Advice;
 pub use advice::Part;
+use fields::Survey;
+use fields::Surveyed;
 use list::Counted;
-use message::Sender;
-use message::Survey;
-use message::Surveyed;
+use outer::Sender;
 use slots::Slot;
 
 // Room for the values of most messages. Room has to be cleared before it is lent, and for the longest values that takes more
@@ -208,7 +209,7 @@ fn process_from(
     ensures { λ r. ⌜ r ≡ putInto (now (table .entry)) (withSender receipt (some (now (sender .entry))) (fieldsIn (now (outer .entry))) (payloadFields gossip (now (payload .entry)))) .answer ⌝ }
     ensures { λ _. ⌜ now (table .exit) ≡ putInto (now (table .entry)) (withSender receipt (some (now (sender .entry))) (fieldsIn (now (outer .entry))) (payloadFields gossip (now (payload .entry)))) .table ⌝ }
 {
-    if message::is_report(outer, survey, text) {
+    if outer::is_report(outer, survey, text) {
         return Processed::Refused(Refusal::Report);
     }
     if !is_taken(gossip) {
@@ -235,7 +236,7 @@ fn process_with(
     ensures { λ _. ⌜ now (table .exit) ≡ putInto (now (table .entry)) (withSender receipt (senderIn (fieldsIn (now (outer .entry)))) (fieldsIn (now (outer .entry))) (payloadFields gossip (now (payload .entry)))) .table ⌝ }
 {
     let mut sender = [0u8; Slot::ADDRESS_ROOM];
-    match message::sender_of(outer, survey, text, &mut sender) {
+    match outer::sender_of(outer, survey, text, &mut sender) {
         Sender::Address(n) => process_from(
             table,
             receipt,
@@ -286,7 +287,7 @@ fn process_sound(
     if Slot::TIME_LIMIT < receipt {
         return Processed::Refused(Refusal::ReceiptTime);
     }
-    match message::walk(outer) {
+    match fields::walk(outer) {
         Surveyed::Readable(survey) => {
             process_read(table, receipt, outer, survey, payload, gossip)
         }

@@ -26,14 +26,16 @@ use Rattle.table.specs.Table.{freeCount}
 use Rattle.roll.specs.Roll.{rolled, unrolled}
 use Rattle.update.specs.Update.{updated, put}
 use Rattle.update.specs.Message.{Message, Gossiped, gossipAddresses, newcomers, addressesOf, hasRoom, heardAll, applied}
-use Rattle.message.specs.Message.{fieldsIn, readFields, valuesOf, onlyValue, dateBy, dateIn, countedIn, recipientsIn, accepted, gossipIn}
-use Rattle.message.specs.Answers.{gossipFrom}
-use Rattle.message.specs.declared.Kind.the-variants.{Date}
-use Rattle.message.proofs.Asking.{block-begin}
-use Rattle.message.proofs.Walking.{survey-readable}
-use Rattle.message.proofs.Hearing.{gossip-all}
-use Rattle.message.proofs.Dating.{date-effective}
-use Rattle.message.proofs.Gathering.{gathered, gathered-within}
+use Rattle.fields.specs.Fields.{fieldsIn, readFields, valuesOf, onlyValue}
+use Rattle.fields.specs.declared.Kind.the-variants.{Date}
+use Rattle.fields.proofs.Values.{block-begin}
+use Rattle.fields.proofs.Walking.{survey-readable}
+use Rattle.outer.specs.Outer.{dateBy, dateIn, recipientsIn}
+use Rattle.outer.proofs.Dates.{date-effective}
+use Rattle.outer.proofs.RecipientRoll.{gathered, gathered-within}
+use Rattle.keys.specs.Keys.{countedIn, accepted, gossipIn}
+use Rattle.keys.specs.Answers.{gossipFrom}
+use Rattle.keys.proofs.GossipFields.{gossip-all}
 use Rattle.delivery.specs.Delivery.{directBy, messageBy, delivered}
 
 pub block-short : (s : List ℕ) → readable s ≡ true → length s ≤ limit

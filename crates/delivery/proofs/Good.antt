@@ -13,10 +13,13 @@ use Rattle.keyfield.specs.Field.{Field}
 use Rattle.slots.specs.Slot.{timeLimit}
 use Rattle.slots.specs.Entry.{GoodHalf}
 use Rattle.update.specs.Message.{GoodBrought, GoodMessage}
-use Rattle.message.specs.Message.{fieldsIn, senderIn, dateIn, countedIn, recipientsIn}
-use Rattle.message.proofs.Asking.{fields-are}
-use Rattle.message.proofs.Sending.{sender-canonical, sender-octets}
-use Rattle.message.proofs.Good.{counted-key, gossip-good, date-in-range}
+use Rattle.fields.specs.Fields.{fieldsIn}
+use Rattle.fields.proofs.Values.{fields-are}
+use Rattle.outer.specs.Outer.{senderIn, dateIn, recipientsIn}
+use Rattle.outer.proofs.Senders.{sender-canonical, sender-octets}
+use Rattle.outer.proofs.Dates.{date-in-range}
+use Rattle.keys.specs.Keys.{countedIn}
+use Rattle.keys.proofs.GoodKeys.{counted-key, gossip-good}
 use Rattle.delivery.specs.Delivery.{directBy, messageBy}
 
 pub direct-good : (date : ℕ) (fs : List FieldText) (sender : List ℕ) → GoodHalf (GoodBrought date) (directBy date (countedIn fs sender))

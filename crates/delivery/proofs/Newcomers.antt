@@ -34,10 +34,10 @@ use Rattle.roll.proofs.Rolls.{entry-length, rolled-none, unrolled-none, unrolle
 use Rattle.roll.proofs.Growing.{add-rolled}
 use Rattle.update.specs.Message.{Gossiped, gossipAddresses, newcomers}
 use Rattle.update.proofs.Room.{newcomer-not, newcomer-one}
-use Rattle.message.specs.Answers.{gossipFrom, HeardAs}
-use Rattle.message.specs.declared.Heard.{Heard}
-use Rattle.message.specs.declared.Heard.the-variants.{Next, Over}
-use Rattle.message.proofs.Hearing.{heard-first, heard-canonical, heard-address-within, heard-readable, heard-less, heard-over}
+use Rattle.keys.specs.Answers.{gossipFrom, HeardAs}
+use Rattle.keys.specs.declared.Heard.{Heard}
+use Rattle.keys.specs.declared.Heard.the-variants.{Next, Over}
+use Rattle.keys.proofs.GossipFields.{heard-first, heard-canonical, heard-address-within, heard-readable, heard-less, heard-over}
 use Rattle.delivery.specs.Counting.{Known, Rolls, IsOld, IsNew, IsTooMany, MetAs}
 use Rattle.delivery.specs.declared.Met.{Met}
 use Rattle.delivery.specs.declared.Met.the-variants.{Known as Old, New, Full}

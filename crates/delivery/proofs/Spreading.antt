@@ -17,10 +17,10 @@ use Rattle.table.specs.Table.{checked}
 use Rattle.table.specs.declared.Checked.the-variants.{Sound}
 use Rattle.update.specs.Update.{heard, put}
 use Rattle.update.specs.Message.{Gossiped, heardAll}
-use Rattle.message.specs.Answers.{gossipFrom, HeardAs}
-use Rattle.message.specs.declared.Heard.{Heard}
-use Rattle.message.specs.declared.Heard.the-variants.{Next, Over}
-use Rattle.message.proofs.Hearing.{heard-first, heard-canonical, heard-address-within, heard-some-octet, heard-most, heard-within, heard-readable, heard-less, heard-over}
+use Rattle.keys.specs.Answers.{gossipFrom, HeardAs}
+use Rattle.keys.specs.declared.Heard.{Heard}
+use Rattle.keys.specs.declared.Heard.the-variants.{Next, Over}
+use Rattle.keys.proofs.GossipFields.{heard-first, heard-canonical, heard-address-within, heard-some-octet, heard-most, heard-within, heard-readable, heard-less, heard-over}
 
 pub record Spreads (date : ℕ) (recipients : List (List ℕ)) (payload t₀ t : List ℕ) (at : ℕ) : Type 0 where
   pub so-far : heardAll date (gossipFrom recipients payload 0) t₀ ≡ heardAll date (gossipFrom recipients payload at) t

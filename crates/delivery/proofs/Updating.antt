@@ -11,10 +11,10 @@ use lib.ListN.{length, take, drop}
 use Rattle.slots.specs.Slot.{keyLimit}
 use Rattle.keyfield.specs.Field.{Field}
 use Rattle.update.specs.Update.{updated, put}
-use Rattle.message.specs.Answers.{CountedAs}
-use Rattle.message.specs.declared.Counted.{Counted}
-use Rattle.message.specs.declared.Counted.the-variants.{Key, NoKey}
-use Rattle.message.proofs.Counting.{counted-is, counted-some-octet, counted-most, counted-within, counted-nothing}
+use Rattle.keys.specs.Answers.{CountedAs}
+use Rattle.keys.specs.declared.Counted.{Counted}
+use Rattle.keys.specs.declared.Counted.the-variants.{Key, NoKey}
+use Rattle.keys.proofs.Counting.{counted-is, counted-some-octet, counted-most, counted-within, counted-nothing}
 use Rattle.delivery.specs.Delivery.{directBy}
 use Rattle.delivery.proofs.Spreading.{front, front-length}
 

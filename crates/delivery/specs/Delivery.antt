@@ -9,7 +9,8 @@ use Rattle.header.specs.Header.{FieldText}
 use Rattle.keyfield.specs.Field.{Field}
 use Rattle.slots.specs.Entry.{Direct}
 use Rattle.update.specs.Message.{Message, hasRoom, applied}
-use Rattle.message.specs.Message.{dateIn, countedIn, recipientsIn, gossipIn}
+use Rattle.outer.specs.Outer.{dateIn, recipientsIn}
+use Rattle.keys.specs.Keys.{countedIn, gossipIn}
 
 -- "With a counted field set timestamp, key and preference."
 unfoldable pub directBy : ℕ → Option Field → Option Direct

@@ -17,14 +17,16 @@ ghost use Rattle.table.specs.declared.Checked.the-variants.{Sound};
 ghost use Rattle.roll.specs.Roll.{unrolled};
 ghost use Rattle.update.specs.Update.{updated, put};
 ghost use Rattle.update.specs.Message.{gossipAddresses, newcomers, hasRoom, heardAll, applied};
-ghost use Rattle.message.specs.Message.{fieldsIn, countedIn, recipientsIn};
-ghost use Rattle.message.specs.Answers.{gossipFrom};
-ghost use Rattle.message.specs.Spans.{SurveyAs};
+ghost use Rattle.fields.specs.Fields.{fieldsIn};
+ghost use Rattle.fields.specs.Spans.{SurveyAs};
+ghost use Rattle.outer.specs.Outer.{recipientsIn};
+ghost use Rattle.keys.specs.Keys.{countedIn};
+ghost use Rattle.keys.specs.Answers.{gossipFrom};
 ghost use Rattle.delivery.specs.Delivery.{directBy, messageBy, delivered};
 ghost use Rattle.delivery.specs.Counting.{Rolls, MetAs};
-use message::Counted;
-use message::Heard;
-use message::Survey;
+use fields::Survey;
+use keys::Counted;
+use keys::Heard;
 use slots::Slot;
 use table::Found;
 
@@ -82,7 +84,7 @@ fn has_room_for(
     let mut count = many;
     let mut at = 0;
     loop {
-        match message::next_gossip(payload, at, recipients, text, &mut address, &mut key) {
+        match keys::next_gossip(payload, at, recipients, text, &mut address, &mut key) {
             Heard::Next {
                 end: next,
                 address: n,
@@ -141,7 +143,7 @@ fn hear_all(table: &mut [u8], date: u64, payload: &[u8], recipients: &[u8], text
     let mut key = [0u8; Slot::KEY_LIMIT];
     let mut at = 0;
     loop {
-        match message::next_gossip(payload, at, recipients, text, &mut address, &mut key) {
+        match keys::next_gossip(payload, at, recipients, text, &mut address, &mut key) {
             Heard::Next {
                 end,
                 address: n,
@@ -169,7 +171,7 @@ fn update_sender(
     ensures { λ _. ⌜ checked (now (table .exit)) ≡ Sound ⌝ }
 {
     let mut key = [0u8; Slot::KEY_LIMIT];
-    match message::counted_field(outer, survey, sender, text, &mut key) {
+    match keys::counted_field(outer, survey, sender, text, &mut key) {
         Counted::Key { mutual, length } => {
             update::update_with_key(table, sender, date, &key[0..length], mutual);
         }
@@ -209,7 +211,7 @@ fn put_message(
     requires { ⌜ (checked (now table) ≡ Sound) × (receipt ≤ timeLimit) × SurveyAs (now outer) survey × (length (now outer) ≤ length (now text)) × (readable (now payload) ≡ true) × (length (now payload) ≤ length (now text)) × (isCanonical (now sender) ≡ true) × (unrolled (now recipients) ≡ recipientsIn (fieldsIn (now outer))) ⌝ }
     ensures { λ _. ⌜ now (table .exit) ≡ applied (now (table .entry)) (messageBy receipt (now (sender .entry)) (fieldsIn (now (outer .entry))) (fieldsIn (now (payload .entry)))) ⌝ }
 {
-    let date = date::effective_date(message::date(outer, survey, text), receipt);
+    let date = date::effective_date(outer::date(outer, survey, text), receipt);
     apply(
         table,
         date,
@@ -279,7 +281,7 @@ fn deliver_alone(
     if !has_room_alone(table, sender) {
         return false;
     }
-    let date = date::effective_date(message::date(outer, survey, text), receipt);
+    let date = date::effective_date(outer::date(outer, survey, text), receipt);
     update_sender(table, outer, survey, sender, date, text);
     true
 }
@@ -302,7 +304,7 @@ pub fn deliver(
         return deliver_alone(table, receipt, outer, survey, sender, text);
     }
     let mut roll = [0u8; ROLL];
-    let filled = message::recipients(outer, survey, text, &mut roll);
+    let filled = outer::recipients(outer, survey, text, &mut roll);
     deliver_to(
         table,
         receipt,

@@ -24,7 +24,7 @@ use Rattle.table.specs.Table.{checked}
 use Rattle.table.specs.declared.Checked.{Checked}
 use Rattle.table.specs.declared.Checked.the-variants.{Sound, Length, Slot}
 use Rattle.update.specs.Message.{Message, GoodMessage, hasRoom}
-use Rattle.message.specs.Message.{senderIn, isReported}
+use Rattle.outer.specs.Outer.{senderIn, isReported}
 use Rattle.delivery.specs.Delivery.{delivered}
 use Rattle.delivery.proofs.Good.{message-good}
 use Rattle.autocrypt.specs.Processing.{payloadFields, Brought, refused, brings, withPayload, withSender, withOuter, broughtBy, Outcome, refusing, putInto, processed}

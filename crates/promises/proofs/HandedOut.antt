@@ -21,8 +21,10 @@ use Rattle.table.specs.declared.Checked.{Checked}
 use Rattle.table.specs.declared.Checked.the-variants.{Sound}
 use Rattle.advice.specs.Advice.{directOf, gossipOf, targetBy, targetOf, targetIn, targets}
 use Rattle.update.specs.Update.{younger, youngerGossip}
-use Rattle.message.specs.Message.{fieldsIn, valuesOf, senderIn, dateIn, recipientsIn, gossipIn}
-use Rattle.message.specs.declared.Kind.the-variants.{Autocrypt}
+use Rattle.fields.specs.Fields.{fieldsIn, valuesOf}
+use Rattle.fields.specs.declared.Kind.the-variants.{Autocrypt}
+use Rattle.outer.specs.Outer.{senderIn, dateIn, recipientsIn}
+use Rattle.keys.specs.Keys.{gossipIn}
 use Rattle.autocrypt.specs.Checking.{checkedAs}
 use Rattle.autocrypt.specs.Processing.{taken, processed}
 use Rattle.autocrypt.specs.Recommending.{recipientList, refusedBy, refusedRecommending, unlessRefused, targetKeyOf}

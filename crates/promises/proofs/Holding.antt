@@ -11,7 +11,7 @@ use lib.Dec.{leb}
 use lib.ListN.{length}
 use Rattle.address.proofs.Every.{by-test}
 use Rattle.header.specs.Header.{limit, FieldText, inFront, fields, fieldsOf}
-use Rattle.message.specs.Message.{readFields}
+use Rattle.fields.specs.Fields.{readFields}
 use Rattle.promises.specs.RoundTrip.{inFrontAll, ReadsBack, Holding, behind}
 
 -- fields in front of a readable rest

@@ -13,8 +13,9 @@ use Rattle.table.specs.Entries.{entryIn}
 use Rattle.table.specs.declared.Checked.the-variants.{Sound}
 use Rattle.table.proofs.Keeping.{sound-table}
 use Rattle.update.specs.Message.{entryAfter}
-use Rattle.message.specs.Message.{fieldsIn, senderIn}
-use Rattle.message.proofs.Asking.{fields-are}
+use Rattle.fields.specs.Fields.{fieldsIn}
+use Rattle.fields.proofs.Values.{fields-are}
+use Rattle.outer.specs.Outer.{senderIn}
 use Rattle.delivery.specs.Delivery.{messageBy}
 use Rattle.autocrypt.specs.Processing.{payloadFields, processed, numberAfter, Row, nought}
 use Rattle.autocrypt.specs.declared.Gossip.{Gossip}

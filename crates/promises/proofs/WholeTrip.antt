@@ -23,9 +23,12 @@ use Rattle.table.specs.Entries.{entryIn}
 use Rattle.table.specs.declared.Checked.the-variants.{Sound}
 use Rattle.table.proofs.Replaced.{entry-good}
 use Rattle.update.specs.Message.{Gossiped, Message, entryAfter}
-use Rattle.message.specs.Message.{fieldsIn, isKind, valuesOf, senderIn, dateIn, countedIn, recipientsIn, accepted, gossipIn}
-use Rattle.message.specs.declared.Kind.the-variants.{Autocrypt, AutocryptGossip}
-use Rattle.message.proofs.Joining.{values-append, values-first, gossip-append, accepted-listed}
+use Rattle.fields.specs.Fields.{fieldsIn, isKind, valuesOf}
+use Rattle.fields.specs.declared.Kind.the-variants.{Autocrypt, AutocryptGossip}
+use Rattle.fields.proofs.Values.{values-append, values-first}
+use Rattle.outer.specs.Outer.{senderIn, dateIn, recipientsIn}
+use Rattle.keys.specs.Keys.{countedIn, accepted, gossipIn}
+use Rattle.keys.proofs.AcceptedGossip.{gossip-append, accepted-listed}
 use Rattle.delivery.specs.Delivery.{directBy, messageBy}
 use Rattle.autocrypt.specs.Processing.{taken, processed}
 use Rattle.autocrypt.specs.Writing.{autocryptField, gossipField, writtenOf, leftByWriting}

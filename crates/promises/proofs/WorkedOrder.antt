@@ -41,7 +41,9 @@ use Rattle.update.specs.Message as brought
 use Rattle.update.specs.Message.{Message, GoodMessage, hasRoom, applied, entryAfter}
 use Rattle.update.proofs.Room.{stands-present, newcomer-not}
 use Rattle.update.proofs.Applying.{applied-sound, applied-octets, applied-entry}
-use Rattle.message.specs.Message as message
+use Rattle.fields.specs.Fields as fields
+use Rattle.outer.specs.Outer as outer-specs
+use Rattle.keys.specs.Keys as keys
 use Rattle.delivery.specs.Delivery as delivery
 use Rattle.autocrypt.specs.Processing as processing
 use Rattle.autocrypt.specs.Processing.{Brought, brings, broughtBy, putInto, Outcome}
@@ -84,7 +86,7 @@ abbrev read : Call → Brought
 read c = broughtBy (c .receipt) (c .outer) (c .payload) (c .setting)
 
 reads : (read older ≡ brings (bringing "foo" 1000)) × (read younger ≡ brings (bringing "bar" 2000))
-unfolding broughtBy processing.withOuter processing.withSender processing.withPayload processing.payloadFields processing.taken delivery.messageBy delivery.directBy bind octets.lower octets.lowered octets.sameName octets.sameOctets octets.startsWith tokens.blank tokens.past tokens.kindOf tokens.control tokens.belongs tokens.runLength tokens.afterQuote base64.decode base64.follow base64.before base64.atEnd base64.grouped base64.closed base64.signOf base64.without base64.blank header.fieldsOf header.fields header.fieldsWithin header.inFront header.unfolded header.over header.ofEnding header.opensField header.runLength header.rawLength header.belongs header.closes header.isReport pieces.every pieces.onFirst pieces.pieces pieces.before pieces.behind pieces.run address.addressOctet address.atom address.localPart address.labelOctet address.freeEnds address.label address.domain address.plain address.canonical list.openingOf list.holdsAt list.runToken list.quotedToken list.tokenAt list.firstToken list.afterAddress list.after list.inFront list.listedBy list.listed list.addresses answered.onlyOf date.effectiveDate keyfield.trimmedFront keyfield.trimmedBack keyfield.trimmed keyfield.nameOf keyfield.attribute keyfield.holds keyfield.attributeOf keyfield.withAddress keyfield.withPreference keyfield.step keyfield.saidWith keyfield.ifLast keyfield.saidFrom keyfield.saidOf keyfield.limited keyfield.keyOf keyfield.withKey keyfield.fieldBy keyfield.fieldOf keyfield.naming keyfield.validFields keyfield.onlyOne keyfield.counted message.readFields message.fieldsIn message.isKind message.valuesOf message.onlyValue message.canonicalOf message.senderBy message.senderIn message.anyReport message.isReported message.dateBy message.dateIn message.countedIn message.accepted message.gossipIn
+unfolding broughtBy processing.withOuter processing.withSender processing.withPayload processing.payloadFields processing.taken delivery.messageBy delivery.directBy bind octets.lower octets.lowered octets.sameName octets.sameOctets octets.startsWith tokens.blank tokens.past tokens.kindOf tokens.control tokens.belongs tokens.runLength tokens.afterQuote base64.decode base64.follow base64.before base64.atEnd base64.grouped base64.closed base64.signOf base64.without base64.blank header.fieldsOf header.fields header.fieldsWithin header.inFront header.unfolded header.over header.ofEnding header.opensField header.runLength header.rawLength header.belongs header.closes header.isReport pieces.every pieces.onFirst pieces.pieces pieces.before pieces.behind pieces.run address.addressOctet address.atom address.localPart address.labelOctet address.freeEnds address.label address.domain address.plain address.canonical list.openingOf list.holdsAt list.runToken list.quotedToken list.tokenAt list.firstToken list.afterAddress list.after list.inFront list.listedBy list.listed list.addresses answered.onlyOf date.effectiveDate keyfield.trimmedFront keyfield.trimmedBack keyfield.trimmed keyfield.nameOf keyfield.attribute keyfield.holds keyfield.attributeOf keyfield.withAddress keyfield.withPreference keyfield.step keyfield.saidWith keyfield.ifLast keyfield.saidFrom keyfield.saidOf keyfield.limited keyfield.keyOf keyfield.withKey keyfield.fieldBy keyfield.fieldOf keyfield.naming keyfield.validFields keyfield.onlyOne keyfield.counted fields.readFields fields.fieldsIn fields.isKind fields.valuesOf fields.onlyValue outer-specs.canonicalOf outer-specs.senderBy outer-specs.senderIn outer-specs.anyReport outer-specs.isReported outer-specs.dateBy outer-specs.dateIn keys.countedIn keys.accepted keys.gossipIn
 reads = (refl, refl)
 
 free-octets : AllOctets free

@@ -34,7 +34,9 @@ use Rattle.table.specs.Entries.{entryIn}
 use Rattle.table.proofs.Keeping.{table-sound}
 use Rattle.update.specs.Update as update
 use Rattle.update.specs.Message as brought
-use Rattle.message.specs.Message as message
+use Rattle.fields.specs.Fields as fields
+use Rattle.outer.specs.Outer as outer-specs
+use Rattle.keys.specs.Keys as keys
 use Rattle.delivery.specs.Delivery as delivery
 use Rattle.autocrypt.specs.Processing.{taken, payloadFields, Outcome, processed, Readied}
 use Rattle.autocrypt.specs.Recommending.{targetKeyOf}
@@ -82,8 +84,8 @@ holding =
       is = refl;
     }
 
-readied : Readied free 1000 outer [] Unset (message.fieldsIn outer) (ascii "a@b.example") []
-unfolding table.checked table.whole table.slots table.judged table.right table.slotAt slots.free octets.allZero octets.sameOctets octets.sameName octets.lowered octets.lower header.fieldsOf header.fields header.fieldsWithin header.inFront header.unfolded header.over header.ofEnding header.opensField header.runLength header.rawLength header.belongs header.closes header.isReport list.openingOf list.holdsAt list.runToken list.quotedToken list.tokenAt list.firstToken list.afterAddress list.after list.inFront list.listedBy list.listed list.addresses answers.onlyOf address.addressOctet address.plain address.localPart address.atom address.domain address.label address.labelOctet address.freeEnds address.canonical pieces.every pieces.onFirst pieces.pieces pieces.before pieces.behind pieces.run tokens.blank tokens.past tokens.kindOf tokens.control tokens.belongs tokens.afterQuote message.readFields message.fieldsIn message.isKind message.valuesOf message.onlyValue message.canonicalOf message.senderBy message.senderIn message.anyReport message.isReported payloadFields taken
+readied : Readied free 1000 outer [] Unset (fields.fieldsIn outer) (ascii "a@b.example") []
+unfolding table.checked table.whole table.slots table.judged table.right table.slotAt slots.free octets.allZero octets.sameOctets octets.sameName octets.lowered octets.lower header.fieldsOf header.fields header.fieldsWithin header.inFront header.unfolded header.over header.ofEnding header.opensField header.runLength header.rawLength header.belongs header.closes header.isReport list.openingOf list.holdsAt list.runToken list.quotedToken list.tokenAt list.firstToken list.afterAddress list.after list.inFront list.listedBy list.listed list.addresses answers.onlyOf address.addressOctet address.plain address.localPart address.atom address.domain address.label address.labelOctet address.freeEnds address.canonical pieces.every pieces.onFirst pieces.pieces pieces.before pieces.behind pieces.run tokens.blank tokens.past tokens.kindOf tokens.control tokens.belongs tokens.afterQuote fields.readFields fields.fieldsIn fields.isKind fields.valuesOf fields.onlyValue outer-specs.canonicalOf outer-specs.senderBy outer-specs.senderIn outer-specs.anyReport outer-specs.isReported payloadFields taken
 readied =
     record {
       sent = record { opened = record { in-time = record { sound = table-sound free refl; in-range = omega arith }; read = refl }; sent = refl };
@@ -91,21 +93,21 @@ readied =
       gossip = refl;
     }
 
-room : brought.hasRoom free (delivery.messageBy 1000 (ascii "a@b.example") (message.fieldsIn outer) []) ≡ true
-unfolding brought.hasRoom brought.newcomers brought.addressesOf brought.gossipAddresses delivery.messageBy message.accepted message.gossipIn message.valuesOf table.found table.lowest table.holds table.freeCount table.howMany table.unused table.slots table.slotAt slots.marked slots.addressOf number octets.sameOctets list.among
+room : brought.hasRoom free (delivery.messageBy 1000 (ascii "a@b.example") (fields.fieldsIn outer) []) ≡ true
+unfolding brought.hasRoom brought.newcomers brought.addressesOf brought.gossipAddresses delivery.messageBy keys.accepted keys.gossipIn fields.valuesOf table.found table.lowest table.holds table.freeCount table.howMany table.unused table.slots table.slotAt slots.marked slots.addressOf number octets.sameOctets list.among
 room = refl
 
 done : processed free 1000 outer [] Unset .answer ≡ Done
-done = ap (λ (o : Outcome). o .answer) (done-outcome free 1000 outer [] Unset (message.fieldsIn outer) (ascii "a@b.example") [] readied room)
+done = ap (λ (o : Outcome). o .answer) (done-outcome free 1000 outer [] Unset (fields.fieldsIn outer) (ascii "a@b.example") [] readied room)
 
 foo-is-there : directHalf (entryIn (processed free 1000 outer [] Unset .table) (ascii "a@b.example"))
     ≡ some (record { timestamp = 1000; key = ascii "foo"; «mutual» = true })
-unfolding holding others behind directHalf entryIn update.younger table.found table.lowest table.holds table.slots table.slotAt slots.marked slots.addressOf number octets.sameOctets octets.sameName octets.lowered octets.lower header.fieldsOf header.fields header.fieldsWithin header.inFront header.unfolded header.over header.ofEnding header.opensField header.runLength header.rawLength header.belongs header.closes list.openingOf list.holdsAt list.runToken list.quotedToken list.tokenAt list.firstToken list.afterAddress list.after list.inFront list.listedBy list.listed list.addresses answers.onlyOf address.addressOctet address.plain address.localPart address.atom address.domain address.label address.labelOctet address.freeEnds address.canonical pieces.every pieces.onFirst pieces.pieces pieces.before pieces.behind pieces.run tokens.blank tokens.past tokens.kindOf tokens.control tokens.belongs tokens.afterQuote date.effectiveDate keyfield.validFields message.readFields message.fieldsIn message.isKind message.valuesOf message.onlyValue message.canonicalOf message.senderBy message.senderIn message.dateBy message.dateIn
+unfolding holding others behind directHalf entryIn update.younger table.found table.lowest table.holds table.slots table.slotAt slots.marked slots.addressOf number octets.sameOctets octets.sameName octets.lowered octets.lower header.fieldsOf header.fields header.fieldsWithin header.inFront header.unfolded header.over header.ofEnding header.opensField header.runLength header.rawLength header.belongs header.closes list.openingOf list.holdsAt list.runToken list.quotedToken list.tokenAt list.firstToken list.afterAddress list.after list.inFront list.listedBy list.listed list.addresses answers.onlyOf address.addressOctet address.plain address.localPart address.atom address.domain address.label address.labelOctet address.freeEnds address.canonical pieces.every pieces.onFirst pieces.pieces pieces.before pieces.behind pieces.run tokens.blank tokens.past tokens.kindOf tokens.control tokens.belongs tokens.afterQuote date.effectiveDate keyfield.validFields fields.readFields fields.fieldsIn fields.isKind fields.valuesOf fields.onlyValue outer-specs.canonicalOf outer-specs.senderBy outer-specs.senderIn outer-specs.dateBy outer-specs.dateIn
 foo-is-there =
     let h = autocrypt-processed free 1000 outer [] Unset (replicate-octets 4392 0 (omega arith)) (tested outer refl) (tested [] refl) done address-given (ascii "foo") true writable holding refl refl in
     ap directHalf (h .there) ∙ h .set refl
 
 foo-is-handed-out : targetKeyOf (processed free 1000 outer [] Unset .table) address-given 0 ≡ ascii "foo"
-unfolding holding others behind directHalf entryIn update.younger table.found table.lowest table.holds table.slots table.slotAt slots.marked slots.addressOf number octets.sameOctets octets.sameName octets.lowered octets.lower header.fieldsOf header.fields header.fieldsWithin header.inFront header.unfolded header.over header.ofEnding header.opensField header.runLength header.rawLength header.belongs header.closes list.openingOf list.holdsAt list.runToken list.quotedToken list.tokenAt list.firstToken list.afterAddress list.after list.inFront list.listedBy list.listed list.addresses answers.onlyOf address.addressOctet address.plain address.localPart address.atom address.domain address.label address.labelOctet address.freeEnds address.canonical pieces.every pieces.onFirst pieces.pieces pieces.before pieces.behind pieces.run tokens.blank tokens.past tokens.kindOf tokens.control tokens.belongs tokens.afterQuote date.effectiveDate keyfield.validFields message.readFields message.fieldsIn message.isKind message.valuesOf message.onlyValue message.canonicalOf message.senderBy message.senderIn message.dateBy message.dateIn
+unfolding holding others behind directHalf entryIn update.younger table.found table.lowest table.holds table.slots table.slotAt slots.marked slots.addressOf number octets.sameOctets octets.sameName octets.lowered octets.lower header.fieldsOf header.fields header.fieldsWithin header.inFront header.unfolded header.over header.ofEnding header.opensField header.runLength header.rawLength header.belongs header.closes list.openingOf list.holdsAt list.runToken list.quotedToken list.tokenAt list.firstToken list.afterAddress list.after list.inFront list.listedBy list.listed list.addresses answers.onlyOf address.addressOctet address.plain address.localPart address.atom address.domain address.label address.labelOctet address.freeEnds address.canonical pieces.every pieces.onFirst pieces.pieces pieces.before pieces.behind pieces.run tokens.blank tokens.past tokens.kindOf tokens.control tokens.belongs tokens.afterQuote date.effectiveDate keyfield.validFields fields.readFields fields.fieldsIn fields.isKind fields.valuesOf fields.onlyValue outer-specs.canonicalOf outer-specs.senderBy outer-specs.senderIn outer-specs.dateBy outer-specs.dateIn
 foo-is-handed-out =
     key-handed-out free 1000 outer [] Unset (replicate-octets 4392 0 (omega arith)) (tested outer refl) (tested [] refl) done address-given (ascii "foo") true writable holding refl refl refl

@@ -14,7 +14,9 @@ use Rattle.header.specs.Header.{FieldText}
 use Rattle.date.specs.Date.{dateOf}
 use Rattle.keyfield.specs.Field.{Field, fieldOf}
 use Rattle.slots.specs.Entry.{Entry}
-use Rattle.message.specs.Message.{fieldsIn, senderIn, countedIn}
+use Rattle.fields.specs.Fields.{fieldsIn}
+use Rattle.outer.specs.Outer.{senderIn}
+use Rattle.keys.specs.Keys.{countedIn}
 use Rattle.advice.specs.Advice.{adviceFor}
 use Rattle.advice.specs.declared.Advice.{Advice}
 use Rattle.advice.specs.declared.Advice.the-variants.{Available, Discourage}

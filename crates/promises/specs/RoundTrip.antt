@@ -17,7 +17,7 @@ use Rattle.header.specs.Blocks.{isRaw}
 use Rattle.header.specs.declared.Class.the-variants.{Name, Blank}
 use Rattle.address.specs.Address.{oneTo, plain, canonical}
 use Rattle.keyfield.specs.Field.{keyLimit, fieldOf}
-use Rattle.message.specs.Message.{readFields}
+use Rattle.fields.specs.Fields.{readFields}
 
 -- what a field can be written for
 pub record Writable (address key : List ℕ) : Type 0 where

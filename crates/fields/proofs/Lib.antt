@@ -1,0 +1,5 @@
+pub mod Names
+pub mod Values
+pub mod Finding
+pub mod Walking
+pub mod Single

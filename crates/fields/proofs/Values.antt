@@ -1,0 +1,107 @@
+-- The fields of a block, and the values of those that are asked for.
+--     fields-are, fields-read      the fields of a readable block
+--     block-begin                  from its first line on they are readable
+--     values-first, values-other   the values that are asked for, by the first field of some
+--     values-in, values-out        the same in front of those that are readable
+--     values-append                those of fields behind fields
+--     values-by                    those from a place on, by the fields there
+--     values-all, values-end       from the first line on they are those of the block, at its end there are none
+--     fields-octets, only-octets   values of a block of octets are octets
+-- Assumes nothing.
+use Prim.Native.Nat.{ℕ}
+use mathlib.Core.Path.{_≡_, refl, sym, ap, _∙_}
+use mathlib.Core.Bool.{Bool, true, false, false≢true}
+use mathlib.Core.List.{List, [], _∷_, _++_}
+use mathlib.Core.Option.{Option, some, none}
+use native.Mathlib.Omega.{arith}
+use lib.ListN.{length}
+use lib.Seq.{drop-length}
+use Rattle.octets.specs.Octets.{AllOctets}
+use Rattle.header.specs.Header.{FieldText, over, inFront, isSome, fieldsOf, readable}
+use Rattle.header.specs.Answers.{fieldsFrom}
+use Rattle.header.proofs.Fields.{fields-over, fields-fit, clear-fits, clear-begin}
+use Rattle.header.proofs.Octetwise.{ValuesOctets, block-octets}
+use Rattle.fields.specs.Fields.{readFields, fieldsIn, isKind, valuesOf, onlyValue}
+use Rattle.fields.specs.Answers.{valuesFrom}
+use Rattle.fields.specs.declared.Kind.{Kind}
+
+pub fields-are : (s : List ℕ) (fs : List FieldText) → fieldsOf s ≡ some fs → fieldsIn s ≡ fs
+unfolding fieldsIn readFields
+fields-are s fs e = rw e
+
+pub fields-read : (s : List ℕ) → readable s ≡ true → fieldsOf s ≡ some (fieldsIn s)
+unfolding fieldsIn readFields isSome
+fields-read s c = go (fieldsOf s) refl
+  where
+    go : (o : Option (List FieldText)) → fieldsOf s ≡ o → fieldsOf s ≡ some (readFields (fieldsOf s))
+    go none e = absurd (false≢true (sym (ap isSome e) ∙ c))
+    go (some fs) e = rw e
+
+pub block-begin : (s : List ℕ) → readable s ≡ true → isSome (fieldsFrom s 0) ≡ true
+block-begin s c = clear-begin s true (sym c) refl
+
+module _ (kind : Kind) (f : FieldText) where
+  pub values-first : (fs : List FieldText) → isKind kind (f .name) ≡ true → valuesOf kind (f ∷ fs) ≡ f .value ∷ valuesOf kind fs
+  unfolding valuesOf
+  values-first fs e = rw (valuesOf, e)
+
+  pub values-other : (fs : List FieldText) → isKind kind (f .name) ≡ false → valuesOf kind (f ∷ fs) ≡ valuesOf kind fs
+  unfolding valuesOf
+  values-other fs e = rw (valuesOf, e)
+
+  -- in front of those that are readable
+  pub values-in : (o : Option (List FieldText)) → isKind kind (f .name) ≡ true → isSome o ≡ true
+      → valuesOf kind (readFields (inFront f o)) ≡ f .value ∷ valuesOf kind (readFields o)
+  unfolding readFields inFront isSome
+  values-in none e c = absurd (false≢true c)
+  values-in (some fs) e c = values-first fs e
+
+  pub values-out : (o : Option (List FieldText)) → isKind kind (f .name) ≡ false → valuesOf kind (readFields (inFront f o)) ≡ valuesOf kind (readFields o)
+  unfolding readFields inFront valuesOf
+  values-out none e = refl
+  values-out (some fs) e = values-other fs e
+
+pub values-append : (kind : Kind) (fs gs : List FieldText) → valuesOf kind (fs ++ gs) ≡ valuesOf kind fs ++ valuesOf kind gs
+unfolding valuesOf
+values-append kind [] gs = refl
+values-append kind (f ∷ fs) gs = go (isKind kind (f .name)) refl (values-append kind fs gs)
+  where
+    go : (b : Bool) → isKind kind (f .name) ≡ b → valuesOf kind (fs ++ gs) ≡ valuesOf kind fs ++ valuesOf kind gs
+        → valuesOf kind (f ∷ (fs ++ gs)) ≡ valuesOf kind (f ∷ fs) ++ valuesOf kind gs
+    go true e h = rw (values-first kind f (fs ++ gs) e, values-first kind f fs e, h)
+    go false e h = rw (values-other kind f (fs ++ gs) e, values-other kind f fs e, h)
+
+module _ (kind : Kind) (s : List ℕ) where
+  pub values-by : (at : ℕ) (o : Option (List FieldText)) → fieldsFrom s at ≡ o → valuesFrom kind s at ≡ valuesOf kind (readFields o)
+  unfolding valuesFrom
+  values-by at o e = rw e
+
+  pub values-all : readable s ≡ true → valuesFrom kind s 0 ≡ valuesOf kind (fieldsIn s)
+  unfolding fieldsIn
+  values-all c = values-by 0 (fieldsOf s) (sym (fields-fit s (clear-fits s true (sym c) refl)))
+
+  pub values-end : valuesFrom kind s (length s) ≡ []
+  unfolding valuesFrom fieldsFrom valuesOf readFields over
+  values-end = rw (drop-length s, fields-over [] refl)
+
+pub fields-octets : (s : List ℕ) → AllOctets s → ValuesOctets (fieldsIn s)
+unfolding fieldsIn readFields ValuesOctets
+fields-octets s o = go (fieldsOf s) refl
+  where
+    go : (found : Option (List FieldText)) → fieldsOf s ≡ found → ValuesOctets (readFields (fieldsOf s))
+    go none e = rw e tt
+    go (some fs) e = rw e (block-octets s o fs e)
+
+-- the one value of its kind; behind a first one there is none
+pub only-octets : (kind : Kind) (fs : List FieldText) (v : List ℕ) → ValuesOctets fs → onlyValue (valuesOf kind fs) ≡ some v → AllOctets v
+unfolding valuesOf onlyValue ValuesOctets
+only-octets kind [] v h e = let z : _≡_ {A = ℕ} 0 1 = cc in absurd (omega arith)
+only-octets kind (f ∷ fs) v h e = go (isKind kind (f .name)) refl (λ q. only-octets kind fs v (h .1) q)
+  where
+    first : (rest : List (List ℕ)) → onlyValue (f .value ∷ rest) ≡ some v → f .value ≡ v
+    first [] q = cc
+    first (w ∷ rest) q = let z : _≡_ {A = ℕ} 0 1 = cc in absurd (omega arith)
+
+    go : (b : Bool) → isKind kind (f .name) ≡ b → (onlyValue (valuesOf kind fs) ≡ some v → AllOctets v) → AllOctets v
+    go true k later = rw (first (valuesOf kind fs) (rw (values-first kind f fs k) at e)) at (h .0)
+    go false k later = later (rw (values-other kind f fs k) at e)

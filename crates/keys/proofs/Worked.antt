@@ -1,0 +1,76 @@
+-- Messages that are worked out: the Autocrypt field that counts, and the gossip that is accepted.
+-- Assumes nothing.
+use Prim.Native.String.{String}
+use mathlib.Core.Path.{_≡_, refl}
+use mathlib.Core.Bool.{false}
+use mathlib.Core.List.{[], _∷_, map}
+use mathlib.Core.Option.{Option, some, none}
+use Rattle.octets.specs.Octets.{ascii, lower, lowered, sameName, sameOctets, startsWith}
+use Rattle.header.specs.Header as header
+use Rattle.tokens.specs.Tokens.{blank, belongs}
+use Rattle.base64.specs.Base64 as base64
+use Rattle.address.specs.Pieces.{every, onFirst, pieces, before, behind}
+use Rattle.address.specs.Address.{atom, localPart, labelOctet, freeEnds, label, domain, plain, canonical}
+use Rattle.list.specs.List.{among}
+use Rattle.keyfield.specs.Field.{
+  Field,
+  trimmedFront,
+  trimmedBack,
+  trimmed,
+  nameOf,
+  attribute,
+  holds,
+  attributeOf,
+  withAddress,
+  withPreference,
+  step,
+  saidWith,
+  ifLast,
+  saidFrom,
+  saidOf,
+  limited,
+  keyOf,
+  withKey,
+  fieldBy,
+  fieldOf,
+  naming,
+  validFields,
+  onlyOne,
+  counted,
+}
+use Rattle.update.specs.Message.{Gossiped}
+use Rattle.fields.specs.Fields.{readFields, fieldsIn, isKind, valuesOf}
+use Rattle.keys.specs.Keys.{countedIn, acceptedBy, accepted, gossipIn}
+
+abbrev countedOf : String → Option Field
+countedOf s = countedIn (fieldsIn (ascii s)) (ascii "a@b")
+
+abbrev key : String → Option Field
+key k = some (record { address = ascii "a@b"; isMutual = false; key = ascii k })
+
+-- From a@b: one valid field counts, folded and from a name in any case, also beside one of another address, a spoiled one and gossip. Two count as
+-- none, even if they are equal; so does none.
+counts :
+    map countedOf
+    ("Autocrypt: addr=A@b; keydata=Zg==\r\nFrom: a@b\r\n"
+    ∷ "autocrypt: addr=c@d; keydata=Zm9v\nAUTOCRYPT: addr=a@b;\n keydata=Z\n g==\nAutocrypt: addr=a@b\nAutocrypt-Gossip: addr=a@b; keydata=Zm9v"
+    ∷ "Autocrypt: addr=a@b; keydata=Zg==\nAutocrypt: addr=a@b; keydata=Zm9v"
+    ∷ "Autocrypt: addr=a@b; keydata=Zg==\nAutocrypt: addr=a@b; keydata=Zg=="
+    ∷ "Autocrypt: addr=c@d; keydata=Zg=="
+    ∷ [])
+    ≡ key "f" ∷ key "f" ∷ none ∷ none ∷ none ∷ []
+unfolding header.fieldsOf header.fields header.fieldsWithin header.inFront header.unfolded header.over header.ofEnding header.opensField header.runLength header.rawLength header.belongs header.closes sameName sameOctets startsWith lowered lower trimmedFront trimmedBack trimmed nameOf attribute holds attributeOf withAddress withPreference step saidWith ifLast saidFrom saidOf limited keyOf withKey fieldBy fieldOf naming validFields onlyOne counted base64.decode base64.follow base64.before base64.atEnd base64.grouped base64.closed base64.signOf base64.without base64.blank blank belongs every onFirst pieces before behind atom localPart labelOctet freeEnds label domain plain canonical readFields fieldsIn isKind valuesOf countedIn
+counts = refl
+
+abbrev gossip : String → String → Gossiped
+gossip a k = record { address = ascii a; key = ascii k }
+
+-- In order, in canonical form and each time it is said; not what is about nobody in the lists, spoiled, or an Autocrypt field. A preference is ignored.
+heard :
+    gossipIn (ascii "C@d" ∷ ascii "a@b" ∷ [])
+    (fieldsIn
+    (ascii
+    "Autocrypt-Gossip: addr=a@B; keydata=Zg==\nAutocrypt-Gossip: addr=x@y; keydata=Zg==\nautocrypt-gossip: addr=c@d; prefer-encrypt=mutual; keydata=Zm9v\nAutocrypt: addr=a@b; keydata=Zm9v\nAutocrypt-Gossip: addr=c@d\nAutocrypt-Gossip: addr=a@b; keydata=Zm9v"))
+    ≡ gossip "a@b" "f" ∷ gossip "c@d" "foo" ∷ gossip "a@b" "foo" ∷ []
+unfolding header.fieldsOf header.fields header.fieldsWithin header.inFront header.unfolded header.over header.ofEnding header.opensField header.runLength header.rawLength header.belongs header.closes sameName sameOctets startsWith lowered lower trimmedFront trimmedBack trimmed nameOf attribute holds attributeOf withAddress withPreference step saidWith ifLast saidFrom saidOf limited keyOf withKey fieldBy fieldOf base64.decode base64.follow base64.before base64.atEnd base64.grouped base64.closed base64.signOf base64.without base64.blank blank belongs every onFirst pieces before behind atom localPart labelOctet freeEnds label domain plain canonical among readFields fieldsIn isKind valuesOf acceptedBy accepted gossipIn
+heard = refl

@@ -1,3 +1,0 @@
-pub mod Message
-pub mod Answers
-pub mod Spans

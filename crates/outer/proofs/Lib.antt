@@ -1,0 +1,6 @@
+pub mod Texts
+pub mod Senders
+pub mod Reports
+pub mod Dates
+pub mod RecipientRoll
+pub mod Worked

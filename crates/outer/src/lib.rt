@@ -1,0 +1,106 @@
+// What the outer block of a message says besides keys: its sender, whether it is a report, its Date and its recipients.
+// What is right is said by specs/Outer.antt.
+//
+// Values are unfolded into a lent text, which has to be as long as the block. What it holds afterwards means nothing.
+ghost use Prim.Native.Nat.{_≤_};
+ghost use mathlib.Core.Path.{_≡_};
+ghost use lib.ListN.{length};
+ghost use Rattle.octets.specs.Written.{onto};
+ghost use Rattle.slots.specs.Slot.{addressRoom};
+ghost use Rattle.date.specs.Answers.{datedOf};
+ghost use Rattle.roll.specs.Roll.{rolled};
+ghost use Rattle.fields.specs.Fields.{fieldsIn, valuesOf, onlyValue};
+ghost use Rattle.fields.specs.declared.Kind.the-variants.{Date};
+ghost use Rattle.fields.specs.Spans.{SurveyAs};
+ghost use Rattle.outer.specs.Outer.{senderIn, isReported, dateBy, recipientsIn};
+ghost use Rattle.outer.specs.Answers.{senderOf, leftBySender};
+use date::Dated;
+use fields::Kind;
+use fields::Named;
+use fields::Only;
+use fields::Survey;
+
+// The length of the sender's canonical address; or there is not exactly one sender.
+pub enum Sender {
+    Address(usize),
+    NotOne,
+}
+
+// Writes the sender's canonical address to the front of `out`.
+pub fn sender_of(block: &[u8], survey: Survey, text: &mut [u8], out: &mut [u8]) -> Sender
+    requires { ⌜ SurveyAs (now block) survey × (length (now block) ≤ length (now text)) × (addressRoom ≤ length (now out)) ⌝ }
+    ensures { λ r. ⌜ r ≡ senderOf (senderIn (fieldsIn (now (block .entry)))) ⌝ }
+    ensures { λ _. ⌜ now (out .exit) ≡ leftBySender (senderIn (fieldsIn (now (block .entry)))) (now (out .entry)) ⌝ }
+{
+    match fields::only_field(block, survey.from, Kind::From) {
+        Only::One { value, end } => {
+            let n = header::unfold(&block[value..end], text);
+            match list::only_address(&text[0..n]) {
+                list::Only::One { from, to } => match address::canonical(&text[from..to], out) {
+                    address::Written::Length(length) => Sender::Address(length),
+                    address::Written::NoRoom => Sender::NotOne,
+                },
+                list::Only::Other => Sender::NotOne,
+            }
+        }
+        Only::Other => Sender::NotOne,
+    }
+}
+
+// Is a Content-Type multipart/report?
+pub fn is_report(block: &[u8], survey: Survey, text: &mut [u8]) -> bool
+    requires { ⌜ SurveyAs (now block) survey × (length (now block) ≤ length (now text)) ⌝ }
+    ensures { λ r. ⌜ r ≡ isReported (fieldsIn (now (block .entry))) ⌝ }
+{
+    let span = survey.content;
+    let last = span.last;
+    let mut at = span.first;
+    loop {
+        match fields::find(block, at, last, Kind::ContentType) {
+            Named::Field { value, end } => {
+                let n = header::unfold(&block[value..end], text);
+                if header::is_report(&text[0..n]) {
+                    return true;
+                }
+                at = end;
+            }
+            Named::Nothing => return false,
+        }
+    }
+}
+
+// The Date, where there is exactly one Date field.
+pub fn date(block: &[u8], survey: Survey, text: &mut [u8]) -> Dated
+    requires { ⌜ SurveyAs (now block) survey × (length (now block) ≤ length (now text)) ⌝ }
+    ensures { λ r. ⌜ r ≡ datedOf (dateBy (onlyValue (valuesOf Date (fieldsIn (now (block .entry)))))) ⌝ }
+{
+    match fields::only_field(block, survey.date, Kind::Date) {
+        Only::One { value, end } => {
+            let n = header::unfold(&block[value..end], text);
+            date::date(&text[0..n])
+        }
+        Only::Other => Dated::Unavailable,
+    }
+}
+
+// Writes the roll of all recipients to the front of `roll`, and answers where it ends.
+pub fn recipients(block: &[u8], survey: Survey, text: &mut [u8], roll: &mut [u8]) -> usize
+    requires { ⌜ SurveyAs (now block) survey × (length (now block) ≤ length (now text)) × (length (now block) ≤ length (now roll)) ⌝ }
+    ensures { λ r. ⌜ r ≡ length (rolled (recipientsIn (fieldsIn (now (block .entry))))) ⌝ }
+    ensures { λ _. ⌜ now (roll .exit) ≡ onto (rolled (recipientsIn (fieldsIn (now (block .entry))))) (now (roll .entry)) ⌝ }
+{
+    let span = survey.recipients;
+    let last = span.last;
+    let mut filled = 0;
+    let mut at = span.first;
+    loop {
+        match fields::find(block, at, last, Kind::Recipients) {
+            Named::Field { value, end } => {
+                let n = header::unfold(&block[value..end], text);
+                filled = roll::add_list(roll, filled, &text[0..n]);
+                at = end;
+            }
+            Named::Nothing => return filled,
+        }
+    }
+}
