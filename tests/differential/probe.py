@@ -263,3 +263,11 @@ class Probe(Bound):
         lent = Lent(key)
         r = self._call("probe_read_field", FieldRead, _read + _write, value, len(value), *lent.words())
         return r.kind, value[r.from_ : r.to], r.mutual, r.key, lent.now()
+
+    # printout
+
+    def printout(self, given: bytes, out: bytes) -> tuple[int, bytes]:
+        """How long the listing's text is, and the buffer, which has the length that the function takes for granted."""
+        lent = Lent(out)
+        pointer, _ = lent.words()
+        return self._call("probe_printout", _size, _read + [ctypes.c_void_p], given, len(given), pointer), lent.now()
