@@ -279,3 +279,11 @@ class Probe(Bound):
         kind, told = self.told("probe_read_field", 4, {0}, _read + _write, value, len(value), *lent.words())
         start, to, length, mutual = told or (0, 0, 0, 0)
         return kind, value[start:to], bool(mutual), length, lent.now()
+
+    # printout
+
+    def printout(self, given: bytes, out: bytes) -> tuple[int, bytes]:
+        """How long the listing's text is, and the buffer, which has the length that the function takes for granted."""
+        lent = Lent(out)
+        pointer, _ = lent.words()
+        return self._call("probe_printout", _size, _read + [ctypes.c_void_p], given, len(given), pointer), lent.now()

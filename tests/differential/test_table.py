@@ -1,15 +1,11 @@
-"""Crates slots and table, and the listing program, against the independent program."""
-import platform
-import shutil
-import subprocess
+"""Crates slots and table against the independent program."""
 import unittest
 from dataclasses import replace
-from pathlib import Path
 
 from against import Cases
 from library import Library
-from paper import listing, table as tables
-from probe import ROOT, SEED, Probe
+from paper import table as tables
+from probe import SEED, Probe
 
 SLOT = tables.SLOT
 
@@ -81,30 +77,6 @@ class Table(unittest.TestCase):
             for stamp in (0, 1, tables.TIME_LIMIT, tables.TIME_LIMIT + 1, 2**64 - 1):
                 self.same(tables.slot_of(tables.Entry(b"a@b", seen, stamp, b"k")))
                 self.same(tables.slot_of(tables.Entry(b"a@b", seen, None, None, False, stamp, b"k")))
-
-
-def program(name: str) -> list[str]:
-    """How a program of the repository is run: by the toolchain's own loader, and by its emulator where it brings one."""
-    kit = Path(shutil.which("rt")).resolve().parents[1]
-    tools = kit / "on" / platform.machine() / "toolchain"
-    emulator = tools / "bin" / "qemu-x86_64"
-    loader = [str(tools / "lib" / "ld-linux-x86-64.so.2"), "--library-path", str(tools / "lib")]
-    return [str(emulator)] * emulator.exists() + loader + [str(ROOT / "target" / "bin" / name)]
-
-
-class Listing(unittest.TestCase):
-    def test_listing(self):
-        cases = Cases(SEED)
-        command = program("listing")
-        self.assertTrue(Path(command[-1]).exists(), "rt check builds the programs")
-        answers = set()
-        for _ in range(400):
-            given = cases.listing_input()
-            expected = listing.listing(given)
-            run = subprocess.run(command, input=given, capture_output=True, check=True)
-            self.assertEqual(run.stdout, expected)
-            answers.add(expected[:9] if expected.startswith(b"refused") else b"")
-        self.assertEqual(answers, {b"", b"refused 1", b"refused 2"})
 
 
 if __name__ == "__main__":

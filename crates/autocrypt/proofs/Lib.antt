@@ -1,6 +1,7 @@
 pub mod Refusals
 pub mod Writing
 pub mod Exactly
+pub mod FieldRoom
 pub mod Tables
 pub mod Recommending
 pub mod ExactlyRecommending

@@ -1,5 +1,6 @@
 -- "Writing", of paper 01, with its refusals: what the two writers answer and what they leave in the output.
 --     autocryptField, gossipField    the two fields
+--     fieldRoom                      room that neither exceeds
 --     refusedWriting                 the refusal, or none
 --     writtenOf, leftByWriting       the answer, and what the output holds afterwards
 --     numberIn                       the number of an answer
@@ -29,6 +30,10 @@ autocryptField address isMutual key = written (ascii "Autocrypt") address isMutu
 -- "Gossip uses its name and never a preference."
 unfoldable pub gossipField : List ℕ → List ℕ → List ℕ
 gossipField address key = written (ascii "Autocrypt-Gossip") address false key
+
+-- what the C header promises: an address has at most 254 octets, and a key of 2,048 octets has lines of 2,840
+abbrev pub fieldRoom : ℕ
+fieldRoom = 3200
 
 -- "writing 9, 11, 12", in this order: "own address argument isn't one plain address", "key argument isn't 1 to 2,048 octets", "output
 -- shorter than the field"

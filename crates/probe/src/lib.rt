@@ -429,3 +429,9 @@ pub extern "C" fn probe_read_field(value: &[u8], key: &mut [u8], told: &mut [u64
         keyfield::Read::NoRoom => 2,
     }
 }
+
+// How many octets the listing program prints; they open `out`.
+#[no_mangle]
+pub extern "C" fn probe_printout(input: &[u8], out: &mut [u8; printout::ROOM]) -> usize {
+    printout::print(input, out)
+}

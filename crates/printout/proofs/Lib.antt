@@ -1,0 +1,6 @@
+pub mod Decimal
+pub mod Placing
+pub mod Lines
+pub mod Room
+pub mod Printing
+mod Worked
