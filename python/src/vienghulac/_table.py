@@ -5,8 +5,8 @@ table's guard, and since a call runs without the interpreter's lock, the guard i
 lock or without one.
 
 A key is handed out as a view of a copy of its octets, which is never written. A call that wrote the table releases every
-such view, so that a late use raises. What a caller made out of a view, a slice say, keeps the copy alive, and goes on
-reading the key that it was made of.
+such view, so that a late use raises; a view whose buffer someone holds at that moment is released by a later write. What a
+caller made out of a view, a slice say, keeps the copy alive, and goes on reading the key that it was made of.
 
 A call of a Python function costs about as much as the conversion of an argument for the library. So the calls on a table
 know what they are nearly always given by its exact type, in place, and ask `_arguments` about all else; and they enter
@@ -71,7 +71,8 @@ class Table:
     """A table of correspondents, one a slot, that owns its octets.
 
     `Table(octets)` takes a copy of octets that were a table's before, and raises `Refused` (1, 2) where they are none.
-    `bytes(table)` hands out a copy. A table can be pickled and copied; the copy shares nothing with it. All calls may be
+    Nothing leads to the octets that it owns: `bytes(table)` is a copy, and a key is a view of a copy of that key, which the
+    next write of the table releases. A table can be pickled and copied; the copy shares nothing with it. All calls may be
     made from any thread, but not from a signal handler: it would wait for the call that it interrupted.
     """
 
@@ -120,7 +121,7 @@ class Table:
     # The rest is for the functions below, which hold the guard.
 
     def _view(self, start: int, length: int) -> memoryview:
-        """A part of the table, to be released by the next write."""
+        """A view of a copy of a part of the table, to be released by the next write."""
         view = memoryview(self._memory[start : start + length])  # type: ignore[arg-type]  # the slice is bytes
         self._views.add(_HandedOut(view, self._views.discard))
         return view
@@ -133,7 +134,7 @@ class Table:
                 if view is not None:
                     view.release()
             except BufferError:
-                # Someone is reading the view's memory this moment; it is a copy, which no one writes. The view is
+                # Someone holds the view's buffer this moment; it is a copy, which no one writes. The view is
                 # released by a later write.
                 continue
             self._views.discard(handed_out)
@@ -169,7 +170,8 @@ def process(
 
     `receipt` is when the mail was received, in seconds since 1970-01-01 UTC. `outer` is the mail's header block: its
     octets as received, up to its first empty line. `payload` is the header block of the decrypted payload's root part,
-    if there is one. Raises `Refused` (3 to 8) and leaves the table as it was, or ends all keys handed out before.
+    if there is one. Raises `Refused` (3 to 8) and leaves the table as it was, or releases the views of keys that were
+    handed out before.
     """
     if type(table) is not Table:
         _need_table(table)
@@ -215,8 +217,9 @@ def target_key(
 ) -> Optional[memoryview]:
     """The key to encrypt to for the recipient at a place of the list, counted from 0.
 
-    It is a read-only view of a part of the table, and is released by the next write: copy it, as `bytes(key)`, to keep
-    it longer. None where that recipient has no key, past the end of the list, and where `recommend` refuses.
+    It is a read-only view of a copy of the key's octets. The next write of the table releases the view, or a later one
+    where someone holds the view's buffer just then: take `bytes(key)` to keep the octets longer. None where that recipient
+    has no key, past the end of the list, and where `recommend` refuses.
     """
     if type(table) is not Table or type(recipients) is not bytes or type(mutual) is not bool or type(reply) is not bool:
         recipients, mutual, reply = _asked(table, recipients, mutual, reply)
@@ -232,7 +235,11 @@ def target_key(
 
 @dataclass(frozen=True)
 class Entry:
-    """What a used slot holds. None stands for what is absent; keys are views as those of `target_key`."""
+    """What a used slot held as `entries` read it.
+
+    None stands for what is absent. A key is a view of a copy of its octets, and ends as those of `target_key` do; all else
+    stays.
+    """
 
     slot: int
     address: bytes
@@ -252,7 +259,11 @@ _ADDRESS, _DIRECT_KEY, _GOSSIP_KEY = 40, 296, 2_344
 
 
 def entries(table: Table) -> list[Entry]:
-    """The entries of a table, by slot. Their keys are released by the next write."""
+    """The entries of a table, by slot.
+
+    Their keys are read-only views of copies of the keys' octets, and the next write of the table releases them, as it does
+    those of `target_key`.
+    """
     _need_table(table)
     with table._guard:
         found = (_entry(table, slot) for slot in range(table.slots))
