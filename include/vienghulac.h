@@ -33,6 +33,15 @@
  *
  * A table is 1 to 256 slots of VIENGHULAC_SLOT octets, one a correspondent; a new one is all zeros. It holds no pointers
  * and may be stored, moved and copied as it is.
+ *
+ * What no call can check is the caller's to see to:
+ *
+ *   the machine  has addresses and sizes of 64 bits
+ *   a bool       holds 0 or 1. In C and C++ it can hold nothing else; who calls from another language passes an octet
+ *                that is 0 or 1
+ *   the stack    has room: up to 210,000 octets for vienghulac_process, for a short mail as for a long one, and up to
+ *                16,384 for every other call. A thread whose stack has VIENGHULAC_STACK octets may make every call; on a
+ *                smaller one a call may overflow it
  */
 #ifndef VIENGHULAC_H
 #define VIENGHULAC_H
@@ -41,6 +50,10 @@
 #include <stddef.h>
 #include <stdint.h>
 
+#if SIZE_MAX != UINT64_MAX
+#error "vienghulac.h is for machines of 64 bits: size_t has to be as wide as uint64_t"
+#endif
+
 #ifdef __cplusplus
 extern "C" {
 #endif
@@ -48,6 +61,10 @@ extern "C" {
 /* The length of a slot, and the largest number of slots of a table. */
 #define VIENGHULAC_SLOT 4392
 #define VIENGHULAC_SLOTS 256
+
+/* The octets of stack that are enough for every call, with at least 16,384 left for the functions around it. It is more than
+ * the calls take today, so that a program compiled with this number can run with later versions of the library. */
+#define VIENGHULAC_STACK 327680
 
 /* An output of this length has room for every field, so that 12 is never answered. */
 #define VIENGHULAC_FIELD 3200

@@ -67,6 +67,11 @@ def test_the_library_needs_no_more_than_the_tag_says():
     assert all(tuple(map(int, version.split("."))) <= (2, 17) for version in versions)
 
 
+def test_the_library_calls_nothing_but_memory_functions():
+    symbols = output("readelf", "--dyn-syms", "--wide", LIBRARY)
+    assert set(re.findall(r"GLOBAL\s+DEFAULT\s+UND\s+(\w+)", symbols)) == {"memcpy", "memset"}
+
+
 def test_the_library_has_the_functions_of_the_header():
     header = (ROOT / "include" / "vienghulac.h").read_text()
     declared = set(re.findall(r"^vienghulac_\w+ (vienghulac_\w+)\(", header, re.MULTILINE))
