@@ -14,8 +14,9 @@ a memoryview is copied first, so that no other thread can change it meanwhile.
 
 Keys: a key that comes back is a read-only memoryview of a copy of its octets in the table. The next write of the table, that
 is, a `process` that is not refused, releases the view, and using it then raises ValueError. Where someone holds the view's
-buffer just then, such as a socket that is sending it in another thread, a later write releases it; until that it shows the
-key that it was made of. So does, for ever, what was made out of a view before: a slice, a cast, a memoryview of it.
+buffer just then, such as a socket that is sending it in another thread, or an interrupt breaks the call off, a later write
+releases it; until then it shows the key that it was made of. So does, for ever, what was made out of a view before: a slice,
+a cast, a memoryview of it.
 
 Stack: `process` takes up to 210,000 octets of its thread's stack. Threads have more, unless `threading.stack_size` made it
 small: a thread with less than 327,680 must not call it.

@@ -5,8 +5,9 @@ table's guard, and since a call runs without the interpreter's lock, the guard i
 lock or without one.
 
 A key is handed out as a view of a copy of its octets, which is never written. A call that wrote the table releases every
-such view, so that a late use raises; a view whose buffer someone holds at that moment is released by a later write. What a
-caller made out of a view, a slice say, keeps the copy alive, and goes on reading the key that it was made of.
+such view, so that a late use raises; a view whose buffer someone holds at that moment, or whose turn did not come because
+the call was interrupted, is released by a later write. What a caller made out of a view, a slice say, keeps the copy alive,
+and goes on reading the key that it was made of.
 
 A call of a Python function costs about as much as the conversion of an argument for the library. So the calls on a table
 know what they are nearly always given by its exact type, in place, and ask `_arguments` about all else; and they enter
