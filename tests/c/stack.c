@@ -7,6 +7,7 @@
 #include <pthread.h>
 #include <stdlib.h>
 #include <sys/mman.h>
+#include <sys/resource.h>
 #include <sys/wait.h>
 #include <unistd.h>
 
@@ -151,6 +152,12 @@ static answer target_key(void) {
     return (answer){{p.length, p.start, 0}};
 }
 
+static answer entry(void) {
+    vienghulac_numbers n;
+    vienghulac_answer a = vienghulac_entry(table, sizeof table, 0, &n.used, VIENGHULAC_NUMBERS);
+    return (answer){{a.number, n.used, n.direct_length}};
+}
+
 static answer write_autocrypt(void) {
     vienghulac_written w = vienghulac_write_autocrypt(address.octets, address.length, key.octets, key.length, true,
                                                       out.octets, out.length);
@@ -224,8 +231,10 @@ static void processes(const char *what, size_t outer_length, size_t payload_leng
 /* Does the call end its program on a stack of this size? */
 static bool ends(answer (*call)(void), size_t size) {
     int status;
+    const struct rlimit no_file = {0, 0};
     pid_t child = fork();
     if (child == 0) {
+        setrlimit(RLIMIT_CORE, &no_file);
         on_a_thread(call, size);
         _exit(0);
     }
@@ -249,6 +258,7 @@ int main(void) {
     same("check", check, 0, OTHERS);
     same("recommend", recommend, 0, OTHERS);
     same("target_key", target_key, 3, OTHERS);
+    same("entry", entry, 0, OTHERS);
     same("write_autocrypt", write_autocrypt, 0, OTHERS);
     same("write_gossip", write_gossip, 0, OTHERS);
     return counted();
