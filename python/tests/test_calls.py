@@ -11,7 +11,7 @@ from paper import processing, recommending
 from paper import table as tables
 
 from vienghulac import (
-    REFUSALS, Advice, Gossip, Refused, Table, check, entries, process, recommend, target_key,
+    REFUSALS, SLOT, Advice, Gossip, Refused, Table, check, entries, process, recommend, target_key,
 )  # fmt: skip
 
 SEED = int(os.environ.get("VIENGHULAC_SEED", "1"))
@@ -77,6 +77,13 @@ def test_entries_as_the_independent_program():
             assert (mine.last_seen, mine.autocrypt_timestamp) == (entry.last_seen, entry.autocrypt_timestamp)
             assert (mine.direct_key, mine.gossip_key) == (entry.direct_key, entry.gossip_key)
             assert mine.gossip_timestamp == entry.gossip_timestamp
+
+
+def test_entries_of_what_is_no_table_any_more():
+    """Someone wrote to memory that is not theirs; that is refused here as by every other call."""
+    table, _ = table_with(b"a@x", b"b@x")
+    table._memory[SLOT] = b"x"
+    assert answered(entries, table) == (2, 1, None)
 
 
 def test_unset_gossip_is_taken_and_skip_skips():

@@ -334,7 +334,7 @@ def test_two_threads_lose_nothing(eager):
 
 def watch(monkeypatch, watcher):
     """Let a watcher see the memory of the table as each call of the library begins and ends."""
-    for name in ("process", "recommend", "target_key"):
+    for name in ("process", "recommend", "target_key", "entry"):
 
         def watched(memory, *rest, call=getattr(_library, name)):
             with watcher(memory):
@@ -344,7 +344,7 @@ def watch(monkeypatch, watcher):
 
 
 def test_one_call_at_a_time_on_a_table(monkeypatch):
-    table, _ = table_with(b"a@x")
+    table, _ = table_with(b"a@x", slots=1)
     inside, met = [], []
 
     @contextmanager
@@ -356,8 +356,11 @@ def test_one_call_at_a_time_on_a_table(monkeypatch):
         inside.pop()
 
     watch(monkeypatch, watcher)
-    calls = [lambda: process(table, RECEIPT, letter(b"a@x", b"key")), lambda: recommend(table, b"a@x"), lambda: target_key(table, b"a@x")]
-    in_threads(lambda number: [calls[(number + turn) % 3]() for turn in range(20)])
+    calls = [
+        lambda: process(table, RECEIPT, letter(b"a@x", b"key")), lambda: recommend(table, b"a@x"),
+        lambda: target_key(table, b"a@x"), lambda: entries(table),
+    ]  # fmt: skip
+    in_threads(lambda number: [calls[(number + turn) % 4]() for turn in range(20)])
     assert met == [1] * 20 * THREADS
 
 

@@ -18,7 +18,6 @@ from __future__ import annotations
 
 import ctypes
 import enum
-import struct
 import threading
 import weakref
 from dataclasses import dataclass
@@ -252,13 +251,6 @@ class Entry:
     gossip_key: Optional[memoryview]
 
 
-# Octets 0 to 39 of a slot: mark, address length, bits, last seen, two timestamps, two key lengths.
-_NUMBERS = struct.Struct("<2sHB3xQQQHH4x")
-_USED = b"\x41\x31"
-_LAST_SEEN, _DIRECT, _GOSSIP, _MUTUAL = 1, 2, 4, 8
-_ADDRESS, _DIRECT_KEY, _GOSSIP_KEY = 40, 296, 2_344
-
-
 def entries(table: Table) -> list[Entry]:
     """The entries of a table, by slot.
 
@@ -266,26 +258,32 @@ def entries(table: Table) -> list[Entry]:
     those of `target_key`.
     """
     _need_table(table)
+    numbers = _library.Numbers()
     with table._guard:
-        found = (_entry(table, slot) for slot in range(table.slots))
+        found = (_entry(table, slot, numbers) for slot in range(table.slots))
         return [entry for entry in found if entry is not None]
 
 
-def _entry(table: Table, slot: int) -> Optional[Entry]:
+def _entry(table: Table, slot: int, numbers: _library.Numbers) -> Optional[Entry]:
+    """What a slot holds, if anything; `numbers` is written.
+
+    A call checks all of the table that it is lent, and each slot of a table is a table by itself: so the one slot is lent.
+    """
     start = slot * SLOT
-    mark, address_length, bits, seen, autocrypt, gossip, direct_length, gossip_length = _NUMBERS.unpack_from(
-        table._memory, start
-    )
-    if mark != _USED:
+    answer: _library.Answer = _library.entry(table._address + start, SLOT, 0, numbers, _library.NUMBERS)
+    if answer.number:
+        raise refusal(answer.number, slot)
+    if not numbers.used:
         return None
-    address = start + _ADDRESS
+    bits, address = numbers.bits, start + numbers.address_start
+    direct, gossip = bits & _library.BIT_DIRECT, bits & _library.BIT_GOSSIP
     return Entry(
         slot=slot,
-        address=table._memory[address : address + address_length],  # type: ignore[arg-type]  # the slice is bytes
-        last_seen=seen if bits & _LAST_SEEN else None,
-        autocrypt_timestamp=autocrypt if bits & _DIRECT else None,
-        direct_key=table._view(start + _DIRECT_KEY, direct_length) if bits & _DIRECT else None,
-        mutual=bool(bits & _MUTUAL),
-        gossip_timestamp=gossip if bits & _GOSSIP else None,
-        gossip_key=table._view(start + _GOSSIP_KEY, gossip_length) if bits & _GOSSIP else None,
+        address=table._memory[address : address + numbers.address_length],  # type: ignore[arg-type]  # the slice is bytes
+        last_seen=numbers.last_seen if bits & _library.BIT_LAST_SEEN else None,
+        autocrypt_timestamp=numbers.autocrypt_timestamp if direct else None,
+        direct_key=table._view(start + numbers.direct_start, numbers.direct_length) if direct else None,
+        mutual=bool(bits & _library.BIT_MUTUAL),
+        gossip_timestamp=numbers.gossip_timestamp if gossip else None,
+        gossip_key=table._view(start + numbers.gossip_start, numbers.gossip_length) if gossip else None,
     )
