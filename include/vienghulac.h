@@ -27,12 +27,21 @@
  *      9   the address argument is not one plain address
  *     10   the recipient list is unreadable, or has not 1 to 100 addresses
  *     11   the key argument is not 1 to 2,048 octets long
- *     12   the output is shorter than the field
+ *     12   the output is shorter than the field, or fewer than VIENGHULAC_NUMBERS numbers are lent
  *
  * Where more than one of them holds, the number that stands first in this list is given.
  *
  * A table is 1 to 256 slots of VIENGHULAC_SLOT octets, one a correspondent; a new one is all zeros. It holds no pointers
  * and may be stored, moved and copied as it is.
+ *
+ * What no call can check is the caller's to see to:
+ *
+ *   the machine  has addresses and sizes of 64 bits
+ *   a bool       holds 0 or 1. In C and C++ it can hold nothing else; who calls from another language passes an octet
+ *                that is 0 or 1
+ *   the stack    has room: up to 210,000 octets for vienghulac_process, for a short mail as for a long one, and up to
+ *                16,384 for every other call. A thread whose stack has VIENGHULAC_STACK octets may make every call; on a
+ *                smaller one a call may overflow it
  */
 #ifndef VIENGHULAC_H
 #define VIENGHULAC_H
@@ -41,6 +50,10 @@
 #include <stddef.h>
 #include <stdint.h>
 
+#if SIZE_MAX != UINT64_MAX
+#error "vienghulac.h is for machines of 64 bits: size_t has to be as wide as uint64_t"
+#endif
+
 #ifdef __cplusplus
 extern "C" {
 #endif
@@ -48,6 +61,10 @@ extern "C" {
 /* The length of a slot, and the largest number of slots of a table. */
 #define VIENGHULAC_SLOT 4392
 #define VIENGHULAC_SLOTS 256
+
+/* The octets of stack that are enough for every call, with at least 16,384 left for the functions around it. It is more than
+ * the calls take today, so that a program compiled with this number can run with later versions of the library. */
+#define VIENGHULAC_STACK 327680
 
 /* An output of this length has room for every field, so that 12 is never answered. */
 #define VIENGHULAC_FIELD 3200
@@ -63,6 +80,15 @@ extern "C" {
 #define VIENGHULAC_DISCOURAGE 2
 #define VIENGHULAC_AVAILABLE 3
 #define VIENGHULAC_ENCRYPT 4
+
+/* The bits of an entry: what it has. */
+#define VIENGHULAC_BIT_LAST_SEEN 1
+#define VIENGHULAC_BIT_DIRECT 2
+#define VIENGHULAC_BIT_GOSSIP 4
+#define VIENGHULAC_BIT_MUTUAL 8
+
+/* How many numbers vienghulac_entry writes. */
+#define VIENGHULAC_NUMBERS 11
 
 /* What a call on a table answers: 0, or the number of a refusal; the index of a slot with 2, else 0. */
 typedef struct {
@@ -82,6 +108,23 @@ typedef struct {
     uint64_t start;
     uint64_t length;
 } vienghulac_part;
+
+/* The numbers of an entry under names, in their order. To have them written here, lend `&numbers.used`. Times are seconds
+ * since 1970-01-01 UTC; 0 is a time, so only the bits tell whether there is one. A start and a length are those of a part
+ * of the table, as in vienghulac_part. */
+typedef struct {
+    uint64_t used;                /* 1, or 0 where the slot is free; then all others are 0 too */
+    uint64_t bits;                /* a sum of VIENGHULAC_BIT_* */
+    uint64_t last_seen;           /* with VIENGHULAC_BIT_LAST_SEEN, else 0 */
+    uint64_t autocrypt_timestamp; /* with VIENGHULAC_BIT_DIRECT, else 0 */
+    uint64_t gossip_timestamp;    /* with VIENGHULAC_BIT_GOSSIP, else 0 */
+    uint64_t address_start;
+    uint64_t address_length;
+    uint64_t direct_start;        /* the key from the correspondent's own mail; 0 and 0 where there is none */
+    uint64_t direct_length;
+    uint64_t gossip_start;        /* the key that others sent; 0 and 0 where there is none */
+    uint64_t gossip_length;
+} vienghulac_numbers;
 
 /* What a writer answers: 0 and the length of the field, or the number of a refusal and the length 0. */
 typedef struct {
@@ -127,6 +170,19 @@ vienghulac_advice vienghulac_recommend(const uint8_t *table, size_t table_length
 vienghulac_part vienghulac_target_key(const uint8_t *table, size_t table_length,
                                       const uint8_t *recipients, size_t recipients_length, bool mutual, bool reply,
                                       uint64_t place);
+
+/* What does a slot hold? Slots are counted from 0.
+ *
+ *     vienghulac_numbers numbers;
+ *     vienghulac_entry(table, table_length, slot, &numbers.used, VIENGHULAC_NUMBERS);
+ *
+ * Borrowed: `table`. Lent: `numbers`, of which the first VIENGHULAC_NUMBERS are written where the answer is 0: those of
+ * vienghulac_numbers in their order, all of them 0 for a free slot and for a slot past the end. The numbers behind them, and
+ * with a refusal all, stay as they were. The parts that they tell of are parts of `table` until the next call that writes
+ * it.
+ * Answers 0, 1, 2 or 12. */
+vienghulac_answer vienghulac_entry(const uint8_t *table, size_t table_length, uint64_t slot,
+                                   uint64_t *numbers, size_t numbers_length);
 
 /* Writes the Autocrypt field of an outgoing mail to the front of `out`:
  *

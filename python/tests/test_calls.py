@@ -1,15 +1,17 @@
 """The calls, through the package, against the independent program; and what the package adds to them."""
 
 import os
+import re
+import threading
 
 import pytest
 from cases import Cases
-from letters import RECEIPT, gossip, letter, table_with
+from letters import RECEIPT, ROOT, gossip, letter, table_with
 from paper import processing, recommending
 from paper import table as tables
 
 from vienghulac import (
-    REFUSALS, Advice, Gossip, Refused, Table, check, entries, process, recommend, target_key,
+    REFUSALS, SLOT, Advice, Gossip, Refused, Table, check, entries, process, recommend, target_key,
 )  # fmt: skip
 
 SEED = int(os.environ.get("VIENGHULAC_SEED", "1"))
@@ -77,6 +79,13 @@ def test_entries_as_the_independent_program():
             assert mine.gossip_timestamp == entry.gossip_timestamp
 
 
+def test_entries_of_what_is_no_table_any_more():
+    """Someone wrote to memory that is not theirs; that is refused here as by every other call."""
+    table, _ = table_with(b"a@x", b"b@x")
+    table._memory[SLOT] = b"x"
+    assert answered(entries, table) == (2, 1, None)
+
+
 def test_unset_gossip_is_taken_and_skip_skips():
     key = b"gossiped"
     outer, payload = letter(b"a@x", more=b"To: b@x\r\n"), gossip((b"b@x", key))
@@ -99,6 +108,21 @@ def test_limit_on_the_receipt_time():
     table = Table.new(1)
     process(table, 253_402_300_799, letter(b"a@x"))
     assert entries(table)[0].last_seen == 253_402_300_799
+
+
+def test_a_thread_with_the_stack_that_the_header_names():
+    """The longest blocks; on a stack of half the size the interpreter would end here."""
+    header = (ROOT / "include" / "vienghulac.h").read_text()
+    size = int(re.search(r"^#define VIENGHULAC_STACK (\d+)$", header, re.MULTILINE).group(1))
+    to = b"To: " + b",".join(b"%x@x" % number for number in range(8_000)) + b"\r\n"
+    block, payload = letter(b"a@x", bytes(2_048), more=to), gossip((b"0@x", bytes(2_048)), (b"1@x", b"key")) * 20
+    table = Table.new(3)
+    before = threading.stack_size(size)
+    thread = threading.Thread(target=process, args=(table, RECEIPT, block, payload))
+    thread.start()
+    threading.stack_size(before)
+    thread.join()
+    assert [entry.address for entry in entries(table)] == [b"a@x", b"0@x", b"1@x"]
 
 
 def test_no_key_is_none():

@@ -5,6 +5,7 @@ import base64
 import json
 import os
 import pty
+import re
 import subprocess
 import sys
 from pathlib import Path
@@ -184,7 +185,11 @@ def test_recommend(imported):
         (CAROL, "--reply"): "encrypt",
     }.items():
         assert answer("recommend", "--table", imported, *words).decode() == advice + "\n"
-    assert json.loads(answer("recommend", "--json", "--table", imported, BOB)) == {"advice": "available", "number": 3}
+    for words, advice, number in (
+        ((DAVE,), "disable", 1), ((CAROL,), "discourage", 2), ((BOB,), "available", 3), ((BOB, "--mutual"), "encrypt", 4)
+    ):  # fmt: skip
+        described = json.loads(answer("recommend", "--json", "--table", imported, *words))
+        assert described == {"advice": advice, "advice_number": number}
     assert "refused 10" in failure(1, "recommend", "--table", imported, "not a list")
 
 
@@ -259,6 +264,20 @@ def test_help(command):
     assert f"usage: vienghulac {command}" in text and "--json" in text
     assert all(len(line) <= 80 for line in text.splitlines())
     assert command in answer("--help").decode()
+
+
+def test_help_names_the_keys_of_json(imported):
+    """All of them; and none but a refusal's number is called `number`."""
+    key, table = EXAMPLES / "alice.key", ("--table", imported)
+    for command, *words in (
+        ("import", INBOX, *table), ("list", *table), ("recommend", BOB, *table), ("key", BOB, *table),
+        ("field", ALICE, "--key", key), ("check", imported),
+    ):  # fmt: skip
+        answered = json.loads(answer(command, "--json", *words))
+        keys = set(answered[0] if isinstance(answered, list) else answered)
+        text = answer(command, "--help").decode().partition("With --json")[2].partition("positional arguments")[0]
+        assert keys and keys <= set(re.findall(r"\w+", text))
+        assert ("number" in keys) == (command == "check")
 
 
 def test_help_of_import_tells_where_blocks_and_times_come_from():

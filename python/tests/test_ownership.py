@@ -7,6 +7,8 @@ import gc
 import itertools
 import pickle
 import random
+import re
+import struct
 import sys
 import threading
 import time
@@ -165,6 +167,14 @@ def test_late_use_of_a_key_raises():
     assert target_key(table, b"a@x") == key
 
 
+def test_a_key_is_a_copy_of_its_own():
+    """A view shows all of the octets that it was made of, and no other view shows the same ones."""
+    table, (key,) = table_with(b"a@x")
+    views = [target_key(table, b"a@x"), target_key(table, b"a@x"), entries(table)[0].direct_key]
+    assert [view.obj for view in views] == [key] * 3
+    assert len({id(view.obj) for view in views}) == 3
+
+
 def test_every_key_handed_out_is_released():
     table, keys = table_with(b"a@x", b"b@x", b"c@x")
     views = [target_key(table, b"a@x, b@x, c@x", place=place) for place in (0, 1, 2, 0, 1, 2)]
@@ -221,23 +231,37 @@ def test_an_interrupt_behind_the_call_leaves_no_old_key(monkeypatch):
 def test_what_was_made_out_of_a_view_keeps_the_old_key():
     table, (key,) = table_with(b"a@x")
     view = target_key(table, b"a@x")
-    part, other = view[10:20], memoryview(view)
+    part, other, pairs = view[10:20], memoryview(view), view.cast("H")
     for turn in range(50):
         process(table, RECEIPT, letter(b"a@x", b"%d" % turn * 50))
         allocate_over()
-        assert part == key[10:20] and other == key
-
-
-def test_a_view_that_is_being_read_ends_later():
-    table, (key,) = table_with(b"a@x")
-    view = target_key(table, b"a@x")
-    reader = pickle.PickleBuffer(view)
-    process(table, RECEIPT, letter(b"a@x", b"second"))
-    assert bytes(reader) == key
-    reader.release()
-    process(table, RECEIPT, letter(b"a@x", b"third"))
+        assert part == key[10:20] and other == key and pairs.tobytes() == key
     with pytest.raises(ValueError):
         bytes(view)
+
+
+@pytest.mark.parametrize(
+    "hold", [pickle.PickleBuffer, lambda view: struct.iter_unpack("4s", view), lambda view: re.finditer(b".", view)]
+)
+def test_a_view_whose_buffer_is_held_ends_later(hold):
+    """It shows the old key meanwhile; those whose buffer no one holds are released at once."""
+    table, (key,) = table_with(b"a@x")
+    held = target_key(table, b"a@x"), entries(table)[0].direct_key
+    free = target_key(table, b"a@x"), entries(table)[0].direct_key
+    holders = [hold(view) for view in held]
+    for turn in range(3):
+        process(table, RECEIPT, letter(b"a@x", b"%d" % turn))
+        assert target_key(table, b"a@x") == b"%d" % turn
+        assert [bytes(view) for view in held] == [key, key]
+        for view in free:
+            with pytest.raises(ValueError):
+                bytes(view)
+    del holders
+    assert [bytes(view) for view in held] == [key, key]
+    process(table, RECEIPT, letter(b"a@x", b"last"))
+    for view in held:
+        with pytest.raises(ValueError):
+            bytes(view)
 
 
 def test_a_view_that_its_holder_released():
@@ -310,7 +334,7 @@ def test_two_threads_lose_nothing(eager):
 
 def watch(monkeypatch, watcher):
     """Let a watcher see the memory of the table as each call of the library begins and ends."""
-    for name in ("process", "recommend", "target_key"):
+    for name in ("process", "recommend", "target_key", "entry"):
 
         def watched(memory, *rest, call=getattr(_library, name)):
             with watcher(memory):
@@ -320,7 +344,7 @@ def watch(monkeypatch, watcher):
 
 
 def test_one_call_at_a_time_on_a_table(monkeypatch):
-    table, _ = table_with(b"a@x")
+    table, _ = table_with(b"a@x", slots=1)
     inside, met = [], []
 
     @contextmanager
@@ -332,8 +356,11 @@ def test_one_call_at_a_time_on_a_table(monkeypatch):
         inside.pop()
 
     watch(monkeypatch, watcher)
-    calls = [lambda: process(table, RECEIPT, letter(b"a@x", b"key")), lambda: recommend(table, b"a@x"), lambda: target_key(table, b"a@x")]
-    in_threads(lambda number: [calls[(number + turn) % 3]() for turn in range(20)])
+    calls = [
+        lambda: process(table, RECEIPT, letter(b"a@x", b"key")), lambda: recommend(table, b"a@x"),
+        lambda: target_key(table, b"a@x"), lambda: entries(table),
+    ]  # fmt: skip
+    in_threads(lambda number: [calls[(number + turn) % 4]() for turn in range(20)])
     assert met == [1] * 20 * THREADS
 
 

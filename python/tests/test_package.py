@@ -12,6 +12,7 @@ from pathlib import Path
 from letters import ROOT
 
 import vienghulac
+from vienghulac import _library
 
 PACKAGE = Path(vienghulac.__file__).parent
 LIBRARY = PACKAGE / "libvienghulac.so"
@@ -67,13 +68,27 @@ def test_the_library_needs_no_more_than_the_tag_says():
     assert all(tuple(map(int, version.split("."))) <= (2, 17) for version in versions)
 
 
+def test_the_library_calls_nothing_but_memory_functions():
+    symbols = output("readelf", "--dyn-syms", "--wide", LIBRARY)
+    assert set(re.findall(r"GLOBAL\s+DEFAULT\s+UND\s+(\w+)", symbols)) == {"memcpy", "memset"}
+
+
 def test_the_library_has_the_functions_of_the_header():
     header = (ROOT / "include" / "vienghulac.h").read_text()
     declared = set(re.findall(r"^vienghulac_\w+ (vienghulac_\w+)\(", header, re.MULTILINE))
-    assert len(declared) == 6
+    assert len(declared) == 7
     symbols = output("readelf", "--dyn-syms", "--wide", LIBRARY)
     exported = set(re.findall(r"FUNC\s+GLOBAL\s+DEFAULT\s+\d+\s+(\w+)\n", symbols))
     assert exported == declared
+
+
+def test_an_entry_is_read_as_the_header_declares_it():
+    header = (ROOT / "include" / "vienghulac.h").read_text()
+    (members,) = re.findall(r"^typedef struct \{([^{}]*)\} vienghulac_numbers;", header, re.MULTILINE)
+    assert re.findall(r"^    uint64_t (\w+);", members, re.MULTILINE) == [name for name, _ in _library.Numbers._fields_]
+    defined = dict(re.findall(r"^#define VIENGHULAC_(NUMBERS|BIT_\w+) (\d+)$", header, re.MULTILINE))
+    assert len(defined) == 5
+    assert {name: getattr(_library, name) for name in defined} == {name: int(value) for name, value in defined.items()}
 
 
 def test_a_new_environment_without_compiler_and_network(tmp_path):

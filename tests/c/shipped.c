@@ -12,6 +12,77 @@ static const char payload[] = "Autocrypt-Gossip: addr=dave@d.example; keydata=Ym
 
 static const char to_bob[] = "bob@b.example", to_all[] = "Bob <bob@b.example>, x: dave@d.example;";
 
+/* Do a start and a length lead to these octets of the table? */
+static bool leads_to(const uint8_t *table, uint64_t start, uint64_t length, const char *text) {
+    return start != 0 && length == strlen(text) && memcmp(table + start, text, length) == 0;
+}
+
+/* Are there nothing but zeros, and is all from the twelfth number on as it was lent? */
+static bool holds_nothing(const uint64_t *numbers, uint64_t behind) {
+    bool zeros = true;
+    for (int i = 0; i < VIENGHULAC_NUMBERS; i++) zeros &= numbers[i] == 0;
+    return zeros && numbers[VIENGHULAC_NUMBERS] == behind;
+}
+
+/* The entries after the talk below: Bob's key came with his own mail, Carol has none, Dave's came with Carol's mail. */
+static void look(uint8_t *table, size_t length) {
+    vienghulac_numbers bob, carol, dave;
+    vienghulac_answer a = vienghulac_entry(table, length, 0, &bob.used, VIENGHULAC_NUMBERS);
+    expect("Bob's entry", a.number == 0 && a.index == 0 && bob.used == 1);
+    expect("Bob's bits", bob.bits == (VIENGHULAC_BIT_LAST_SEEN | VIENGHULAC_BIT_DIRECT | VIENGHULAC_BIT_MUTUAL));
+    expect("Bob's times", bob.last_seen == 1000 && bob.autocrypt_timestamp == 1000 && bob.gossip_timestamp == 0);
+    expect("Bob's address", leads_to(table, bob.address_start, bob.address_length, "bob@b.example"));
+    expect("Bob's direct key", leads_to(table, bob.direct_start, bob.direct_length, "foo"));
+    expect("Bob has no gossip key", bob.gossip_start == 0 && bob.gossip_length == 0);
+    a = vienghulac_entry(table, length, 1, &carol.used, VIENGHULAC_NUMBERS);
+    expect("Carol's entry", a.number == 0 && carol.used == 1 && carol.bits == VIENGHULAC_BIT_LAST_SEEN);
+    expect("Carol's times", carol.last_seen == 2000 && carol.autocrypt_timestamp == 0 && carol.gossip_timestamp == 0);
+    expect("Carol's address", leads_to(table, carol.address_start, carol.address_length, "carol@c.example"));
+    expect("Carol has no direct key", carol.direct_start == 0 && carol.direct_length == 0);
+    expect("Carol has no gossip key", carol.gossip_start == 0 && carol.gossip_length == 0);
+    a = vienghulac_entry(table, length, 2, &dave.used, VIENGHULAC_NUMBERS);
+    expect("Dave's entry", a.number == 0 && dave.used == 1 && dave.bits == VIENGHULAC_BIT_GOSSIP);
+    expect("Dave's times", dave.last_seen == 0 && dave.autocrypt_timestamp == 0 && dave.gossip_timestamp == 2000);
+    expect("Dave's address", leads_to(table, dave.address_start, dave.address_length, "dave@d.example"));
+    expect("Dave has no direct key", dave.direct_start == 0 && dave.direct_length == 0);
+    expect("Dave's gossip key", leads_to(table, dave.gossip_start, dave.gossip_length, "bar"));
+}
+
+/* Slots without an entry, and refusals: a table of one entry and a free slot. */
+static void look_for_nothing(void) {
+    static uint8_t table[2 * VIENGHULAC_SLOT];
+    uint64_t numbers[VIENGHULAC_NUMBERS + 1], before[VIENGHULAC_NUMBERS + 1];
+    vienghulac_process(table, sizeof table, 1000, octets(from_bob), sizeof from_bob - 1, NULL, 0, VIENGHULAC_GOSSIP_UNSET);
+    memset(before, 0xa5, sizeof before);
+
+    const uint64_t empty[] = {1, 2, 256, UINT64_MAX};
+    for (int i = 0; i < 4; i++) {
+        memcpy(numbers, before, sizeof numbers);
+        vienghulac_answer a = vienghulac_entry(table, sizeof table, empty[i], numbers, VIENGHULAC_NUMBERS + 1);
+        expect("a slot without an entry", a.number == 0 && a.index == 0 && holds_nothing(numbers, before[0]));
+    }
+    memcpy(numbers, before, sizeof numbers);
+    vienghulac_answer a = vienghulac_entry(table, sizeof table, 0, numbers, VIENGHULAC_NUMBERS + 1);
+    expect("a twelfth number stays", a.number == 0 && numbers[0] == 1 && numbers[VIENGHULAC_NUMBERS] == before[0]);
+
+    memcpy(numbers, before, sizeof numbers);
+    a = vienghulac_entry(table, sizeof table, 0, numbers, VIENGHULAC_NUMBERS - 1);
+    expect("ten numbers", a.number == 12 && a.index == 0);
+    a = vienghulac_entry(table, sizeof table, 2, NULL, 0);
+    expect("no numbers", a.number == 12 && a.index == 0);
+    a = vienghulac_entry(table, sizeof table - 1, 0, numbers, VIENGHULAC_NUMBERS);
+    expect("no whole slots", a.number == 1 && a.index == 0);
+    a = vienghulac_entry(NULL, 0, 0, NULL, 0);
+    expect("no table and no numbers", a.number == 1 && a.index == 0);
+    table[2 * VIENGHULAC_SLOT - 1] = 1;
+    a = vienghulac_entry(table, sizeof table, 0, numbers, VIENGHULAC_NUMBERS);
+    expect("a broken slot", a.number == 2 && a.index == 1);
+    a = vienghulac_entry(table, sizeof table, 0, numbers, 0);
+    expect("a broken slot and no numbers", a.number == 2 && a.index == 1);
+    expect("refusals leave the numbers", memcmp(numbers, before, sizeof numbers) == 0);
+    expect("the struct is the numbers", sizeof(vienghulac_numbers) == VIENGHULAC_NUMBERS * sizeof(uint64_t));
+}
+
 static void talk(void) {
     static uint8_t table[3 * VIENGHULAC_SLOT], before[sizeof table];
     const uint8_t *bob = octets(to_bob), *all = octets(to_all);
@@ -42,6 +113,7 @@ static void talk(void) {
     expect("past the list", part.start == 0 && part.length == 0);
 
     memcpy(before, table, sizeof table);
+    look(table, sizeof table);
     a = vienghulac_process(table, sizeof table, 3000, octets("From: e@e\n"), 10, NULL, 0, VIENGHULAC_GOSSIP_SKIP);
     expect("a full table", a.number == 8 && a.index == 0);
     a = vienghulac_process(table, sizeof table, 253402300800, octets(from_bob), sizeof from_bob - 1, NULL, 0, 0);
@@ -59,6 +131,7 @@ static void talk(void) {
 
 int main(void) {
     talk();
+    look_for_nothing();
     const uint8_t *address = octets("A@b.Example"), *key = octets("foo");
     const size_t length = sizeof field - 1;
     uint8_t out[128], before[128];

@@ -98,6 +98,16 @@ static bool target_key(void) {
     return right & unchanged(table) & unchanged(recipients);
 }
 
+static bool entry(void) {
+    block table = lend(), numbers = lend();
+    uint64_t slot = number();
+    vienghulac_answer a = vienghulac_entry(table.lent, table.length, slot, (uint64_t *)numbers.lent, numbers.length / 8);
+    bool right = a.number == number();
+    right &= a.index == number();
+    right &= now_holds(numbers);
+    return right & unchanged(table);
+}
+
 static bool write_field(bool gossip) {
     block address = lend(), key = lend(), out = lend();
     bool mutual = number();
@@ -134,6 +144,7 @@ int main(int count, char **words) {
         case 4: expect("target_key", target_key()); break;
         case 5: expect("write_autocrypt", write_field(false)); break;
         case 6: expect("write_gossip", write_field(true)); break;
+        case 7: expect("entry", entry()); break;
         default: give_up("no such call");
         }
     }

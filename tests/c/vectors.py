@@ -13,7 +13,7 @@ sys.path.insert(0, str(Path(__file__).resolve().parents[1] / "independent"))
 from cases import Cases  # noqa: E402
 from paper import processing, recommending, table as tables, writing  # noqa: E402
 
-CHECK, PROCESS, RECOMMEND, TARGET_KEY, WRITE_AUTOCRYPT, WRITE_GOSSIP = range(1, 7)
+CHECK, PROCESS, RECOMMEND, TARGET_KEY, WRITE_AUTOCRYPT, WRITE_GOSSIP, ENTRY = range(1, 8)
 
 
 def number(value: int) -> bytes:
@@ -34,6 +34,13 @@ def field(call: int, cases: Cases, address: bytes, key: bytes, room: int, mutual
     return case(call, address, key, out, mutual, refusal, len(written), written + out[len(written) :])
 
 
+def entry(cases: Cases, table: bytes, slot: int, many: int, answer: tuple[int, int, list[int] | None]) -> bytes:
+    lent = cases.random.randbytes(8 * many)
+    refusal, index, numbers = answer
+    written = b"".join(map(number, numbers or []))
+    return case(ENTRY, table, lent, slot, refusal, index, written + lent[len(written) :])
+
+
 def made(cases: Cases) -> bytes:
     """One case of each call."""
     table = cases.table()
@@ -44,6 +51,8 @@ def made(cases: Cases) -> bytes:
     one += case(RECOMMEND, table, recipients, mutual, reply, *recommending.recommend(table, recipients, mutual, reply))
     part = recommending.target_key(table, recipients, mutual, reply, place)
     one += case(TARGET_KEY, table, recipients, mutual, reply, place, *part)
+    table, slot, many = cases.one_slot()
+    one += entry(cases, table, slot, many, tables.entry_numbers(table, slot, many))
     address, key, mutual, room = cases.writing()
     one += field(WRITE_AUTOCRYPT, cases, address, key, room, mutual, writing.write_autocrypt(address, key, mutual, room))
     address, key, room = cases.writing_gossip()

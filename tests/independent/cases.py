@@ -15,7 +15,7 @@ from paper.date import DAY, DAY_NAMES, HOUR, MINUTE, MONTH_NAMES, ZONE_HOURS, da
 from paper.date import days_in_year
 from paper.header import BLOCK_LIMIT
 from paper.recommending import GAP_LIMIT, RECIPIENTS_LIMIT
-from paper.table import (BITS_AT, KEY_LIMIT, SLOT, SLOTS_LIMIT, TIME_LIMIT, Entry, slot_of, table_of)
+from paper.table import (BITS_AT, KEY_LIMIT, NUMBERS, SLOT, SLOTS_LIMIT, TIME_LIMIT, Entry, slot_of, table_of)
 from paper.tokens import ATOM_SIGNS, COMMENT_DEPTH
 from paper.writing import write_autocrypt, write_gossip
 
@@ -840,6 +840,14 @@ class Cases:
     def target(self) -> tuple[bytes, bytes, bool, bool, int]:
         """As above, and a list place."""
         return (*self.recommending(), self.list_place_number())
+
+    def one_slot(self) -> tuple[bytes, int, int]:
+        """Table, slot, mostly one that the table has, and how many numbers are lent."""
+        octets = self.table()
+        slots = len(octets) // SLOT
+        slot = self.one([self.random.randrange(slots + 1), self.random.randrange(slots + 1), self.near(slots),
+                         self.one([SLOTS_LIMIT, 1 << 32, 1 << 52, (1 << 64) // SLOT + 1, 1 << 63, (1 << 64) - 1])])
+        return octets, slot, self.one([NUMBERS, NUMBERS, NUMBERS + 1, self.random.randint(0, NUMBERS + 2)])
 
     def room(self, length: int) -> int:
         """The length of an output for a field of the given length."""

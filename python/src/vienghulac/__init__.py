@@ -10,8 +10,16 @@
     table.save("correspondents.table")
 
 Ownership: what a call is given is borrowed for that call and not kept. `bytes` are handed down as they are, a bytearray or
-a memoryview is copied first, so that no other thread can change it meanwhile. A key that comes back is a read-only view of
-a part of the table; the next write of the table releases it, and using it then raises ValueError.
+a memoryview is copied first, so that no other thread can change it meanwhile.
+
+Keys: a key that comes back is a read-only memoryview of a copy of its octets in the table. The next write of the table, that
+is, a `process` that is not refused, releases the view, and using it then raises ValueError. Where someone holds the view's
+buffer just then, such as a socket that is sending it in another thread, or an interrupt breaks the call off, a later write
+releases it; until then it shows the key that it was made of. So does, for ever, what was made out of a view before: a slice,
+a cast, a memoryview of it.
+
+Stack: `process` takes up to 210,000 octets of its thread's stack. Threads have more, unless `threading.stack_size` made it
+small: a thread with less than 327,680 must not call it.
 
 Errors: a wrong type raises TypeError, a number below 0 ValueError. All other input has an answer, or a refusal, which
 raises `Refused` with its number and leaves everything as it was.

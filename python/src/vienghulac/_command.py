@@ -216,7 +216,7 @@ def _use(table: Table) -> str:
 def _recommend(options: argparse.Namespace) -> int:
     advice = recommend(_load(options.table), os.fsencode(options.recipients), options.mutual, options.reply)
     if options.json:
-        _print_json({"advice": advice.name.lower(), "number": advice.value})
+        _print_json({"advice": advice.name.lower(), "advice_number": advice.value})
     else:
         print(advice.name.lower())
     return 0

@@ -49,6 +49,32 @@ class Written(ctypes.Structure):
     length: int
 
 
+class Numbers(ctypes.Structure):
+    """vienghulac_numbers"""
+
+    _fields_ = [
+        (name, ctypes.c_uint64)
+        for name in (
+            "used", "bits", "last_seen", "autocrypt_timestamp", "gossip_timestamp",
+            "address_start", "address_length", "direct_start", "direct_length", "gossip_start", "gossip_length",
+        )
+    ]  # fmt: skip
+    used: int
+    bits: int
+    last_seen: int
+    autocrypt_timestamp: int
+    gossip_timestamp: int
+    address_start: int
+    address_length: int
+    direct_start: int
+    direct_length: int
+    gossip_start: int
+    gossip_length: int
+
+
+NUMBERS = len(Numbers._fields_)
+BIT_LAST_SEEN, BIT_DIRECT, BIT_GOSSIP, BIT_MUTUAL = 1, 2, 4, 8
+
 _shared = ctypes.CDLL(str(Path(__file__).with_name("libvienghulac.so")))
 
 
@@ -80,5 +106,6 @@ check = _declared("vienghulac_check", Answer, *_BLOCK)
 process = _declared("vienghulac_process", Answer, *_TABLE, _NUMBER, *_BLOCK, *_BLOCK, _GOSSIP)
 recommend = _declared("vienghulac_recommend", AdviceAnswer, *_TABLE, *_BLOCK, _TRUTH, _TRUTH)
 target_key = _declared("vienghulac_target_key", Part, *_TABLE, *_BLOCK, _TRUTH, _TRUTH, _NUMBER)
+entry = _declared("vienghulac_entry", Answer, *_TABLE, _NUMBER, ctypes.POINTER(Numbers), _NUMBER)
 write_autocrypt = _declared("vienghulac_write_autocrypt", Written, *_BLOCK, *_BLOCK, _TRUTH, *_BLOCK)
 write_gossip = _declared("vienghulac_write_gossip", Written, *_BLOCK, *_BLOCK, *_BLOCK)

@@ -16,7 +16,7 @@ REFUSALS = {
     9: "own address argument isn't one plain address",
     10: "recipient list unreadable, or not 1 to 100 addresses",
     11: "key argument isn't 1 to 2,048 octets",
-    12: "output shorter than the field",
+    12: "output shorter than the field, or fewer than 11 numbers lent",
 }
 """The words of each refusal number, in order of checking."""
 

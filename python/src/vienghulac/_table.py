@@ -5,8 +5,9 @@ table's guard, and since a call runs without the interpreter's lock, the guard i
 lock or without one.
 
 A key is handed out as a view of a copy of its octets, which is never written. A call that wrote the table releases every
-such view, so that a late use raises. What a caller made out of a view, a slice say, keeps the copy alive, and goes on
-reading the key that it was made of.
+such view, so that a late use raises; a view whose buffer someone holds at that moment, or whose turn did not come because
+the call was interrupted, is released by a later write. What a caller made out of a view, a slice say, keeps the copy alive,
+and goes on reading the key that it was made of.
 
 A call of a Python function costs about as much as the conversion of an argument for the library. So the calls on a table
 know what they are nearly always given by its exact type, in place, and ask `_arguments` about all else; and they enter
@@ -17,7 +18,6 @@ from __future__ import annotations
 
 import ctypes
 import enum
-import struct
 import threading
 import weakref
 from dataclasses import dataclass
@@ -71,7 +71,8 @@ class Table:
     """A table of correspondents, one a slot, that owns its octets.
 
     `Table(octets)` takes a copy of octets that were a table's before, and raises `Refused` (1, 2) where they are none.
-    `bytes(table)` hands out a copy. A table can be pickled and copied; the copy shares nothing with it. All calls may be
+    Nothing leads to the octets that it owns: `bytes(table)` is a copy, and a key is a view of a copy of that key, which the
+    next write of the table releases. A table can be pickled and copied; the copy shares nothing with it. All calls may be
     made from any thread, but not from a signal handler: it would wait for the call that it interrupted.
     """
 
@@ -120,7 +121,7 @@ class Table:
     # The rest is for the functions below, which hold the guard.
 
     def _view(self, start: int, length: int) -> memoryview:
-        """A part of the table, to be released by the next write."""
+        """A view of a copy of a part of the table, to be released by the next write."""
         view = memoryview(self._memory[start : start + length])  # type: ignore[arg-type]  # the slice is bytes
         self._views.add(_HandedOut(view, self._views.discard))
         return view
@@ -133,7 +134,7 @@ class Table:
                 if view is not None:
                     view.release()
             except BufferError:
-                # Someone is reading the view's memory this moment; it is a copy, which no one writes. The view is
+                # Someone holds the view's buffer this moment; it is a copy, which no one writes. The view is
                 # released by a later write.
                 continue
             self._views.discard(handed_out)
@@ -169,7 +170,8 @@ def process(
 
     `receipt` is when the mail was received, in seconds since 1970-01-01 UTC. `outer` is the mail's header block: its
     octets as received, up to its first empty line. `payload` is the header block of the decrypted payload's root part,
-    if there is one. Raises `Refused` (3 to 8) and leaves the table as it was, or ends all keys handed out before.
+    if there is one. Raises `Refused` (3 to 8) and leaves the table as it was, or releases the views of keys that were
+    handed out before.
     """
     if type(table) is not Table:
         _need_table(table)
@@ -215,8 +217,9 @@ def target_key(
 ) -> Optional[memoryview]:
     """The key to encrypt to for the recipient at a place of the list, counted from 0.
 
-    It is a read-only view of a part of the table, and is released by the next write: copy it, as `bytes(key)`, to keep
-    it longer. None where that recipient has no key, past the end of the list, and where `recommend` refuses.
+    It is a read-only view of a copy of the key's octets. The next write of the table releases the view, or a later one
+    where someone holds the view's buffer just then: take `bytes(key)` to keep the octets longer. None where that recipient
+    has no key, past the end of the list, and where `recommend` refuses.
     """
     if type(table) is not Table or type(recipients) is not bytes or type(mutual) is not bool or type(reply) is not bool:
         recipients, mutual, reply = _asked(table, recipients, mutual, reply)
@@ -232,7 +235,11 @@ def target_key(
 
 @dataclass(frozen=True)
 class Entry:
-    """What a used slot holds. None stands for what is absent; keys are views as those of `target_key`."""
+    """What a used slot held as `entries` read it.
+
+    None stands for what is absent. A key is a view of a copy of its octets, and ends as those of `target_key` do; all else
+    stays.
+    """
 
     slot: int
     address: bytes
@@ -244,36 +251,39 @@ class Entry:
     gossip_key: Optional[memoryview]
 
 
-# Octets 0 to 39 of a slot: mark, address length, bits, last seen, two timestamps, two key lengths.
-_NUMBERS = struct.Struct("<2sHB3xQQQHH4x")
-_USED = b"\x41\x31"
-_LAST_SEEN, _DIRECT, _GOSSIP, _MUTUAL = 1, 2, 4, 8
-_ADDRESS, _DIRECT_KEY, _GOSSIP_KEY = 40, 296, 2_344
-
-
 def entries(table: Table) -> list[Entry]:
-    """The entries of a table, by slot. Their keys are released by the next write."""
+    """The entries of a table, by slot.
+
+    Their keys are read-only views of copies of the keys' octets, and the next write of the table releases them, as it does
+    those of `target_key`.
+    """
     _need_table(table)
+    numbers = _library.Numbers()
     with table._guard:
-        found = (_entry(table, slot) for slot in range(table.slots))
+        found = (_entry(table, slot, numbers) for slot in range(table.slots))
         return [entry for entry in found if entry is not None]
 
 
-def _entry(table: Table, slot: int) -> Optional[Entry]:
+def _entry(table: Table, slot: int, numbers: _library.Numbers) -> Optional[Entry]:
+    """What a slot holds, if anything; `numbers` is written.
+
+    A call checks all of the table that it is lent, and each slot of a table is a table by itself: so the one slot is lent.
+    """
     start = slot * SLOT
-    mark, address_length, bits, seen, autocrypt, gossip, direct_length, gossip_length = _NUMBERS.unpack_from(
-        table._memory, start
-    )
-    if mark != _USED:
+    answer: _library.Answer = _library.entry(table._address + start, SLOT, 0, numbers, _library.NUMBERS)
+    if answer.number:
+        raise refusal(answer.number, slot)
+    if not numbers.used:
         return None
-    address = start + _ADDRESS
+    bits, address = numbers.bits, start + numbers.address_start
+    direct, gossip = bits & _library.BIT_DIRECT, bits & _library.BIT_GOSSIP
     return Entry(
         slot=slot,
-        address=table._memory[address : address + address_length],  # type: ignore[arg-type]  # the slice is bytes
-        last_seen=seen if bits & _LAST_SEEN else None,
-        autocrypt_timestamp=autocrypt if bits & _DIRECT else None,
-        direct_key=table._view(start + _DIRECT_KEY, direct_length) if bits & _DIRECT else None,
-        mutual=bool(bits & _MUTUAL),
-        gossip_timestamp=gossip if bits & _GOSSIP else None,
-        gossip_key=table._view(start + _GOSSIP_KEY, gossip_length) if bits & _GOSSIP else None,
+        address=table._memory[address : address + numbers.address_length],  # type: ignore[arg-type]  # the slice is bytes
+        last_seen=numbers.last_seen if bits & _library.BIT_LAST_SEEN else None,
+        autocrypt_timestamp=numbers.autocrypt_timestamp if direct else None,
+        direct_key=table._view(start + numbers.direct_start, numbers.direct_length) if direct else None,
+        mutual=bool(bits & _library.BIT_MUTUAL),
+        gossip_timestamp=numbers.gossip_timestamp if gossip else None,
+        gossip_key=table._view(start + numbers.gossip_start, numbers.gossip_length) if gossip else None,
     )

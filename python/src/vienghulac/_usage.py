@@ -16,7 +16,10 @@ they send. They are kept in a table, a file of 1 to 256 slots of 4,392 octets,
 one a correspondent.
 
 A refusal, or a file that cannot be read or written, is one line on standard
-error and exit status 1; bad usage is 2."""
+error and exit status 1; bad usage is 2.
+
+With --json the answer is one JSON value, whose keys each command's --help names.
+The key 'number' is for the number of a refusal alone, 0 where there is none."""
 
 _IMPORT = """\
 Read the messages of mailboxes, in their order, and bring a table up to date.
@@ -35,13 +38,20 @@ payloads are not read, so no gossip is taken.
 The table is written once, when all is read: a failure leaves the file as it
 was. Only one import into a table may run at a time. The messages are counted by
 answer, 0 for those taken and the number of the refusal for the others; a
-message that is refused changes nothing, and is no failure of the import."""
+message that is refused changes nothing, and is no failure of the import.
+
+With --json: messages, their number; answers, how many have each answer; slots
+and used, those of the table."""
 
 _LIST = """\
 List the correspondents of a table: address, when last seen, date and length of
 the key from their own mail, preference, date and length of the key that others
-sent (gossip). Times are UTC. With --json times are seconds since 1970, and
-octets of an address that are not UTF-8 are lone surrogates."""
+sent (gossip). Times are UTC.
+
+With --json, for each: slot, address, last_seen, autocrypt_timestamp,
+direct_key_length, preference, gossip_timestamp, gossip_key_length. Times are
+seconds since 1970 or null, a key that is absent has length 0, and octets of an
+address that are not UTF-8 are lone surrogates."""
 
 _RECOMMEND = """\
 Say whether a new mail to the RECIPIENTS (one argument, a list as in a To field,
@@ -50,24 +60,33 @@ of 1 to 100 addresses) should be encrypted:
   disable      it cannot be, since someone has no key
   discourage   it can be, but someone may not be able to read it
   available    it can be, if the user asks for it
-  encrypt      it should be"""
+  encrypt      it should be
+
+With --json: advice, that word; advice_number, 1 to 4 in this order."""
 
 _KEY = """\
 Write the key to encrypt to, for one of the RECIPIENTS (one argument, a list as
 in a To field), to standard output or to a file. The octets are those that came
 in the mail; whether they are a good OpenPGP key, nobody has looked. Where that
-recipient has no key, the exit status is 1."""
+recipient has no key, the exit status is 1.
+
+With --json: length, in octets; key, as Base64."""
 
 _FIELD = """\
 Write the Autocrypt field for a mail from ADDRESS, or with --gossip the
 Autocrypt-Gossip field for a recipient, to standard output, with CRLF at the end
 of each line. The key file holds 1 to 2,048 octets, an OpenPGP key without
-armor."""
+armor.
+
+With --json: name and value, the value on one line."""
 
 _CHECK = """\
 Say of each FILE whether it is a table. The exit status is 1 where one is not;
 the line on standard error then has the number of the refusal and, for number 2,
-the lowest slot that is neither free nor sound. No file is changed."""
+the lowest slot that is neither free nor sound. No file is changed.
+
+With --json, for each: file, its name; number, 0 for a table, else that of the
+refusal, or null where the file cannot be read; slot, that slot or null."""
 
 
 def _natural(text: str) -> int:

@@ -41,6 +41,10 @@ GOSSIP_KEY_AT = (2344, 4392)
 
 Place = tuple[int, int]
 
+# A slot is told in so many numbers: whether it is used, its bits, last seen, the Autocrypt
+# and the gossip timestamp, and start and length of address, direct key and gossip key.
+NUMBERS = 11
+
 
 @dataclass
 class Entry:
@@ -227,3 +231,35 @@ def find(held: list[Entry | None], address: bytes) -> int | None:
 def free_slots(held: list[Entry | None]) -> list[int]:
     """The indexes of the free slots, the lowest first."""
     return [index for index, entry in enumerate(held) if entry is None]
+
+
+def entry_numbers(table: bytes, slot: int, room: int) -> tuple[int, int, list[int] | None]:
+    """The refusal number, 0 for none, the index that 2 carries, and the numbers that tell a slot.
+
+    `room` says how many numbers are lent; None stands for those of a call that refuses. No
+    rule of the paper: the library has this call for its callers.
+    """
+    refusal, index = check(table)
+    if refusal != 0:
+        return refusal, index, None
+    # Too little room has the paper's number for it, and is looked at last, as in writing.
+    if room < NUMBERS:
+        return 12, 0, None
+    # A slot past the end reads like a free one.
+    held = entries(table)
+    entry = held[slot] if slot < len(held) else None
+    if entry is None:
+        return 0, 0, [0] * NUMBERS
+    start = slot * SLOT
+    return 0, 0, [
+        1, table[start + BITS_AT],
+        entry.last_seen or 0, entry.autocrypt_timestamp or 0, entry.gossip_timestamp or 0,
+        *part(start + ADDRESS_AT[0], entry.address),
+        *part(start + DIRECT_KEY_AT[0], entry.direct_key),
+        *part(start + GOSSIP_KEY_AT[0], entry.gossip_key),
+    ]
+
+
+def part(start: int, content: bytes | None) -> tuple[int, int]:
+    """Start and length of a part of the table; two zeros where it is absent."""
+    return (0, 0) if content is None else (start, len(content))

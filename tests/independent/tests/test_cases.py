@@ -19,7 +19,7 @@ class Determinism(unittest.TestCase):
     METHODS = ["base64_text", "comment_text", "quoted_text", "runs", "date_value", "dates",
                "header_block", "content_type", "address", "address_list", "recipients", "field_value",
                "key", "table", "broken_slot", "listing_input", "message", "processing", "recommending",
-               "target", "writing", "writing_gossip"]
+               "target", "one_slot", "writing", "writing_gossip"]
 
     def drawn(self, seed: int) -> list:
         cases = Cases(seed)
@@ -224,6 +224,25 @@ class Calls(unittest.TestCase):
                                         ("empty", True)})
         self.assertGreater(min(answers.values()), 20)
 
+    def test_one_slot(self):
+        cases = Cases(SEED)
+        answers, keys, rooms = Counter(), Counter(), set()
+        for _ in range(1500):
+            octets, slot, room = cases.one_slot()
+            number, _, numbers = table.entry_numbers(octets, slot, room)
+            rooms.add(room)
+            if number != 0:
+                answers[number] += 1
+            elif slot >= len(octets) // SLOT:
+                answers["past the end"] += 1
+            else:
+                answers["used" if numbers[0] else "free"] += 1
+                keys[numbers[1] & (table.DIRECT + table.GOSSIP)] += numbers[0]
+        self.assertEqual(set(answers), {1, 2, 12, "past the end", "free", "used"})
+        self.assertGreater(min(answers.values()), 20)
+        self.assertGreater(min(keys[bits] for bits in (0, 2, 4, 6)), 20)
+        self.assertEqual(rooms, set(range(14)))
+
     def test_writing(self):
         cases = Cases(SEED)
         for answers in (Counter(writing.write_autocrypt(*cases.writing())[0] for _ in range(600)),
@@ -300,6 +319,7 @@ class EveryLine(unittest.TestCase):
             (300, table.check, lambda: (cases.broken_slot(),)),
             (200, processing.process, cases.processing),
             (200, recommending.target_key, cases.target),
+            (60, table.entry_numbers, cases.one_slot),
             (60, writing.write_autocrypt, cases.writing),
             (60, writing.write_gossip, cases.writing_gossip),
             (60, listing.listing, lambda: (cases.listing_input(),)),

@@ -4,8 +4,9 @@ import random
 import unittest
 
 from paper import table
-from paper.table import (ADDRESS_AT, BITS_AT, DIRECT_KEY_AT, GOSSIP_KEY_AT, SLOT, TIME_LIMIT, Entry,
-                         check, entries, entry_of, find, free_slots, is_sound_alone, slot_of, table_of)
+from paper.table import (ADDRESS_AT, BITS_AT, DIRECT_KEY_AT, GOSSIP_KEY_AT, NUMBERS, SLOT, TIME_LIMIT, Entry,
+                         check, entries, entry_numbers, entry_of, find, free_slots, is_sound_alone, slot_of,
+                         table_of)
 
 FULL = Entry(b"a@b.example", 2000, 1000, b"direct", True, 3000, b"gossip key")
 SENDER = Entry(b"a@b.example", 2000, 1000, b"direct")
@@ -294,6 +295,72 @@ class Tables(unittest.TestCase):
             octets = table_of(held)
             self.assertEqual(check(octets), (0, 0))
             self.assertEqual(entries(octets), held)
+
+
+class OneSlot(unittest.TestCase):
+    """One slot told in eleven numbers."""
+
+    FREE = [0] * 11
+    PAST = [2, 3, 255, 256, 1 << 32, (1 << 63) + 1, (1 << 64) - 1]
+
+    def told(self, held: list[Entry | None], slot: int) -> list[int] | None:
+        number, index, numbers = entry_numbers(table_of(held), slot, NUMBERS)
+        self.assertEqual((number, index), (0, 0))
+        return numbers
+
+    def test_every_part_there(self):
+        self.assertEqual(self.told([FULL], 0), [1, 15, 2000, 1000, 3000, 40, 11, 296, 6, 2344, 10])
+        self.assertEqual(self.told([None, None, FULL], 2),
+                         [1, 15, 2000, 1000, 3000, 8824, 11, 9080, 6, 11128, 10])
+
+    def test_absent_parts(self):
+        self.assertEqual(self.told([SENDER], 0), [1, 3, 2000, 1000, 0, 40, 11, 296, 6, 0, 0])
+        self.assertEqual(self.told([SEEN], 0), [1, 1, 2000, 0, 0, 40, 11, 0, 0, 0, 0])
+        self.assertEqual(self.told([HEARD], 0), [1, 4, 0, 0, 3000, 40, 11, 0, 0, 2344, 10])
+        self.assertEqual(self.told([BARE], 0), [1, 0, 0, 0, 0, 40, 11, 0, 0, 0, 0])
+        self.assertEqual(self.told([None, HEARD], 1), [1, 4, 0, 0, 3000, 4432, 11, 0, 0, 6736, 10])
+
+    def test_a_present_zero_is_told_by_its_bit(self):
+        self.assertEqual(self.told([Entry(b"a@b", 0)], 0), [1, 1, 0, 0, 0, 40, 3, 0, 0, 0, 0])
+        self.assertEqual(self.told([Entry(b"a@b", 0, 0, b"k", False, 0, b"g")], 0),
+                         [1, 7, 0, 0, 0, 40, 3, 296, 1, 2344, 1])
+
+    def test_the_last_slot_of_the_longest_table(self):
+        entry = Entry(b"a" * 62 + b"@" + b".".join([b"b" * 63] * 3), TIME_LIMIT, TIME_LIMIT, b"k" * 2048, True,
+                      TIME_LIMIT, b"g" * 2048)
+        start = 255 * 4392
+        self.assertEqual(self.told([None] * 255 + [entry], 255), [
+            1, 15, TIME_LIMIT, TIME_LIMIT, TIME_LIMIT, start + 40, 254, start + 296, 2048, start + 2344, 2048])
+
+    def test_free_slots_and_slots_past_the_end(self):
+        self.assertEqual(self.told([None, FULL], 0), self.FREE)
+        for slot in self.PAST:
+            self.assertEqual(self.told([None, FULL], slot), self.FREE, slot)
+
+    def test_1(self):
+        for length in (0, 1, SLOT - 1, SLOT + 1, 256 * SLOT + 1, 257 * SLOT):
+            for slot in [0] + self.PAST:
+                self.assertEqual(entry_numbers(bytes(length), slot, 11), (1, 0, None))
+
+    def test_2_with_the_lowest_index(self):
+        bad = slot_of(Entry(b"A@b"))
+        for slot in [0, 1] + self.PAST:
+            self.assertEqual(entry_numbers(bad + bad, slot, 11), (2, 0, None))
+            self.assertEqual(entry_numbers(slot_of(FULL) + bytes(SLOT) + bad + bad, slot, 11), (2, 2, None))
+
+    def test_12(self):
+        for held, slot in [([FULL], 0), ([None], 0), ([FULL], 1), ([FULL], (1 << 64) - 1)]:
+            for room in range(11):
+                self.assertEqual(entry_numbers(table_of(held), slot, room), (12, 0, None))
+            # More than enough is told as enough is.
+            for room in (12, 13, 1000):
+                self.assertEqual(entry_numbers(table_of(held), slot, room), (0, 0, self.told(held, slot)))
+
+    def test_the_order_of_the_refusals(self):
+        bad = slot_of(Entry(b"A@b"))
+        for room in (0, 10, 11):
+            self.assertEqual(entry_numbers(bad[:-1], 0, room), (1, 0, None))
+            self.assertEqual(entry_numbers(bytes(SLOT) + bad, 0, room), (2, 1, None))
 
 
 class Limits(unittest.TestCase):
