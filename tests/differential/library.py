@@ -21,6 +21,26 @@ class Written(ctypes.Structure):
     _fields_ = [("number", ctypes.c_uint64), ("length", ctypes.c_uint64)]
 
 
+class LentNumbers:
+    """Numbers that are lent for one call, between guards that are looked at after it."""
+
+    GUARD = [0xC0FFEE_0DDBA11, 0, (1 << 64) - 1]
+
+    def __init__(self, numbers: list[int]):
+        self.length = len(numbers)
+        words = self.GUARD + numbers + self.GUARD
+        self.memory = (ctypes.c_uint64 * len(words))(*words)
+
+    def words(self):
+        return ctypes.byref(self.memory, 8 * len(self.GUARD)), self.length
+
+    def now(self) -> list[int]:
+        words, guard = list(self.memory), len(self.GUARD)
+        if words[:guard] != self.GUARD or words[guard + self.length :] != self.GUARD:
+            raise AssertionError("written outside the lent numbers")
+        return words[guard : guard + self.length]
+
+
 class Library(Bound):
     """The functions of the header, or those of another library that has them under another prefix."""
 
@@ -41,6 +61,13 @@ class Library(Bound):
         kinds = WRITE + [ctypes.c_uint64] + READ + READ + [ctypes.c_uint8]
         words = [*lent.words(), receipt, outer, len(outer), payload, len(payload), gossip]
         r = self._call("process", Answer, kinds, *words)
+        return r.number, r.index, lent.now()
+
+    def entry(self, table: bytes, slot: int, numbers: list[int]) -> tuple[int, int, list[int]]:
+        """The number, the index, and what the lent numbers then are."""
+        lent = LentNumbers(numbers)
+        kinds = READ + [ctypes.c_uint64] + WRITE
+        r = self._call("entry", Answer, kinds, table, len(table), slot, *lent.words())
         return r.number, r.index, lent.now()
 
     def _write(self, name: str, kinds: list, words: list, out: bytes) -> tuple[int, int, bytes]:

@@ -3,7 +3,7 @@ import unittest
 from collections import Counter
 
 from against import Cases
-from library import Library
+from both import Both
 from paper import date, header, keyfield, processing, table as tables
 from probe import SEED
 
@@ -55,15 +55,12 @@ ALL = {
 
 class Processing(unittest.TestCase):
     def setUp(self):
-        self.library = Library()
+        self.both = Both()
         self.cases = Cases(SEED)
         self.random = self.cases.random
 
     def same(self, table: bytes, *message) -> tuple[int, bytes]:
-        number, index, after = processing.process(table, *message)
-        got = self.library.process(table, *message)
-        self.assertEqual(got[:2], (number, index), message)
-        self.assertTrue(got[2] == after, message)
+        number, _, after = self.both.process(table, *message)
         return number, after
 
     def test_messages(self):

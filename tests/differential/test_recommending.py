@@ -4,7 +4,7 @@ import itertools
 import unittest
 
 from against import Cases
-from library import Library
+from both import Both
 from paper import recommending, table as tables
 from probe import SEED
 
@@ -29,19 +29,17 @@ def entries() -> list[tables.Entry]:
 
 class Recommending(unittest.TestCase):
     def setUp(self):
-        self.library = Library()
+        self.both = Both()
         self.cases = Cases(SEED)
 
     def advised(self, *call) -> tuple[int, int]:
         """The number and the advice."""
-        expected = recommending.recommend(*call)
-        self.assertEqual(self.library.recommend(*call), expected, call)
-        return expected[0], expected[2]
+        number, _, advice = self.both.recommend(*call)
+        return number, advice
 
     def target(self, table: bytes, *rest) -> bytes:
         """The key."""
-        start, length = recommending.target_key(table, *rest)
-        self.assertEqual(self.library.target_key(table, *rest), (start, length), (table, rest))
+        start, length = self.both.target_key(table, *rest)
         return table[start : start + length]
 
     def test_recommending(self):

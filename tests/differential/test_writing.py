@@ -2,7 +2,7 @@
 import unittest
 
 from against import Cases
-from library import Library
+from both import Both
 from paper import writing
 from paper.address import canonical
 from probe import SEED, Probe
@@ -10,30 +10,15 @@ from probe import SEED, Probe
 
 class Writing(unittest.TestCase):
     def setUp(self):
-        self.library = Library()
+        self.both = Both()
         self.cases = Cases(SEED)
         self.random = self.cases.random
-
-    def same(self, expected: tuple[int, bytes], written: tuple[int, int, bytes], out: bytes, what: object) -> int:
-        number, field = expected
-        self.assertEqual(written, (number, len(field), field + out[len(field) :]), what)
-        return number
-
-    def autocrypt(self, address: bytes, key: bytes, mutual: bool, room: int) -> int:
-        out = self.random.randbytes(room)
-        expected = writing.write_autocrypt(address, key, mutual, room)
-        return self.same(expected, self.library.write_autocrypt(address, key, mutual, out), out, (address, key, mutual, room))
-
-    def gossip(self, address: bytes, key: bytes, room: int) -> int:
-        out = self.random.randbytes(room)
-        expected = writing.write_gossip(address, key, room)
-        return self.same(expected, self.library.write_gossip(address, key, out), out, (address, key, room))
 
     def test_writing(self):
         answers = set()
         for _ in range(10_000):
-            answers.add(self.autocrypt(*self.cases.writing()))
-            answers.add(self.gossip(*self.cases.writing_gossip()))
+            answers.add(self.both.write_autocrypt(*self.cases.writing())[0])
+            answers.add(self.both.write_gossip(*self.cases.writing_gossip())[0])
         self.assertEqual(answers, {0, 9, 11, 12})
 
     def test_limits(self):
@@ -46,22 +31,22 @@ class Writing(unittest.TestCase):
                 for mutual in (False, True):
                     length = len(writing.write_autocrypt(address, key, mutual, 1 << 16)[1])
                     for room in {0, 1, max(0, length - 1), length, length + 1, length + 64}:
-                        self.autocrypt(address, key, mutual, room)
+                        self.both.write_autocrypt(address, key, mutual, room)
                 length = len(writing.write_gossip(address, key, 1 << 16)[1])
                 for room in {0, max(0, length - 1), length, length + 1}:
-                    self.gossip(address, key, room)
+                    self.both.write_gossip(address, key, room)
 
     def test_example(self):
         """The paper's own field."""
         field = b"Autocrypt: addr=a@b.example; prefer-encrypt=mutual; keydata=\r\n Zm9v\r\n"
-        self.assertEqual(self.library.write_autocrypt(b"a@b.example", b"foo", True, bytes(80)), (0, len(field), field.ljust(80, b"\0")))
+        self.assertEqual(self.both.library.write_autocrypt(b"a@b.example", b"foo", True, bytes(80)), (0, len(field), field.ljust(80, b"\0")))
 
     def test_read_back(self):
         """What is written is read back by the library's own readers, alone and between other fields."""
         probe = Probe()
         for _ in range(2_000):
             address, key, mutual = self.cases.address(), self.cases.good_key(), self.cases.chance(0.5)
-            number, length, out = self.library.write_autocrypt(address, key, mutual, bytes(4000))
+            number, length, out = self.both.library.write_autocrypt(address, key, mutual, bytes(4000))
             if number == 9:
                 continue
             self.assertEqual(number, 0, (address, key))

@@ -1,0 +1,67 @@
+"""The shipped library with the independent program beside it: each answer of the one is held to the other's."""
+import against  # noqa: F401  (the independent program is importable from here on)
+from library import Library
+from paper import calls
+
+
+def first_difference(got: tuple, answer: tuple) -> str:
+    """What the library has for what it should have; of octets and lists, which may be long, from their first difference on."""
+    for one, other in zip(got, answer):
+        if one != other and isinstance(one, (bytes, list)):
+            at = next((at for at, (x, y) in enumerate(zip(one, other)) if x != y), min(len(one), len(other)))
+            return f"from place {at} on {one[at : at + 20]} for {other[at : at + 20]}"
+        if one != other:
+            return f"{one} for {other}"
+    return f"{got} for {answer}"
+
+
+class Both:
+    """The calls of `paper.calls`, made on both. A test that is written for one program runs on this as well."""
+
+    def __init__(self):
+        self.library = Library()
+
+    def _held(self, name: str, got: tuple, answer: tuple, call: tuple):
+        if got != answer:
+            short = [word if not isinstance(word, bytes) or len(word) < 5_000 else f"{len(word)} octets" for word in call]
+            raise AssertionError(f"{name} of the library answers {first_difference(got, answer)}, called with {short}")
+
+    def _same(self, name: str, *call):
+        answer = getattr(calls, name)(*call)
+        self._held(name, getattr(self.library, name)(*call), answer, call)
+        return answer
+
+    def check(self, *call):
+        return self._same("check", *call)
+
+    def process(self, *call):
+        return self._same("process", *call)
+
+    def recommend(self, *call):
+        return self._same("recommend", *call)
+
+    def target_key(self, *call):
+        return self._same("target_key", *call)
+
+    # Where the independent program is told how much room there is, the library is lent it: what it does not write must stay.
+
+    def entry_numbers(self, *call):
+        table, slot, room = call
+        number, index, numbers = calls.entry_numbers(*call)
+        lent = [0xDEAD_BEEF << 32 | at for at in range(room)]
+        after = lent if numbers is None else numbers + lent[len(numbers) :]
+        self._held("entry", self.library.entry(table, slot, lent), (number, index, after), call)
+        return number, index, numbers
+
+    def _written(self, name: str, *call):
+        *words, room = call
+        number, field = getattr(calls, name)(*call)
+        out = (bytes(range(251)) * (room // 251 + 1))[:room]
+        self._held(name, getattr(self.library, name)(*words, out), (number, len(field), field + out[len(field) :]), call)
+        return number, field
+
+    def write_autocrypt(self, *call):
+        return self._written("write_autocrypt", *call)
+
+    def write_gossip(self, *call):
+        return self._written("write_gossip", *call)

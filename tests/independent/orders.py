@@ -1,0 +1,260 @@
+"""Demand 3 run: messages in many orders, and each of its premises dropped once.
+
+The classes are mixed into test cases, which name the `program`: whatever has the calls of `paper.calls`.
+"""
+
+import itertools
+import random
+from dataclasses import dataclass
+
+from mails import A, B, C, D, RECEIPT, gossip_field, key_field, mail
+from paper.processing import SKIP, TAKE, UNSET
+from paper.table import TIME_LIMIT, Entry, entries, table_of
+
+ONE, TWO = b"one", b"two"
+
+
+@dataclass
+class Call:
+    """A message with its own receipt time and gossip setting."""
+    outer: bytes
+    payload: bytes = b""
+    gossip: int = UNSET
+    receipt: int = RECEIPT
+
+
+def keyed(sender: bytes, date: int, key: bytes, mutual: bool = False) -> Call:
+    return Call(mail(sender, date, key_field(sender, key, mutual)))
+
+
+def told(*about: tuple[bytes, bytes]) -> tuple[bytes, bytes]:
+    """The To field for the recipients, and the gossip about them."""
+    to = b"To: " + b", ".join(address for address, _ in about) + b"\r\n"
+    return to, b"".join(gossip_field(address, key) for address, key in about)
+
+
+def telling(sender: bytes, date: int, *about: tuple[bytes, bytes]) -> Call:
+    """A message with gossip about its recipients."""
+    to, payload = told(*about)
+    return Call(mail(sender, date, to), payload)
+
+
+def fetch(program, table: bytes, calls: list[Call]) -> tuple[list[int], bytes]:
+    """The numbers that the calls answer, one after the other, and the table after them."""
+    numbers = []
+    for call in calls:
+        number, _, table = program.process(table, call.receipt, call.outer, call.payload, call.gossip)
+        numbers.append(number)
+    return numbers, table
+
+
+def by_address(table: bytes) -> dict[bytes, Entry]:
+    """The entries, whichever slots they stand in."""
+    return {entry.address: entry for entry in entries(table) if entry is not None}
+
+
+def advice(program, table: bytes, to: list[bytes], mutual: bool = True, reply: bool = False) -> tuple:
+    """What is recommended for recipients, and the octets of their target keys, the place past the list among them."""
+    recipients = b", ".join(to)
+    parts = [program.target_key(table, recipients, mutual, reply, place) for place in range(len(to) + 1)]
+    return program.recommend(table, recipients, mutual, reply), [table[at:at + length] for at, length in parts]
+
+
+class EachPremise:
+    """Without one of its premises two orders lead to different entries."""
+
+    program = None
+
+    def orders(self, calls: list[Call], held: list[Entry | None]) -> tuple:
+        """What the calls lead to, and what they do in the other order."""
+        return fetch(self.program, table_of(held), calls), fetch(self.program, table_of(held), calls[::-1])
+
+    def test_room(self):
+        # One free slot, two new senders: the second one is refused.
+        (numbers, table), (others, other) = self.orders([keyed(A, 1000, ONE), keyed(B, 2000, TWO)], [None])
+        self.assertEqual((numbers, others), ([0, 8], [0, 8]))
+        self.assertEqual((set(by_address(table)), set(by_address(other))), ({A}, {B}))
+
+    def test_room_beside_others(self):
+        # So it is in a table that holds others, and where gossip takes the last slot.
+        calls = [telling(C, 1000, (A, ONE)), keyed(B, 2000, TWO)]
+        (numbers, table), (others, other) = self.orders(calls, [Entry(C, 500), None, Entry(D, 9, 9, ONE)])
+        self.assertEqual((numbers, others), ([0, 8], [0, 8]))
+        self.assertEqual((set(by_address(table)), set(by_address(other))), ({A, C, D}, {B, C, D}))
+        self.assertEqual((by_address(table)[C].last_seen, by_address(other)[C].last_seen), (1000, 500))
+
+    def test_one_direct_key_at_one_date(self):
+        # "An equal date replaces.": the last one stands.
+        (numbers, table), (others, other) = self.orders([keyed(A, 1000, ONE), keyed(A, 1000, TWO)], [None])
+        self.assertEqual((numbers, others), ([0, 0], [0, 0]))
+        self.assertEqual(by_address(table)[A].direct_key, TWO)
+        self.assertEqual(by_address(other)[A].direct_key, ONE)
+        self.assertNotEqual(advice(self.program, table, [A]), advice(self.program, other, [A]))
+
+    def test_one_preference_at_one_date(self):
+        # The same key, with and without mutual.
+        (_, table), (_, other) = self.orders([keyed(A, 1000, ONE, True), keyed(A, 1000, ONE)], [None])
+        self.assertFalse(by_address(table)[A].mutual)
+        self.assertTrue(by_address(other)[A].mutual)
+        self.assertNotEqual(advice(self.program, table, [A]), advice(self.program, other, [A]))
+
+    def test_one_gossip_key_at_one_date(self):
+        # Two senders tell of one recipient at the same date.
+        calls = [telling(A, 1000, (C, ONE)), telling(B, 1000, (C, TWO))]
+        (numbers, table), (others, other) = self.orders(calls, [None, None, None])
+        self.assertEqual((numbers, others), ([0, 0], [0, 0]))
+        self.assertEqual(by_address(table)[C].gossip_key, TWO)
+        self.assertEqual(by_address(other)[C].gossip_key, ONE)
+        self.assertNotEqual(advice(self.program, table, [C]), advice(self.program, other, [C]))
+
+    def test_the_same_receipt_times(self):
+        # Without a Date the receipt time is the date: fetched at another time it is another message.
+        first = Call(mail(A, None, key_field(A, ONE)), receipt=1000)
+        second = Call(mail(A, None, key_field(A, TWO)), receipt=2000)
+        early = Call(second.outer, receipt=1000)
+        late = Call(first.outer, receipt=2000)
+        _, table = fetch(self.program, table_of([None]), [first, second])
+        _, other = fetch(self.program, table_of([None]), [early, late])
+        self.assertEqual(by_address(table)[A].direct_key, TWO)
+        self.assertEqual(by_address(other)[A].direct_key, ONE)
+
+    def test_the_same_gossip_settings(self):
+        # So it is where one run takes gossip and the other one skips it.
+        call = telling(A, 1000, (B, ONE))
+        _, table = fetch(self.program, table_of([None, None]), [call])
+        _, other = fetch(self.program, table_of([None, None]), [Call(call.outer, call.payload, SKIP)])
+        self.assertEqual((set(by_address(table)), set(by_address(other))), ({A, B}, {A}))
+
+    def test_a_sound_table(self):
+        # Every call refuses any other table and leaves it, so that it has no entries to speak of.
+        calls = [keyed(A, 1000, ONE), keyed(A, 2000, TWO)]
+        for table, number in [(b"", 1), (table_of([Entry(B, 1, 2, ONE)]), 2)]:
+            self.assertEqual(self.program.check(table)[0], number)
+            for order in itertools.permutations(calls):
+                self.assertEqual(fetch(self.program, table, list(order)), ([number, number], table))
+
+
+PEOPLE = (A, B, C, D)
+STRANGER = b"e@x.example"
+
+
+class Agreeing:
+    """Messages that agree with one another, and tables for them, made from a seed."""
+
+    def __init__(self, seed: int) -> None:
+        self.random = random.Random(seed)
+
+    def one_in(self, many: int) -> bool:
+        return self.random.randrange(many) == 0
+
+    def call(self) -> Call:
+        """A message. What it brings an address is made from the address and the date, and so messages agree."""
+        date = self.random.randrange(1, 6)
+        sender = self.random.choice(PEOPLE)
+        about = self.random.sample(PEOPLE, self.random.randrange(4))
+        to, payload = told(*((address.upper(), b"told %d " % date + address) for address in about))
+        # Its last field counts, and a field about someone else is not accepted.
+        if about and self.one_in(3):
+            payload = gossip_field(about[0], b"unlike the next") + payload
+        if self.one_in(4):
+            payload += gossip_field(STRANGER, b"never heard")
+        # The effective date is the Date, the receipt time without one, or the receipt time before it.
+        sent, receipt = self.random.choice([(date, RECEIPT), (date, RECEIPT), (None, date), (date + 9, date)])
+        outer = mail(sender, sent, to, *self.key_fields(sender, date))
+        call = Call(outer, payload, self.random.choice([UNSET, UNSET, TAKE, SKIP, 3, 255]), receipt)
+        return self.refused(call) if self.one_in(4) else call
+
+    def key_fields(self, sender: bytes, date: int) -> list[bytes]:
+        """None, one that counts, alone or beside one that is not valid, or two, of which none counts."""
+        good = key_field(sender, b"sent %d " % date + sender, (date + sender[0]) % 2 == 0)
+        return self.random.choice([[], [good], [good], [key_field(STRANGER, ONE), good], [good, good]])
+
+    def refused(self, call: Call) -> Call:
+        """The message with what makes it refused, whichever the table: 3 to 7, but 7 only where gossip is taken."""
+        kind = self.random.randrange(3, 8)
+        if kind == 3:
+            call.receipt = TIME_LIMIT + 1
+        elif kind == 4:
+            call.outer = b" " + call.outer
+        elif kind == 5:
+            call.outer += b"From: " + A + b"\r\n"
+        elif kind == 6:
+            call.outer += b"Content-Type: multipart/report\r\n"
+        else:
+            call.payload += b"no field\r\n"
+        return call
+
+    def entry(self, address: bytes) -> Entry:
+        """An entry with dates older than, equal to and newer than those of the messages."""
+        entry = Entry(address)
+        if not self.one_in(4):
+            entry.last_seen = self.random.randrange(7)
+            if not self.one_in(3):
+                entry.autocrypt_timestamp = self.random.randrange(entry.last_seen + 1)
+                entry.direct_key, entry.mutual = b"kept " + address, self.one_in(2)
+        if self.one_in(2):
+            entry.gossip_timestamp, entry.gossip_key = self.random.randrange(7), b"heard " + address
+        return entry
+
+    def table(self, program, calls: list[Call]) -> bytes:
+        """A sound table, with or without entries, and with just as many free slots as the messages ask for."""
+        held: list[Entry | None] = [self.entry(address) for address in PEOPLE if self.one_in(3)]
+        _, after = fetch(program, table_of(held + [None] * len(PEOPLE)), calls)
+        slots = held + [None] * max(len(by_address(after)) - len(held), 0 if held else 1)
+        self.random.shuffle(slots)
+        return table_of(slots)
+
+    def lists(self) -> list[list[bytes]]:
+        """Recipients: one, all, and some with a stranger among them."""
+        return [[self.random.choice(PEOPLE)], self.random.sample(PEOPLE, len(PEOPLE)),
+                self.random.sample(PEOPLE + (STRANGER,), 2)]
+
+
+class AnyOrder:
+    """With the premises, every order leads to the same entries, recommendations and target keys."""
+
+    program = None
+    seed = 3
+
+    def says(self, table: bytes, lists: list[list[bytes]]) -> tuple:
+        """All that is the same in every order."""
+        switches = list(itertools.product((False, True), repeat=2))
+        return by_address(table), [advice(self.program, table, to, *both) for to in lists for both in switches]
+
+    def same(self, made: Agreeing, calls: list[Call], orders) -> tuple[set[int], int]:
+        """The numbers that are answered, and how many tables the orders of the calls' places end with."""
+        table, lists = made.table(self.program, calls), made.lists()
+        first, _ = fetch(self.program, table, calls)
+        ends: dict[bytes, tuple] = {}
+        for order in orders:
+            numbers, after = fetch(self.program, table, [calls[place] for place in order])
+            self.assertEqual(numbers, [first[place] for place in order])
+            if after not in ends:
+                ends[after] = self.says(after, lists)
+        one, *others = ends.values()
+        for other in others:
+            self.assertEqual(other, one)
+        return set(first), len(ends)
+
+    def test_every_order_of_a_few(self):
+        made = Agreeing(self.seed)
+        answered: set[int] = set()
+        several = 0
+        for size, sets in [(2, 40), (3, 40), (4, 20), (5, 2)]:
+            for _ in range(sets):
+                calls = [made.call() for _ in range(size)]
+                numbers, tables = self.same(made, calls, itertools.permutations(range(size)))
+                answered |= numbers
+                several += tables > 1
+        self.assertEqual(answered, {0, 3, 4, 5, 6, 7})
+        # Newcomers take other slots in other orders: the tables differ, and say the same.
+        self.assertGreater(several, 20)
+
+    def test_many_orders_of_many(self):
+        made = Agreeing(self.seed + 1)
+        several = 0
+        for size in (8, 12, 20, 30):
+            calls = [made.call() for _ in range(size)]
+            orders = [made.random.sample(range(size), size) for _ in range(24)]
+            several += self.same(made, calls, orders)[1] > 1
+        self.assertGreater(several, 1)
