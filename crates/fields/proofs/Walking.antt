@@ -9,19 +9,17 @@ use Prim.Native.Nat.{ℕ, _-_, _<_, _≤_}
 use mathlib.Core.Path.{_≡_, refl, sym, ap, _∙_}
 use mathlib.Core.Bool.{Bool, true, false}
 use mathlib.Core.List.{List, []}
-use mathlib.Core.Option.{some, none}
-use native.Mathlib.Omega.{arith}
 use borrow.Author.Needs.{needs}
 use borrow.Author.Tests.{eq-eqb, ne-eqb, eqb-true}
 use lib.Dec.{eqb}
 use lib.ListN.{length, take, drop}
-use Rattle.header.specs.Header.{inFront, isSome, limit, fieldsOf, readable}
+use Rattle.header.specs.Header.{isSome, limit, readable}
 use Rattle.header.specs.Answers.{fieldsFrom, stepAt, fieldAt}
 use Rattle.header.specs.declared.Step.{Step}
 use Rattle.header.specs.declared.Step.the-variants.{Over, Broken, Field}
 use Rattle.header.proofs.Stepping.{name-from, name-upto, field-less}
 use Rattle.header.proofs.Fields.{Legible, from-over, from-field, fields-fit, read-long, read-begin, read-over, read-broken, read-next}
-use Rattle.fields.specs.Fields.{readFields, fieldsIn, isKind, valuesOf}
+use Rattle.fields.specs.Fields.{readFields, isKind, valuesOf}
 use Rattle.fields.specs.Answers.{valuesFrom}
 use Rattle.fields.specs.Spans.{spanPast, unseen, surveyNew, surveyPast, SpanAs, SurveyAs, SurveyedAs}
 use Rattle.fields.specs.declared.Kind.{Kind}

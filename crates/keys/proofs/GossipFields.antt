@@ -18,7 +18,6 @@ use Rattle.header.proofs.Unfolding.{value-within, value-there-from}
 use Rattle.address.specs.Address.{isCanonical}
 use Rattle.slots.specs.Slot.{keyLimit}
 use Rattle.keyfield.specs.Field.{fieldOf}
-use Rattle.update.specs.Message.{Gossiped}
 use Rattle.fields.specs.Fields.{fieldsIn}
 use Rattle.fields.specs.Answers.{valueAt, valuesFrom, NamedAs}
 use Rattle.fields.specs.declared.Kind.the-variants.{AutocryptGossip}
