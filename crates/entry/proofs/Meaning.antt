@@ -5,16 +5,16 @@
 -- Assumes nothing.
 use Prim.Native.Nat.{ℕ, _+_, _*_, _<_, _≤_}
 use mathlib.Core.Path.{_≡_, refl, sym, ap, _∙_}
-use mathlib.Core.Bool.{true, false, _&&_, false≢true, and-false}
-use mathlib.Core.List.{List, []}
+use mathlib.Core.Bool.{true, false, false≢true, and-false}
+use mathlib.Core.List.{List}
 use native.Mathlib.Omega.{arith}
-use borrow.Author.Tests.{lt-ltb, eqb-true, eqb-false}
+use borrow.Author.Tests.{eqb-true, eqb-false}
 use lib.Dec.{eqb, ltb}
 use lib.ListN.{length, getD, take, drop, replicate}
 use Rattle.address.proofs.Every.{by-test}
 use Rattle.slots.specs.declared.Slot.{Slot}
 use Rattle.slots.specs.Slot.{slotLength, bits, directLength, gossipLength, addressOf, directKeyOf, gossipKeyOf, numbersOf, marked, free}
-use Rattle.slots.specs.Entry.{Entry, entryOf, numbersFor, bitsOf, orElse, noDirect, noGossip}
+use Rattle.slots.specs.Entry.{entryOf, numbersFor, bitsOf, orElse, noDirect, noGossip}
 use Rattle.slots.specs.Facts.{Sound}
 use Rattle.slots.proofs.Sounds.{sound-parts, marked-not-free}
 use Rattle.slots.proofs.Entries.{numbers-back, address-fits, direct-fits, gossip-fits, direct-key, gossip-key, all-bits}
@@ -41,16 +41,17 @@ module _ (t : List ℕ) (i : ℕ) where
       (λ m. zero-shown (sym (rw m (and-false (ltb i (slots t))))))
 
 -- start and length, as they are told, of octets that stand in the table
-lies : (t w x : List ℕ) (k start n : ℕ) → getD w k 0 ≡ startOf start n → getD w (k + 1) 0 ≡ n → n ≡ length x → take n (drop start t) ≡ x → Lies t w k x
-lies t w x k start n a b l e =
+lies : (t w x : List ℕ) (k at offset n : ℕ) → getD w k 0 ≡ startOf at offset n → getD w (k + 1) 0 ≡ n → n ≡ length x → take n (drop (at + offset) t) ≡ x
+    → Lies t w k x
+lies t w x k at offset n a b l e =
     record {
       long = b ∙ l;
       there =
           rw (a, b)
           (by-test (eqb n 0)
           (λ q. let z : n ≡ 0 = eqb-true n 0 q in rw z (rw z at e))
-          (λ q. rw (← start-there start n (eqb-false n 0 q)) e));
-      nowhere = λ q. a ∙ sym (start-empty start n (l ∙ ap length q));
+          (λ q. rw (← start-there at offset n (eqb-false n 0 q)) e));
+      nowhere = λ q. a ∙ sym (start-empty at offset n (l ∙ ap length q));
     }
 
 module _ (t : List ℕ) (c : checked t ≡ Checked) (i : ℕ) (l : i < slots t) (m : marked (slotAt t i) ≡ true) where
@@ -82,13 +83,13 @@ module _ (t : List ℕ) (c : checked t ≡ Checked) (i : ℕ) (l : i < slots t) 
         timestamp = ap (λ (n : Slot). n .timestamp) same;
         gossip-timestamp = ap (λ (n : Slot). n .«gossip_timestamp») same;
         address =
-            lies t _ (entryOf s .address) 5 (i * 4392 + 40) (numbersOf s .«address_length») refl refl (ap (λ (n : Slot). n .«address_length») same)
+            lies t _ (entryOf s .address) 5 (i * 4392) 40 (numbersOf s .«address_length») refl refl (ap (λ (n : Slot). n .«address_length») same)
             (area-octets t i 40 256 (numbersOf s .«address_length») (omega arith) (address-fits s long sound-slot));
         direct-key =
-            lies t _ (orElse noDirect (entryOf s .direct) .key) 7 (i * 4392 + 296) (directLength s) refl refl (ap (λ (n : Slot). n .«direct_length») same)
+            lies t _ (orElse noDirect (entryOf s .direct) .key) 7 (i * 4392) 296 (directLength s) refl refl (ap (λ (n : Slot). n .«direct_length») same)
             (area-octets t i 296 2048 (directLength s) (omega arith) (direct-fits s long sound-slot) ∙ sym (direct-key s long sound-slot));
         gossip-key =
-            lies t _ (orElse noGossip (entryOf s .gossip) .key) 9 (i * 4392 + 2344) (gossipLength s) refl refl (ap (λ (n : Slot). n .«gossip_length») same)
+            lies t _ (orElse noGossip (entryOf s .gossip) .key) 9 (i * 4392) 2344 (gossipLength s) refl refl (ap (λ (n : Slot). n .«gossip_length») same)
             (area-octets t i 2344 2048 (gossipLength s) (omega arith) (gossip-fits s long sound-slot) ∙ sym (gossip-key s long sound-slot));
       }
 

@@ -1,6 +1,6 @@
 -- What a slot of the table holds, told as eleven numbers.
 --     shownCount        how many
---     startOf, placed   start and length of a part of the table: 0 and 0 where it is empty
+--     startOf, placed   start and length of a part of a slot, in the table: 0 and 0 where it is empty
 --     told              the numbers of a slot: used or not, what octets 4 and 8 to 31 say, and where its three parts lie
 --     usedAt            is there such a slot, and is it used?
 --     shownAt           the numbers of the slot at an index: zeros where it is free or past the end
@@ -19,22 +19,22 @@ use Rattle.table.specs.Table.{slots, slotAt}
 abbrev pub shownCount : ℕ
 shownCount = 11
 
--- a part that is empty is no place of the table
-unfoldable pub startOf : ℕ → ℕ → ℕ
-startOf start n = cond (eqb n 0) 0 start
+-- n octets from the octet `offset` on of a slot that begins at the place `at` of the table: none have no place
+unfoldable pub startOf : ℕ → ℕ → ℕ → ℕ
+startOf at offset n = cond (eqb n 0) 0 (at + offset)
 
-unfoldable pub placed : ℕ → ℕ → List ℕ
-placed start n = startOf start n ∷ n ∷ []
+unfoldable pub placed : ℕ → ℕ → ℕ → List ℕ
+placed at offset n = startOf at offset n ∷ n ∷ []
 
 -- the first five of the eleven
 unfoldable pub stated : ℕ → Slot → List ℕ
 stated used n = used ∷ bitsOf n ∷ n .«last_seen» ∷ n .timestamp ∷ n .«gossip_timestamp» ∷ []
 
--- address, direct key and gossip key of a slot that begins at the place `at` of the table
+-- the last six: address, direct key and gossip key
 unfoldable pub parts : ℕ → Slot → List ℕ
 parts at n =
-    placed (at + addressAt) (n .«address_length»)
-    ++ (placed (at + directAt) (n .«direct_length») ++ placed (at + gossipAt) (n .«gossip_length»))
+    placed at addressAt (n .«address_length»)
+    ++ (placed at directAt (n .«direct_length») ++ placed at gossipAt (n .«gossip_length»))
 
 unfoldable pub told : ℕ → ℕ → Slot → List ℕ
 told used at n = stated used n ++ parts at n

@@ -5,42 +5,24 @@ ghost use mathlib.Core.Path.{_≡_};
 ghost use lib.ListN.{length};
 ghost use Rattle.octets.specs.Written.{putAt, onto};
 ghost use Rattle.slots.specs.Slot.{slotLength};
-ghost use Rattle.entry.specs.Shown.{shownCount, startOf, placed, stated, parts, told, usedAt, shownAt};
+ghost use Rattle.entry.specs.Shown.{shownCount, startOf, stated, parts, told, usedAt, shownAt};
 use slots::Slot;
 
 // How many numbers tell a slot.
 pub const SHOWN: usize = 11;
 
-// Where a part is said to start: at 0 where it is empty.
-fn start_of(start: usize, count: usize) -> u64
-    ensures { λ r. ⌜ r ≡ startOf start count ⌝ }
+// Where a part starts, so many octets from an offset on in the slot that begins at `at`: at 0 where it is empty.
+fn start_of(at: usize, offset: usize, count: usize) -> u64
+    requires { ⌜ at + offset < 2 ^ 64 ⌝ }
+    ensures { λ r. ⌜ r ≡ startOf at offset count ⌝ }
 {
     if count == 0 {
         return 0;
     }
-    start as u64
+    (at + offset) as u64
 }
 
-// Writes start and length of a part to the place `k`.
-fn put_part(numbers: &mut [u64], k: usize, start: usize, count: usize)
-    requires { ⌜ k + 2 ≤ length (now numbers) ⌝ }
-    ensures { λ _. ⌜ now (numbers .exit) ≡ putAt (now (numbers .entry)) k (placed start count) ⌝ }
-{
-    numbers[k] = start_of(start, count);
-    numbers[k + 1] = count as u64;
-}
-
-// Writes the last six numbers of a slot that begins at the place `at`: where its parts lie.
-fn put_parts(numbers: &mut [u64], at: usize, n: Slot)
-    requires { ⌜ (shownCount ≤ length (now numbers)) × (at + slotLength < 2 ^ 64) ⌝ }
-    ensures { λ _. ⌜ now (numbers .exit) ≡ putAt (now (numbers .entry)) 5 (parts at n) ⌝ }
-{
-    put_part(numbers, 5, at + Slot::ADDRESS_AT, n.address_length);
-    put_part(numbers, 7, at + Slot::DIRECT_AT, n.direct_length);
-    put_part(numbers, 9, at + Slot::GOSSIP_AT, n.gossip_length);
-}
-
-// Writes the first five.
+// Writes the first five of the eleven numbers.
 fn put_stated(numbers: &mut [u64], used: u64, n: Slot)
     requires { ⌜ shownCount ≤ length (now numbers) ⌝ }
     ensures { λ _. ⌜ now (numbers .exit) ≡ putAt (now (numbers .entry)) 0 (stated used n) ⌝ }
@@ -50,6 +32,19 @@ fn put_stated(numbers: &mut [u64], used: u64, n: Slot)
     numbers[2] = n.last_seen;
     numbers[3] = n.timestamp;
     numbers[4] = n.gossip_timestamp;
+}
+
+// Writes the other six: start and length of address, direct key and gossip key.
+fn put_parts(numbers: &mut [u64], at: usize, n: Slot)
+    requires { ⌜ (shownCount ≤ length (now numbers)) × (at + slotLength < 2 ^ 64) ⌝ }
+    ensures { λ _. ⌜ now (numbers .exit) ≡ putAt (now (numbers .entry)) 5 (parts at n) ⌝ }
+{
+    numbers[5] = start_of(at, Slot::ADDRESS_AT, n.address_length);
+    numbers[6] = n.address_length as u64;
+    numbers[7] = start_of(at, Slot::DIRECT_AT, n.direct_length);
+    numbers[8] = n.direct_length as u64;
+    numbers[9] = start_of(at, Slot::GOSSIP_AT, n.gossip_length);
+    numbers[10] = n.gossip_length as u64;
 }
 
 // Writes all eleven.
@@ -71,7 +66,8 @@ fn is_used(table: &[u8], slot: usize) -> bool
     table::is_used(table, slot)
 }
 
-// Writes the numbers of a slot to the front of `numbers`. Where there is no entry they are those of an empty one, and zero.
+// Writes the numbers of a slot to the front of `numbers`. Where there is no entry they are those of one that is empty and not
+// used: zeros.
 pub fn tell(table: &[u8], slot: usize, numbers: &mut [u64])
     requires { ⌜ shownCount ≤ length (now numbers) ⌝ }
     ensures { λ _. ⌜ now (numbers .exit) ≡ onto (shownAt (now (table .entry)) slot) (now (numbers .entry)) ⌝ }

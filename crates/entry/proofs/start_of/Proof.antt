@@ -6,8 +6,11 @@ use Rattle.entry.proofs.Telling.{telling}
 returns : tie.Need-returns
 returns c = search telling
 
+add-result : tie.Need-add-result
+add-result c = search telling
+
 returns-2 : tie.Need-returns-2
 returns-2 c = search telling
 
 pub start-of-spec : {M : Type 1} → statement M
-start-of-spec = tie.close (tie.spec returns returns-2)
+start-of-spec = tie.close (tie.spec returns add-result returns-2)
