@@ -3,7 +3,7 @@
 --     autocrypt-fits, gossip-fits        the two fields
 --     autocrypt-roomy, gossip-roomy      so that a writer that is lent so much never answers that it is too short
 -- Assumes nothing.
-use Prim.Native.Nat.{ℕ, _+_, _<_, _≤_}
+use Prim.Native.Nat.{ℕ, _≤_}
 use mathlib.Core.Path.{_≡_, refl, ap}
 use mathlib.Core.Bool.{Bool, true, false}
 use mathlib.Core.List.{List}

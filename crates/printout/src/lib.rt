@@ -47,6 +47,7 @@ fn put_decimal(out: &mut [u8], at: usize, n: u64) -> usize
     o + 1
 }
 
+// Writes a number and `end` behind it.
 fn put_number(out: &mut [u8], at: usize, n: u64, end: u8) -> usize
     requires { ⌜ Room (now out) at (ended (decimal n) end) ⌝ }
     ensures { λ r. ⌜ Put (now (out .entry)) (now (out .exit)) at (ended (decimal n) end) r ⌝ }
@@ -56,6 +57,7 @@ fn put_number(out: &mut [u8], at: usize, n: u64, end: u8) -> usize
     o + 1
 }
 
+// Writes a time, or a hyphen where there is none, and a space behind it.
 fn put_time(out: &mut [u8], at: usize, is_there: bool, seconds: u64) -> usize
     requires { ⌜ Room (now out) at (ended (timeText (present «is_there» seconds)) 32) ⌝ }
     ensures { λ r. ⌜ Put (now (out .entry)) (now (out .exit)) at (ended (timeText (present «is_there» seconds)) 32) r ⌝ }
@@ -67,6 +69,7 @@ fn put_time(out: &mut [u8], at: usize, is_there: bool, seconds: u64) -> usize
     }
 }
 
+// Writes the preference and a space behind it.
 fn put_preference(out: &mut [u8], at: usize, mutual: bool) -> usize
     requires { ⌜ Room (now out) at (ended (preferenceText «mutual») 32) ⌝ }
     ensures { λ r. ⌜ Put (now (out .entry)) (now (out .exit)) at (ended (preferenceText «mutual») 32) r ⌝ }
@@ -78,6 +81,7 @@ fn put_preference(out: &mut [u8], at: usize, mutual: bool) -> usize
     }
 }
 
+// Writes what a line says of the direct half.
 fn put_direct(out: &mut [u8], at: usize, n: Slot) -> usize
     requires { ⌜ Room (now out) at (directPart n) ⌝ }
     ensures { λ r. ⌜ Put (now (out .entry)) (now (out .exit)) at (directPart n) r ⌝ }
@@ -87,6 +91,7 @@ fn put_direct(out: &mut [u8], at: usize, n: Slot) -> usize
     put_preference(&mut *out, measured, n.mutual)
 }
 
+// Writes what it says of the gossip half, which ends it.
 fn put_gossip(out: &mut [u8], at: usize, n: Slot) -> usize
     requires { ⌜ Room (now out) at (gossipPart n) ⌝ }
     ensures { λ r. ⌜ Put (now (out .entry)) (now (out .exit)) at (gossipPart n) r ⌝ }
