@@ -5,7 +5,7 @@ from paper import calls
 
 
 def first_difference(got: tuple, answer: tuple) -> str:
-    """What the library has for what it should have; of octets and lists, which may be long, from their first difference on."""
+    """What the library has for what it should have; of octets and lists a few behind the first difference."""
     for one, other in zip(got, answer):
         if one != other and isinstance(one, (bytes, list)):
             at = next((at for at, (x, y) in enumerate(zip(one, other)) if x != y), min(len(one), len(other)))
@@ -23,7 +23,7 @@ class Both:
 
     def _held(self, name: str, got: tuple, answer: tuple, call: tuple):
         if got != answer:
-            short = [word if not isinstance(word, bytes) or len(word) < 5_000 else f"{len(word)} octets" for word in call]
+            short = [f"{len(word)} octets" if isinstance(word, bytes) and len(word) > 5_000 else word for word in call]
             raise AssertionError(f"{name} of the library answers {first_difference(got, answer)}, called with {short}")
 
     def _same(self, name: str, *call):
@@ -43,7 +43,7 @@ class Both:
     def target_key(self, *call):
         return self._same("target_key", *call)
 
-    # Where the independent program is told how much room there is, the library is lent it: what it does not write must stay.
+    # Where the independent program is told how much room there is, the library is lent it, and must leave the rest.
 
     def entry_numbers(self, *call):
         table, slot, room = call
@@ -57,7 +57,8 @@ class Both:
         *words, room = call
         number, field = getattr(calls, name)(*call)
         out = (bytes(range(251)) * (room // 251 + 1))[:room]
-        self._held(name, getattr(self.library, name)(*words, out), (number, len(field), field + out[len(field) :]), call)
+        after = field + out[len(field) :]
+        self._held(name, getattr(self.library, name)(*words, out), (number, len(field), after), call)
         return number, field
 
     def write_autocrypt(self, *call):

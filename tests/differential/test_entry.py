@@ -31,7 +31,8 @@ class OneSlot(unittest.TestCase):
         self.assertEqual((direct, gossip), (entry.direct_key or b"", entry.gossip_key or b""))
         present = (entry.last_seen, entry.direct_key, entry.gossip_key, entry.mutual or None)
         self.assertEqual(bits, sum(1 << bit for bit, part in enumerate(present) if part is not None))
-        self.assertEqual((seen, sent, heard), (entry.last_seen or 0, entry.autocrypt_timestamp or 0, entry.gossip_timestamp or 0))
+        times = (entry.last_seen, entry.autocrypt_timestamp, entry.gossip_timestamp)
+        self.assertEqual((seen, sent, heard), tuple(time or 0 for time in times))
 
     def test_calls(self):
         """Generated calls: every refusal, slots that are used and free, and slots past the end."""
@@ -43,7 +44,7 @@ class OneSlot(unittest.TestCase):
         self.assertEqual(set(answers), {1, 2, 12, "used", "free", "past the end"})
 
     def test_every_slot_and_room(self):
-        """Each slot of sound tables, those past the end, and each count of lent numbers; each table broken and cut, too."""
+        """Each slot of sound tables and slots past the end, with each count of lent numbers; broken and cut tables."""
         for _ in range(60):
             held = self.cases.held()[:16]
             table = tables.table_of(held)
@@ -57,8 +58,10 @@ class OneSlot(unittest.TestCase):
 
     def test_longest_parts(self):
         """The first, a middle and the last slot of a table of 256, with parts as long as they may be and as short."""
-        long = tables.Entry(b"a" * 62 + b"@" + b".".join([b"b" * 63] * 3), tables.TIME_LIMIT, tables.TIME_LIMIT, b"k" * 2048, True, 0, b"g" * 2048)
-        short = tables.Entry(b"a@b", 0, 0, b"k", False, tables.TIME_LIMIT, b"g")
+        last = tables.TIME_LIMIT
+        address = b"a" * 62 + b"@" + b".".join([b"b" * 63] * 3)
+        long = tables.Entry(address, last, last, b"k" * 2048, True, 0, b"g" * 2048)
+        short = tables.Entry(b"a@b", 0, 0, b"k", False, last, b"g")
         for at in (0, 127, 255):
             for entry in (long, short):
                 held = [None] * at + [entry] + [None] * (255 - at)

@@ -18,7 +18,7 @@ LISTS = [to for many in range(4) for to in itertools.permutations((ALICE, BOB, C
 MAILS_CRLF = [(with_crlf(outer), with_crlf(payload)) for outer, payload in MAILS]
 MAILS_MIXED = [(outer, with_crlf(payload)) for outer, payload in MAILS]
 
-# Whom each of the mails brings where gossip is taken; her alone where it is skipped.
+# Whom each of the mails brings where gossip is taken; Alice alone where it is skipped.
 BROUGHT = [{ALICE}, {ALICE, BOB, CAROL}, {ALICE}]
 
 # What a table may hold before: nothing, others alone, Alice with dates older than, equal to and newer than those of her
@@ -29,7 +29,7 @@ HELD = [
     [Entry(ALICE, SETUP_DATE + 1)],
     [Entry(ALICE, TO_BOB_DATE, TO_BOB_DATE, b"another key", False, 9, b"told before")],
     [Entry(ALICE, TO_BOTH_DATE + 9, TO_BOTH_DATE + 1, b"a later key")],
-    [Entry(BOB, TO_BOB_DATE, SETUP_DATE, BOB_KEY, True), Entry(CAROL, 3_024_001, 0, b"older", True, TO_BOTH_DATE, b"c")],
+    [Entry(BOB, TO_BOB_DATE, SETUP_DATE, BOB_KEY, True), Entry(CAROL, 3_024_001, 0, b"old", True, TO_BOTH_DATE, b"c")],
     [Entry(CAROL, None, None, None, False, TO_BOTH_DATE + 1, b"told later"), Entry(ALICE, 0), Entry(BOB, 7)],
 ]
 
@@ -53,14 +53,14 @@ class Told(examples.Told, unittest.TestCase):
 
 
 class EveryWay(unittest.TestCase):
-    """The mails in all orders, on tables with enough room and with too little: answers and whole tables after each mail,
-    and all that may be asked of each table."""
+    """The mails in all orders, on tables with enough room and with too little: answers and whole tables after each of
+    them, and all that may be asked of each table."""
 
     def setUp(self):
         self.tables = set()
         self.numbers = set()
 
-    def fetch(self, table: bytes, mails: list[tuple[bytes, bytes]], setting: int, receipt: int = RECEIPT, left: tuple = (0, 1, 2)):
+    def fetch(self, table: bytes, mails: list, setting: int, receipt: int = RECEIPT, left: tuple = (0, 1, 2)):
         """The mails that are left, in every order; orders with the same beginning share it."""
         self.tables.add(table)
         held = entries(table)
@@ -87,7 +87,7 @@ class EveryWay(unittest.TestCase):
         for held, free in itertools.product(HELD, range(4)):
             # A table has one slot at least; in an empty one a fourth is left over.
             table = with_free(held, free if held else free + 1)
-            for mails, setting in itertools.product((MAILS, MAILS_CRLF), (UNSET, TAKE, SKIP)):
+            for mails, setting in itertools.product((MAILS, MAILS_CRLF), (UNSET, TAKE, SKIP, 255)):
                 self.fetch(table, mails, setting)
         self.assertEqual(self.numbers, {0, 8})
         for table in self.tables:

@@ -1,4 +1,4 @@
-"""Fetch order is immaterial: the runs of demand 3 through the shipped library, each call compared with the independent program."""
+"""Fetch order is immaterial: demand 3 run by the shipped library, each call compared with the independent program."""
 import unittest
 
 from both import Both

@@ -148,8 +148,8 @@ class Told(Examples):
     EITHER = (False, True)
 
     def test_bob_can_write_back_encrypted_6_2(self):
-        # Alice's plain mail is enough for Bob to encrypt his answer: by default where he prefers it as she does, else when
-        # he chooses to. The key for it has the key id that stands in her mail.
+        # Alice's plain mail is enough for Bob to encrypt his answer: by default where he prefers it as she does, else
+        # when he chooses to. The key for it has the key id that stands in her mail.
         held = self.table_after(bytes(SLOT), RECEIPT, TO_BOB, b"", UNSET)
         self.assertEqual(self.advised(held, [ALICE], True, False), ENCRYPT)
         self.assertEqual(self.advised(held, [ALICE], False, False), AVAILABLE)
@@ -157,8 +157,8 @@ class Told(Examples):
         self.assertEqual(first_packet_fingerprint(ALICE_KEY)[-8:].hex().upper(), "71DBC5657FDE65A7")
 
     def test_alice_tells_the_keys_that_she_has_6_3(self):
-        # She has mail with keys from Bob and from Carol. What she would encrypt to is what her gossip fields tell, and the
-        # program writes them as 000 prints them.
+        # She has mail with keys from Bob and from Carol. What she would encrypt to is what her gossip fields tell, and
+        # the program writes them as 000 prints them.
         held = bytes(2 * SLOT)
         for address, key in ((BOB, BOB_KEY), (CAROL, CAROL_KEY)):
             _, field = self.program.write_autocrypt(address, key, False, 4000)
@@ -187,7 +187,7 @@ class Told(Examples):
                 self.assertEqual(self.advised(held, [ALICE, other], mutual, False), DISCOURAGE)
 
     def test_without_gossip_the_reply_to_all_cannot_be_encrypted_6_4(self):
-        # The answer is plain, because it is not known yet how to encrypt to one of the others; one to Alice alone is not.
+        # The answer is plain, because it is not known yet how to encrypt to one of the others. To Alice it need not be.
         held = self.table_after(bytes(3 * SLOT), RECEIPT, TO_BOTH, PAYLOAD, SKIP)
         for mutual in self.EITHER:
             self.assertEqual(self.advised(held, [ALICE, CAROL], mutual, True), DISABLE)
