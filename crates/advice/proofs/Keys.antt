@@ -4,43 +4,29 @@
 --     place-octets, place-within      of a place in a list
 --     place-past                      an empty part past the list
 -- Assumes nothing.
-use Prim.Native.Nat.{ℕ, zero, suc, _+_, _*_, _-_, _<_, _≤_, zero-le}
+use Prim.Native.Nat.{ℕ, zero, suc, _<_, _≤_, zero-le}
 use mathlib.Core.Path.{_≡_, refl}
 use mathlib.Core.Bool.{true}
 use mathlib.Core.List.{List, [], _∷_}
 use native.Mathlib.Omega.{arith}
-use lib.ListN.{length, getD, take, drop}
-use lib.Seq.{take-take, drop-drop}
+use lib.ListN.{length, getD}
 use Rattle.address.specs.Address.{canonical}
 use Rattle.address.proofs.Every.{by-test}
 use Rattle.slots.specs.Slot.{hasDirect, hasGossip, numbersOf, directKeyOf, gossipKeyOf, sound}
 use Rattle.slots.specs.Entry.{entryOf}
-use Rattle.slots.proofs.Parts.{drop-take}
 use Rattle.slots.specs.Facts.{Sound}
 use Rattle.slots.proofs.Sounds.{sound-parts}
 use Rattle.table.specs.Table.{slots, slotAt, found, checked}
 use Rattle.table.specs.declared.Checked.the-variants.{Sound as Checked}
 use Rattle.table.specs.declared.Found.{Found}
 use Rattle.table.specs.declared.Found.the-variants.{At, Nothing}
-use Rattle.table.proofs.Slots.{room}
+use Rattle.table.proofs.Slots.{room, area-octets}
 use Rattle.table.proofs.Finding.{found-at}
 use Rattle.table.proofs.Entries.{entry-at, entry-nothing, entry-sound}
 use Rattle.advice.specs.Advice.{directOf, gossipOf, targetBy, targetOf, targetIn, targets}
 use Rattle.advice.specs.Places.{noPart, keyPart, targetPart, targetAt, octetsAt, Within}
 use Rattle.advice.proofs.Rating.{direct-there, direct-absent, gossip-there, gossip-absent}
 use Rattle.advice.proofs.Targets.{key-direct, key-gossip, key-none, target-nothing, target-there}
-
--- a part of the table that lies in one of a slot's two areas for keys
-area-octets : (t : List ℕ) (i at n : ℕ) → at + 2048 ≤ 4392 → n ≤ 2048
-    → take n (drop (i * 4392 + at) t) ≡ take n (take 2048 (drop at (slotAt t i)))
-unfolding slotAt
-area-octets t i at n l m =
-    rw (
-      take-take n 2048 (drop at (take 4392 (drop (i * 4392) t))) m,
-      drop-take at 4392 (drop (i * 4392) t),
-      take-take n (4392 - at) (drop at (drop (i * 4392) t)) (omega arith),
-      drop-drop at (i * 4392) t,
-    )
 
 module _ (t : List ℕ) (i : ℕ) (l : i < slots t) (e : sound (slotAt t i) ≡ true) where
   parts : Sound (slotAt t i)
@@ -52,12 +38,12 @@ module _ (t : List ℕ) (i : ℕ) (l : i < slots t) (e : sound (slotAt t i) ≡ 
       by-test (hasDirect (slotAt t i))
       (λ d.
       rw (← key-direct i (numbersOf (slotAt t i)) d, direct-there (slotAt t i) d)
-      (area-octets t i 296 (numbersOf (slotAt t i) .«direct_length») (omega arith) (parts .direct-length d .1)))
+      (area-octets t i 296 2048 (numbersOf (slotAt t i) .«direct_length») (omega arith) (parts .direct-length d .1)))
       (λ d.
       by-test (hasGossip (slotAt t i))
       (λ g.
       rw (← key-gossip i (numbersOf (slotAt t i)) d g, direct-absent (slotAt t i) d, gossip-there (slotAt t i) g)
-      (area-octets t i 2344 (numbersOf (slotAt t i) .«gossip_length») (omega arith) (parts .gossip-length g .1)))
+      (area-octets t i 2344 2048 (numbersOf (slotAt t i) .«gossip_length») (omega arith) (parts .gossip-length g .1)))
       (λ g. rw (← key-none i (numbersOf (slotAt t i)) d g, direct-absent (slotAt t i) d, gossip-absent (slotAt t i) g)))
 
   pub key-within : Within t (keyPart i (numbersOf (slotAt t i)))

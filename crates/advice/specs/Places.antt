@@ -11,7 +11,7 @@ use mathlib.Core.Bool.{true, false}
 use mathlib.Core.List.{List, [], _∷_}
 use lib.ListN.{length, take, drop}
 use Rattle.slots.specs.declared.Slot.{Slot}
-use Rattle.slots.specs.Slot.{slotLength, numbersOf}
+use Rattle.slots.specs.Slot.{slotLength, directAt, gossipAt, numbersOf}
 use Rattle.address.specs.Address.{canonical}
 use Rattle.table.specs.Table.{slotAt, found}
 use Rattle.table.specs.declared.Found.{Found}
@@ -50,9 +50,9 @@ noPart = record { start = 0; length = 0 }
 unfoldable pub keyPart : ℕ → Slot → Part
 keyPart i n =
     elim (n .direct) [
-      | true ↦ record { start = i * slotLength + 296; length = n .«direct_length» }
+      | true ↦ record { start = i * slotLength + directAt; length = n .«direct_length» }
       | false ↦ elim (n .gossip) [
-        | true ↦ record { start = i * slotLength + 2344; length = n .«gossip_length» }
+        | true ↦ record { start = i * slotLength + gossipAt; length = n .«gossip_length» }
         | false ↦ noPart
       ]
     ]

@@ -7,3 +7,5 @@ pub mod ExactlyRecommending
 pub mod SameEntries
 pub mod Processing
 pub mod ExactlyProcessing
+pub mod Showing
+pub mod ExactlyShowing

@@ -3,3 +3,4 @@ pub mod Writing
 pub mod Checking
 pub mod Processing
 pub mod Recommending
+pub mod Showing

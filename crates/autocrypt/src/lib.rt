@@ -19,6 +19,7 @@ ghost use Rattle.autocrypt.specs.Processing.{taken, payloadFields, withS
 ghost use Rattle.autocrypt.specs.Writing.{autocryptField, gossipField, writtenOf, leftByWriting};
 ghost use Rattle.list.specs.List.{addresses};
 ghost use Rattle.advice.specs.Places.{octetsAt};
+ghost use Rattle.autocrypt.specs.Showing.{shownOf, leftByShowing};
 ghost use Rattle.autocrypt.specs.Recommending.{recipientList, recommendedOf, targetPartOf, targetKeyOf};
 pub use advice::Advice;
 pub use advice::Part;
@@ -381,4 +382,28 @@ pub fn target_key<'a>(
     let start = part.start;
     let end = start + part.length;
     &table[start..end]
+}
+
+// The numbers of the entry open the lent ones now; or nothing was written.
+pub enum Shown {
+    Done,
+    Refused(Refusal),
+}
+
+// Tells one entry by its slot, in eleven numbers: used or not, the bits, last seen, both timestamps, and start and length of
+// address, direct key and gossip key in the table.
+pub fn entry(table: &[u8], slot: usize, numbers: &mut [u64]) -> Shown
+    ensures { λ r. ⌜ r ≡ shownOf (now (table .entry)) (length (now (numbers .entry))) ⌝ }
+    ensures { λ _. ⌜ now (numbers .exit) ≡ leftByShowing (now (table .entry)) slot (now (numbers .entry)) ⌝ }
+{
+    match check(table) {
+        Checked::Sound => {
+            if numbers.len() < entry::SHOWN {
+                return Shown::Refused(Refusal::OutputLength);
+            }
+            entry::tell(table, slot, numbers);
+            Shown::Done
+        }
+        Checked::Refused(refusal) => Shown::Refused(refusal),
+    }
 }

@@ -6,7 +6,8 @@
 --     of-taken, of-not-taken, of-message, left-by-message    the same for processing a message, with the setting as it came
 --     of-advice .. of-recommended    the same for recommending
 --     of-part, of-target     a part of the table
---     the rulesets           processing and advising, for the functions of these; answering, for all others
+--     of-told, of-not-told, of-shown    the same for an entry that is told
+--     the rulesets           processing, advising and showing, for the functions of these; answering, for all others
 -- Assumes nothing.
 use Prim.Native.Nat.{ℕ}
 use mathlib.Core.Path.{_≡_, refl, ap, _∙_}
@@ -26,9 +27,11 @@ use Rattle.advice.specs.declared.Advice.{Advice as Kind}
 use Rattle.advice.specs.declared.Part.{Part as Place}
 use Rattle.autocrypt.specs.declared.Recommended.{Recommended}
 use Rattle.autocrypt.specs.declared.Recommended.the-variants.{Done as Advised, Refused as RefusedAdvice}
+use Rattle.autocrypt.specs.declared.Shown.{Shown}
+use Rattle.autocrypt.specs.declared.Shown.the-variants.{Done as Told, Refused as RefusedEntry}
 use Rattle.autocrypt.specs.declared.Written.{Written as Answer}
 use Rattle.autocrypt.specs.declared.Written.the-variants.{Done, Refused}
-use Rattle.cabi.specs.Numbers.{inNumbers, checkedInNumbers, settingOf, processedInNumbers, adviceNumber, adviceInNumbers, partInNumbers}
+use Rattle.cabi.specs.Numbers.{inNumbers, checkedInNumbers, settingOf, processedInNumbers, adviceNumber, adviceInNumbers, partInNumbers, shownInNumbers}
 use Rattle.cabi.specs.declared.Answer.{Answer as Numbers}
 use Rattle.cabi.specs.declared.Advice.{Advice}
 use Rattle.cabi.specs.declared.Part.{Part}
@@ -121,3 +124,19 @@ pub of-target : (r : Part) (a b : Place) → r ≡ partInNumbers a → a ≡ b �
 of-target r a b p q = p ∙ ap partInNumbers q
 
 pub ruleset advising = (of-advice, of-refused-advice, of-recommended, of-part, of-target, needs)
+
+module _ (a : Shown) where
+  pub of-told : a ≡ Told → _≡_ {A = Numbers} (record { number = 0; index = 0 }) (shownInNumbers a)
+  unfolding shownInNumbers
+  of-told e = rw e
+
+  pub of-not-told :
+      (n i : ℕ) (r : Refusal) → a ≡ RefusedEntry r → n ≡ numberOf r → i ≡ indexOf r
+      → _≡_ {A = Numbers} (record { number = n; index = i }) (shownInNumbers a)
+  unfolding shownInNumbers
+  of-not-told n i r e p q = rw (e, p, q)
+
+pub of-shown : (r : Numbers) (a b : Shown) → r ≡ shownInNumbers a → a ≡ b → r ≡ shownInNumbers b
+of-shown r a b p q = p ∙ ap shownInNumbers q
+
+pub ruleset showing = (of-told, of-not-told, of-shown, needs)

@@ -3,6 +3,7 @@
 --     processedInNumbers, settingOf    the same of a message, and the gossip setting
 --     adviceNumber, adviceInNumbers    the advice, 0 where the call refuses
 --     partInNumbers    a part of the table
+--     shownInNumbers    the answer where an entry is told; what is told are numbers anyhow
 --     inNumbers    "Success answers 0, writing also the length of the field .. A refusal carries its number": it has no length, 0 stands for that
 use Prim.Native.Nat.{ℕ}
 use mathlib.Core.Bool.{true, false}
@@ -21,6 +22,8 @@ use Rattle.autocrypt.specs.declared.Gossip.{Gossip}
 use Rattle.autocrypt.specs.declared.Gossip.the-variants.{Take, Skip, Unset}
 use Rattle.autocrypt.specs.declared.Recommended.{Recommended}
 use Rattle.autocrypt.specs.declared.Recommended.the-variants.{Done as Advised, Refused as RefusedAdvice}
+use Rattle.autocrypt.specs.declared.Shown.{Shown}
+use Rattle.autocrypt.specs.declared.Shown.the-variants.{Done as Told, Refused as RefusedEntry}
 use Rattle.cabi.specs.declared.Answer.{Answer as Numbers}
 use Rattle.cabi.specs.declared.Advice.{Advice}
 use Rattle.cabi.specs.declared.Part.{Part}
@@ -56,3 +59,8 @@ adviceInNumbers (RefusedAdvice r) = record { number = numberOf r; index = indexO
 
 unfoldable pub partInNumbers : Place → Part
 partInNumbers p = record { start = p .start; length = p .length }
+
+-- the answer of vienghulac_entry
+unfoldable pub shownInNumbers : Shown → Numbers
+shownInNumbers Told = record { number = 0; index = 0 }
+shownInNumbers (RefusedEntry r) = record { number = numberOf r; index = indexOf r }

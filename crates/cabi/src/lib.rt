@@ -7,7 +7,8 @@ ghost use Rattle.autocrypt.specs.Checking.{checkedAs};
 ghost use Rattle.autocrypt.specs.Writing.{autocryptField, gossipField, writtenOf, leftByWriting};
 ghost use Rattle.autocrypt.specs.Processing.{processed};
 ghost use Rattle.autocrypt.specs.Recommending.{recommendedOf, targetPartOf};
-ghost use Rattle.cabi.specs.Numbers.{inNumbers, checkedInNumbers, settingOf, processedInNumbers, adviceNumber, adviceInNumbers, partInNumbers};
+ghost use Rattle.autocrypt.specs.Showing.{shownOf, leftByShowing};
+ghost use Rattle.cabi.specs.Numbers.{inNumbers, checkedInNumbers, settingOf, processedInNumbers, adviceNumber, adviceInNumbers, partInNumbers, shownInNumbers};
 use autocrypt::Gossip;
 
 // vienghulac_answer
@@ -201,4 +202,28 @@ pub extern "C" fn vienghulac_target_key(
 {
     let at = place as usize;
     part_in_numbers(autocrypt::target_part(table, recipients, mutual, reply, at))
+}
+
+fn shown_in_numbers(answer: autocrypt::Shown) -> Answer
+    ensures { λ r. ⌜ r ≡ shownInNumbers answer ⌝ }
+{
+    match answer {
+        autocrypt::Shown::Done => Answer {
+            number: 0,
+            index: 0,
+        },
+        autocrypt::Shown::Refused(r) => Answer {
+            number: autocrypt::number(r),
+            index: autocrypt::index(r),
+        },
+    }
+}
+
+#[no_mangle]
+pub extern "C" fn vienghulac_entry(table: &[u8], slot: u64, numbers: &mut [u64]) -> Answer
+    ensures { λ r. ⌜ r ≡ shownInNumbers (shownOf (now (table .entry)) (length (now (numbers .entry)))) ⌝ }
+    ensures { λ _. ⌜ now (numbers .exit) ≡ leftByShowing (now (table .entry)) slot (now (numbers .entry)) ⌝ }
+{
+    let at = slot as usize;
+    shown_in_numbers(autocrypt::entry(table, at, numbers))
 }

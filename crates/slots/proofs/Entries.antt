@@ -96,10 +96,10 @@ module _ (s : List ℕ) (l : length s ≡ slotLength) (p : Sound s) where
   pub address-fits : addressLength s ≤ addressRoom
   address-fits = omega (arith, address-long, canonical-most (addressOf s) (p .canonical))
 
-  direct-fits : directLength s ≤ keyLimit
+  pub direct-fits : directLength s ≤ keyLimit
   direct-fits = by-test (hasDirect s) (λ t. p .direct-length t .1) (λ f. omega (arith, p .no-direct f .1))
 
-  gossip-fits : gossipLength s ≤ keyLimit
+  pub gossip-fits : gossipLength s ≤ keyLimit
   gossip-fits = by-test (hasGossip s) (λ t. p .gossip-length t .1) (λ f. omega (arith, p .no-gossip f .1))
 
   pub direct-long : length (directKeyOf s) ≡ directLength s
@@ -121,11 +121,11 @@ module _ (s : List ℕ) (l : length s ≡ slotLength) (p : Sound s) where
   unfolding entryOf
   gossip-in f h = present-or f noGossip (record { timestamp = gossipTimestamp s; key = gossipKeyOf s }) (hasGossip s) h
 
-  direct-key : orElse noDirect (entryOf s .direct) .key ≡ directKeyOf s
+  pub direct-key : orElse noDirect (entryOf s .direct) .key ≡ directKeyOf s
   unfolding directKeyOf
   direct-key = direct-in (λ (d : Direct). d .key) (λ f. rw (p .no-direct f .1))
 
-  gossip-key : orElse noGossip (entryOf s .gossip) .key ≡ gossipKeyOf s
+  pub gossip-key : orElse noGossip (entryOf s .gossip) .key ≡ gossipKeyOf s
   unfolding gossipKeyOf
   gossip-key = gossip-in (λ (d : Gossip). d .key) (λ f. rw (p .no-gossip f .1))
 
@@ -175,6 +175,10 @@ module _ (s : List ℕ) (l : length s ≡ slotLength) (p : Sound s) where
       rw (address-area, direct-key, direct-area, gossip-key, gossip-area, ← follows 296 2048 2048 s, ← follows 40 256 4096 s)
       (take-all 4352 (drop 40 s) (simp length-drop (omega arith)))
 
+  pub all-bits : bitsOf (numbersOf s) ≡ bits s
+  unfolding bitsOf numbersOf
+  all-bits = bits-back (bits s) (p .low)
+
   module _ (o : AllOctets s) where
     -- octets 0 to 39
     bit-octet : digits 1 (bits s) ≡ part 4 4 s
@@ -190,10 +194,6 @@ module _ (s : List ℕ) (l : length s ≡ slotLength) (p : Sound s) where
     clear-too : digits 4 0 ≡ part 36 39 s
     unfolding digits
     clear-too = zero-part 36 4 s (omega arith) (p .zeros-too)
-
-    all-bits : bitsOf (numbersOf s) ≡ bits s
-    unfolding bitsOf numbersOf
-    all-bits = bits-back (bits s) (p .low)
 
     length-octets : digits 2 (numbersOf s .«address_length») ≡ part 2 3 s
     unfolding numbersOf

@@ -2,7 +2,7 @@
 --     numbers-read             the numbers of octets 2 to 39
 --     free-read .. sound-read  the tests
 --     filled-read, behind-read     an area up to a length, and behind it
---     address-read .. gossip-read  the parts of the areas
+--     address-read             the address
 -- Assumes nothing.
 use Prim.Native.Nat.{ℕ, _+_, _-_, _≤_, min, max}
 use mathlib.Core.Path.{_≡_, ap, _∙_}
@@ -16,7 +16,7 @@ use lib.Seq.{drop-drop}
 use Rattle.octets.specs.Octets.{allZero, sameOctets}
 use Rattle.address.specs.Address.{isCanonical}
 use Rattle.slots.specs.declared.Slot.{Slot}
-use Rattle.slots.specs.Slot.{slotLength, part, addressLength, hasLastSeen, hasDirect, hasGossip, isMutual, lastSeen, timestamp, gossipTimestamp, directLength, gossipLength, addressArea, directArea, gossipArea, addressOf, directKeyOf, gossipKeyOf, numbersOf, free, marked, canonicalAddress, clear, inRange, lengthsInRange, absentZero, zeroPast, mutualDirect, directSeen, sound}
+use Rattle.slots.specs.Slot.{slotLength, part, addressLength, hasLastSeen, hasDirect, hasGossip, isMutual, lastSeen, timestamp, gossipTimestamp, directLength, gossipLength, addressArea, directArea, gossipArea, addressOf, numbersOf, free, marked, canonicalAddress, clear, inRange, lengthsInRange, absentZero, zeroPast, mutualDirect, directSeen, sound}
 use Rattle.slots.specs.Entry.{bitsOf, numbersSeen}
 use Rattle.slots.proofs.Parts.{take-min, drop-min}
 
@@ -75,14 +75,6 @@ module _ (s : List ℕ) where
   unfolding addressOf
   address-read n r en er = er ∙ rw en
 
-  pub direct-read : (n : ℕ) (r : List ℕ) → n ≡ directLength s → r ≡ take n (directArea s) → r ≡ directKeyOf s
-  unfolding directKeyOf
-  direct-read n r en er = er ∙ rw en
-
-  pub gossip-read : (n : ℕ) (r : List ℕ) → n ≡ gossipLength s → r ≡ take n (gossipArea s) → r ≡ gossipKeyOf s
-  unfolding gossipKeyOf
-  gossip-read n r en er = er ∙ rw en
-
 pub marked-read : (s : List ℕ) → length s ≡ slotLength → (eqb (getD s 0 0) 65 && eqb (getD s 1 0) 49) ≡ marked s
 unfolding marked sameOctets
 marked-read [] e = absurd (omega arith)
@@ -123,4 +115,4 @@ pub bits-read : (n : Slot) (a b c d : ℕ)
 unfolding bitsOf
 bits-read n a b c d ea eb ec ed = rw (ea .0, eb .0, ec .0, ed .0)
 
-pub ruleset reading = (numbers-read, free-read, clear-read, canonical-read, past-read, sound-read, address-read, direct-read, gossip-read, marked-read, filled-read, behind-read, seen-read, bits-read, needs)
+pub ruleset reading = (numbers-read, free-read, clear-read, canonical-read, past-read, sound-read, address-read, marked-read, filled-read, behind-read, seen-read, bits-read, needs)

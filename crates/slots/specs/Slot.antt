@@ -81,6 +81,16 @@ directLength s = number (part 32 33 s)
 abbrev pub gossipLength : List ℕ → ℕ
 gossipLength s = number (part 34 35 s)
 
+-- where the three parts of an entry that vary in length begin
+abbrev pub addressAt : ℕ
+addressAt = 40
+
+abbrev pub directAt : ℕ
+directAt = 296
+
+abbrev pub gossipAt : ℕ
+gossipAt = 2344
+
 -- "40-295 address"
 abbrev pub addressArea : List ℕ → List ℕ
 addressArea s = part 40 295 s

@@ -6,7 +6,7 @@ ghost use mathlib.Core.Bool.{true, cond};
 ghost use lib.ListN.{length, take, drop};
 ghost use Rattle.octets.specs.Octets.{allZero};
 ghost use Rattle.octets.specs.Written.{putAt};
-ghost use Rattle.slots.specs.Slot.{slotLength, keyLimit, addressRoom, numbersOf, emptyNumbers, free, marked, canonicalAddress, clear, inRange, lengthsInRange, absentZero, zeroPast, mutualDirect, directSeen, sound, addressOf, directKeyOf, gossipKeyOf};
+ghost use Rattle.slots.specs.Slot.{slotLength, keyLimit, addressRoom, numbersOf, emptyNumbers, free, marked, canonicalAddress, clear, inRange, lengthsInRange, absentZero, zeroPast, mutualDirect, directSeen, sound, addressOf};
 ghost use Rattle.slots.specs.Entry.{numbersSeen, numbersDirect, numbersGossip, bitsOf, opening, times, lengths, head, padded, entryOf, slotOf, newcomer, seenBy, withDirect, withGossip};
 
 // What octets 2 to 39 of a slot say: the lengths, the four bits and the times of its entry.
@@ -161,7 +161,7 @@ impl Slot {
     }
 
     // "bit 0 last seen, bit 1 direct key, bit 2 gossip key, bit 3 mutual"
-    fn bits(self) -> u64
+    pub fn bits(self) -> u64
         ensures { λ r. ⌜ r ≡ bitsOf self ⌝ }
     {
         weight(self.seen, 1)
@@ -391,24 +391,6 @@ pub fn address_of(slot: &[u8]) -> &[u8]
 {
     let n = octets::number_at(slot, Slot::ADDRESS_LENGTH_AT, Slot::LENGTH_WIDTH) as usize;
     filled(slot, Slot::ADDRESS_AT, Slot::ADDRESS_ROOM, n)
-}
-
-// The direct key, an empty part where there is none.
-pub fn direct_key_of(slot: &[u8]) -> &[u8]
-    requires { ⌜ length (now slot) ≡ slotLength ⌝ }
-    ensures { λ r. ⌜ now r ≡ directKeyOf (now (slot .entry)) ⌝ }
-{
-    let n = octets::number_at(slot, Slot::DIRECT_LENGTH_AT, Slot::LENGTH_WIDTH) as usize;
-    filled(slot, Slot::DIRECT_AT, Slot::KEY_LIMIT, n)
-}
-
-// The gossip key, an empty part where there is none.
-pub fn gossip_key_of(slot: &[u8]) -> &[u8]
-    requires { ⌜ length (now slot) ≡ slotLength ⌝ }
-    ensures { λ r. ⌜ now r ≡ gossipKeyOf (now (slot .entry)) ⌝ }
-{
-    let n = octets::number_at(slot, Slot::GOSSIP_LENGTH_AT, Slot::LENGTH_WIDTH) as usize;
-    filled(slot, Slot::GOSSIP_AT, Slot::KEY_LIMIT, n)
 }
 
 // Writes a text into an area of the slot, and zeros past it.

@@ -3,6 +3,7 @@
 --     slot-long                   a slot has 4,392 octets
 --     slot-octets                 they are octets
 --     part-is                     a part that starts at i times 4,392 is slot i
+--     area-octets                 the octets of an area of slot i, cut out of the table
 --     put-slot                    a slot that was lent on, back in its place
 --     slots-kept, length-kept     a slot that is replaced leaves the table's length
 --     slot-same, slot-other       the slot that was replaced, and any other
@@ -19,14 +20,14 @@ use mir.Syntax.{w64}
 use mir.Val.{Fits}
 use lib.Dec.{eqb}
 use lib.ListN.{length, take, drop, length-take, length-drop}
-use lib.Seq.{take-at, drop-at, length-take-le}
+use lib.Seq.{take-at, drop-at, take-take, drop-drop, length-take-le}
 use Rattle.octets.specs.Octets.{AllOctets}
 use Rattle.octets.specs.Written.{putAt}
 use Rattle.octets.proofs.Lists.{take-octets, drop-octets, lt-or-le}
 use Rattle.slots.specs.declared.Slot.{Slot}
-use Rattle.slots.specs.Slot.{slotLength, addressRoom, keyLimit, numbersOf, marked, addressOf, directKeyOf, gossipKeyOf, sound}
+use Rattle.slots.specs.Slot.{slotLength, addressRoom, keyLimit, numbersOf, marked, addressOf, sound}
 use Rattle.slots.specs.Entry.{entryOf, slotOf, newcomer, seenBy, withDirect, withGossip}
-use Rattle.slots.proofs.Parts.{part-back, part-before, part-behind, put-length}
+use Rattle.slots.proofs.Parts.{drop-take, part-back, part-before, part-behind, put-length}
 use Rattle.table.specs.Table.{slots, slotAt, withSlot, unused}
 
 module _ (t : List ℕ) (i : ℕ) (h : i < slots t) where
@@ -63,6 +64,18 @@ module _ (t : List ℕ) (i : ℕ) (h : i < slots t) where
   put-slot w l =
       let e : i * 4392 + 4392 - i * 4392 ≡ 4392 = omega arith in
       rw e (part-back t w (i * 4392) 4392 (l ∙ part-long))
+
+-- the first n octets of an area of the slot
+pub area-octets : (t : List ℕ) (i at long n : ℕ) → at + long ≤ 4392 → n ≤ long
+    → take n (drop (i * 4392 + at) t) ≡ take n (take long (drop at (slotAt t i)))
+unfolding slotAt
+area-octets t i at long n l m =
+    rw (
+      take-take n long (drop at (take 4392 (drop (i * 4392) t))) m,
+      drop-take at 4392 (drop (i * 4392) t),
+      take-take n (4392 - at) (drop at (drop (i * 4392) t)) (omega arith),
+      drop-drop at (i * 4392) t,
+    )
 
 pub slot-octets : (t : List ℕ) (i : ℕ) → AllOctets t → AllOctets (slotAt t i)
 unfolding slotAt
@@ -112,12 +125,6 @@ module _ (t s : List ℕ) (i : ℕ) (e : (s ≡ slotAt t i) × (length s ≡ slo
   pub address-at : (a : List ℕ) → a ≡ addressOf s → a ≡ addressOf (slotAt t i)
   address-at a p = p ∙ rw (e .0)
 
-  pub direct-at : (a : List ℕ) → a ≡ directKeyOf s → a ≡ directKeyOf (slotAt t i)
-  direct-at a p = p ∙ rw (e .0)
-
-  pub gossip-at : (a : List ℕ) → a ≡ gossipKeyOf s → a ≡ gossipKeyOf (slotAt t i)
-  gossip-at a p = p ∙ rw (e .0)
-
 pub count-is : (t : List ℕ) → length t / 4392 ≡ slots t
 unfolding slots
 count-is t = refl
@@ -125,7 +132,7 @@ count-is t = refl
 pub could-is : (s a : List ℕ) (n : ℕ) (b : Bool) → b ≡ marked s → a ≡ addressOf s → (b && eqb (length a) n) ≡ (marked s && eqb (length (addressOf s)) n)
 could-is s a n b p q = rw (p, q)
 
-pub ruleset reaching = (room, place-fits, end-fits, part-is, part-long, used-at, unused-at, numbers-at, address-at, direct-at, gossip-at, count-is, could-is, needs)
+pub ruleset reaching = (room, place-fits, end-fits, part-is, part-long, used-at, unused-at, numbers-at, address-at, count-is, could-is, needs)
 
 -- lending one slot on: w is what the writer left there
 module _ (t w : List ℕ) (i : ℕ) (k : length w ≡ length (take (i * 4392 + 4392 - i * 4392) (drop (i * 4392) t))) where

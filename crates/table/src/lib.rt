@@ -5,7 +5,7 @@ ghost use mathlib.Core.Path.{_≡_};
 ghost use mathlib.Core.Bool.{true, _&&_};
 ghost use lib.Dec.{eqb};
 ghost use lib.ListN.{length, getD};
-ghost use Rattle.slots.specs.Slot.{slotLength, addressRoom, keyLimit, numbersOf, marked, addressOf, directKeyOf, gossipKeyOf, sound};
+ghost use Rattle.slots.specs.Slot.{slotLength, addressRoom, keyLimit, numbersOf, marked, addressOf, sound};
 ghost use Rattle.slots.specs.Entry.{entryOf, slotOf, newcomer, seenBy, withDirect, withGossip};
 ghost use Rattle.table.specs.Table.{mostSlots, slots as slotsOf, slotAt, withSlot, unused, holds, lowest, found, lowestFree, freeCount, inLower, right, whole, checked};
 ghost use Rattle.table.specs.Digests.{withOctet, digestOf, among, Digests};
@@ -251,22 +251,6 @@ pub fn address(table: &[u8], i: usize) -> &[u8]
     ensures { λ r. ⌜ now r ≡ addressOf (slotAt (now (table .entry)) i) ⌝ }
 {
     slots::address_of(slot_at(table, i))
-}
-
-// The direct key of an entry, an empty part where there is none.
-pub fn direct_key(table: &[u8], i: usize) -> &[u8]
-    requires { ⌜ i < slotsOf (now table) ⌝ }
-    ensures { λ r. ⌜ now r ≡ directKeyOf (slotAt (now (table .entry)) i) ⌝ }
-{
-    slots::direct_key_of(slot_at(table, i))
-}
-
-// The gossip key of an entry, an empty part where there is none.
-pub fn gossip_key(table: &[u8], i: usize) -> &[u8]
-    requires { ⌜ i < slotsOf (now table) ⌝ }
-    ensures { λ r. ⌜ now r ≡ gossipKeyOf (slotAt (now (table .entry)) i) ⌝ }
-{
-    slots::gossip_key_of(slot_at(table, i))
 }
 
 // Begins the entry of an address in a slot.

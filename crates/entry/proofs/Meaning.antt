@@ -1,0 +1,100 @@
+-- What the eleven numbers say: the entry of a used slot, and nothing of any other.
+--     tells              the numbers of a used slot of a sound table tell its entry
+--     bits-there         the second number is octet 4 of the slot
+--     free-zero, past-zero    a free slot and a slot past the end give zeros
+-- Assumes nothing.
+use Prim.Native.Nat.{ℕ, _+_, _*_, _<_, _≤_}
+use mathlib.Core.Path.{_≡_, refl, sym, ap, _∙_}
+use mathlib.Core.Bool.{true, false, _&&_, false≢true, and-false}
+use mathlib.Core.List.{List, []}
+use native.Mathlib.Omega.{arith}
+use borrow.Author.Tests.{lt-ltb, eqb-true, eqb-false}
+use lib.Dec.{eqb, ltb}
+use lib.ListN.{length, getD, take, drop, replicate}
+use Rattle.address.proofs.Every.{by-test}
+use Rattle.slots.specs.declared.Slot.{Slot}
+use Rattle.slots.specs.Slot.{slotLength, bits, directLength, gossipLength, addressOf, directKeyOf, gossipKeyOf, numbersOf, marked, free}
+use Rattle.slots.specs.Entry.{Entry, entryOf, numbersFor, bitsOf, orElse, noDirect, noGossip}
+use Rattle.slots.specs.Facts.{Sound}
+use Rattle.slots.proofs.Sounds.{sound-parts, marked-not-free}
+use Rattle.slots.proofs.Entries.{numbers-back, address-fits, direct-fits, gossip-fits, direct-key, gossip-key, all-bits}
+use Rattle.table.specs.Table.{slots, slotAt, checked}
+use Rattle.table.specs.declared.Checked.the-variants.{Sound as Checked}
+use Rattle.table.proofs.Slots.{slot-long, area-octets}
+use Rattle.table.proofs.Keeping.{table-sound, used-sound}
+use Rattle.entry.specs.Shown.{shownCount, startOf, placed, stated, parts, told, usedAt, shownAt, Lies, Tells}
+use Rattle.entry.proofs.Telling.{start-empty, start-there, past-unused, within-used}
+
+module _ (t : List ℕ) (i : ℕ) where
+  zero-shown : false ≡ usedAt t i → shownAt t i ≡ replicate shownCount 0
+  unfolding shownAt
+  zero-shown e = rw (shownAt, sym e)
+
+  pub past-zero : slots t ≤ i → shownAt t i ≡ replicate shownCount 0
+  past-zero l = zero-shown (past-unused t i (slots t) refl l)
+
+  pub free-zero : free (slotAt t i) ≡ true → shownAt t i ≡ replicate shownCount 0
+  unfolding usedAt
+  free-zero f =
+      by-test (marked (slotAt t i))
+      (λ m. absurd (false≢true (sym (marked-not-free (slotAt t i) m) ∙ f)))
+      (λ m. zero-shown (sym (rw m (and-false (ltb i (slots t))))))
+
+-- start and length, as they are told, of octets that stand in the table
+lies : (t w x : List ℕ) (k start n : ℕ) → getD w k 0 ≡ startOf start n → getD w (k + 1) 0 ≡ n → n ≡ length x → take n (drop start t) ≡ x → Lies t w k x
+lies t w x k start n a b l e =
+    record {
+      long = b ∙ l;
+      there =
+          rw (a, b)
+          (by-test (eqb n 0)
+          (λ q. let z : n ≡ 0 = eqb-true n 0 q in rw z (rw z at e))
+          (λ q. rw (← start-there start n (eqb-false n 0 q)) e));
+      nowhere = λ q. a ∙ sym (start-empty start n (l ∙ ap length q));
+    }
+
+module _ (t : List ℕ) (c : checked t ≡ Checked) (i : ℕ) (l : i < slots t) (m : marked (slotAt t i) ≡ true) where
+  abbrev s : List ℕ
+  s = slotAt t i
+
+  long : length s ≡ slotLength
+  long = slot-long t i l
+
+  sound-slot : Sound s
+  sound-slot = sound-parts s (used-sound t (table-sound t c) i l m .0)
+
+  -- the numbers of the slot are those of its entry
+  same : numbersOf s ≡ numbersFor (entryOf s)
+  same = sym (numbers-back s long sound-slot)
+
+  shown-there : told 1 (i * 4392) (numbersOf s) ≡ shownAt t i
+  unfolding shownAt
+  shown-there = let u : usedAt t i ≡ true = sym (sym m ∙ within-used t i (slots t) refl l (marked s) refl) in rw (shownAt, u)
+
+  told-tells : Tells t (entryOf s) (told 1 (i * 4392) (numbersOf s))
+  unfolding told stated parts placed numbersOf numbersFor entryOf addressOf directKeyOf gossipKeyOf
+  told-tells =
+      record {
+        count = refl;
+        used = refl;
+        bits = ap bitsOf same;
+        last-seen = ap (λ (n : Slot). n .«last_seen») same;
+        timestamp = ap (λ (n : Slot). n .timestamp) same;
+        gossip-timestamp = ap (λ (n : Slot). n .«gossip_timestamp») same;
+        address =
+            lies t _ (entryOf s .address) 5 (i * 4392 + 40) (numbersOf s .«address_length») refl refl (ap (λ (n : Slot). n .«address_length») same)
+            (area-octets t i 40 256 (numbersOf s .«address_length») (omega arith) (address-fits s long sound-slot));
+        direct-key =
+            lies t _ (orElse noDirect (entryOf s .direct) .key) 7 (i * 4392 + 296) (directLength s) refl refl (ap (λ (n : Slot). n .«direct_length») same)
+            (area-octets t i 296 2048 (directLength s) (omega arith) (direct-fits s long sound-slot) ∙ sym (direct-key s long sound-slot));
+        gossip-key =
+            lies t _ (orElse noGossip (entryOf s .gossip) .key) 9 (i * 4392 + 2344) (gossipLength s) refl refl (ap (λ (n : Slot). n .«gossip_length») same)
+            (area-octets t i 2344 2048 (gossipLength s) (omega arith) (gossip-fits s long sound-slot) ∙ sym (gossip-key s long sound-slot));
+      }
+
+  pub tells : Tells t (entryOf s) (shownAt t i)
+  tells = rw (← shown-there) told-tells
+
+  pub bits-there : getD (shownAt t i) 1 0 ≡ bits s
+  unfolding told stated
+  bits-there = rw (← shown-there) (all-bits s long sound-slot)

@@ -1,0 +1,121 @@
+-- The numbers of a slot written one after the other.
+--     start-empty, start-there        where a part is said to start
+--     part-put, parts-put, stated-put, told-put    what each writer leaves
+--     past-unused, within-used        whether there is a used slot at an index
+--     used-below, used-mark           what it says of the slot where there is one
+--     shown-none, shown-used          each way through `tell`
+--     the ruleset                     telling, for all functions
+-- Assumes nothing.
+use Prim.Native.Nat.{ℕ, _+_, _*_, _^_, _<_, _≤_}
+use mathlib.Core.Path.{_≡_, refl, sym, ap, _∙_}
+use mathlib.Core.Bool.{Bool, true, false, not, _&&_}
+use mathlib.Core.List.{List, [], _∷_, _++_}
+use native.Mathlib.Omega.{arith}
+use borrow.Author.Needs.{needs}
+use borrow.Author.Tests.{eq-eqb, ne-eqb, lt-ltb, le-ltb, ltb-true, not-true, not-false}
+use lib.Dec.{ltb}
+use lib.ListN.{length, set, drop}
+use mir.Syntax.{w64}
+use mir.Val.{Fits}
+use Rattle.octets.specs.Written.{putAt, onto}
+use Rattle.octets.proofs.Writing.{Wrote, begin-at, put, done-at}
+use Rattle.address.proofs.Every.{and-left, and-right}
+use Rattle.slots.specs.declared.Slot.{Slot}
+use Rattle.slots.specs.Slot.{slotLength, addressAt, directAt, gossipAt, emptyNumbers, numbersOf, marked}
+use Rattle.slots.specs.Entry.{bitsOf}
+use Rattle.slots.proofs.Parts.{put-first, put-more, put-three}
+use Rattle.table.specs.Table.{slots, slotAt}
+use Rattle.table.proofs.Slots.{room}
+use Rattle.entry.specs.Shown.{shownCount, startOf, placed, stated, parts, told, usedAt, shownAt}
+
+module _ (start n : ℕ) where
+  pub start-empty : n ≡ 0 → 0 ≡ startOf start n
+  unfolding startOf
+  start-empty e = rw (eq-eqb n 0 e)
+
+  pub start-there : (n ≡ 0 → ⊥) → start ≡ startOf start n
+  unfolding startOf
+  start-there d = rw (ne-eqb n 0 d)
+
+  placed-two : length (placed start n) ≡ 2
+  unfolding placed
+  placed-two = refl
+
+  pub part-put : (d : List ℕ) (k x : ℕ) → k + 2 ≤ length d → x ≡ startOf start n → set (set d k x) (k + 1) n ≡ putAt d k (placed start n)
+  unfolding placed
+  part-put d k x h e =
+      done-at (startOf start n ∷ n ∷ []) d (set (set d k x) (k + 1) n) k (k + 1 + 1) h
+      (rw e
+      (put _ d (set d k (startOf start n)) (k + 1) n []
+      (put _ d d k (startOf start n) (n ∷ []) (begin-at (startOf start n ∷ n ∷ []) d k h))))
+
+module _ (d : List ℕ) (n : Slot) where
+  pub parts-put : (at : ℕ) (h : (shownCount ≤ length d) × (at + slotLength < 2 ^ 64)) (o₁ o₂ o₃ : List ℕ)
+      → o₁ ≡ putAt d 5 (placed (at + 40) (n .«address_length»))
+      → o₂ ≡ putAt o₁ 7 (placed (at + 296) (n .«direct_length»))
+      → o₃ ≡ putAt o₂ 9 (placed (at + 2344) (n .«gossip_length»))
+      → o₃ ≡ putAt d 5 (parts at n)
+  unfolding parts
+  parts-put at h o₁ o₂ o₃ e₁ e₂ e₃ =
+      let a : List ℕ = placed (at + 40) (n .«address_length») in
+      let b : List ℕ = placed (at + 296) (n .«direct_length») in
+      e₃
+      ∙ rw (e₂, e₁)
+      (put-three d a b (placed (at + 2344) (n .«gossip_length»)) 5 2 2 (placed-two (at + 40) (n .«address_length»))
+      (placed-two (at + 296) (n .«direct_length»))
+      (omega (arith, h .0)))
+
+  stated-five : (used : ℕ) → length (stated used n) ≡ 5
+  unfolding stated
+  stated-five used = refl
+
+  pub told-put : (used at : ℕ) (h : (shownCount ≤ length d) × (at + slotLength < 2 ^ 64)) (o₁ o₂ : List ℕ)
+      → o₁ ≡ putAt d 0 (stated used n) → o₂ ≡ putAt o₁ 5 (parts at n) → o₂ ≡ onto (told used at n) d
+  unfolding told onto
+  told-put used at h o₁ o₂ e₁ e₂ =
+      e₂ ∙ rw e₁ (put-more d (stated used n) (parts at n) 0 5 (stated-five used) (omega (arith, h .0)) ∙ put-first d (stated used n ++ parts at n))
+
+pub stated-put : (d : List ℕ) (n : Slot) (used b : ℕ) → shownCount ≤ length d → b ≡ bitsOf n
+    → set (set (set (set (set d 0 used) 1 b) 2 (n .«last_seen»)) 3 (n .timestamp)) 4 (n .«gossip_timestamp») ≡ putAt d 0 (stated used n)
+unfolding stated
+stated-put d n used b h e =
+    rw (← e)
+    (done-at (used ∷ b ∷ n .«last_seen» ∷ n .timestamp ∷ n .«gossip_timestamp» ∷ []) d _ 0 5 (omega arith)
+    (put _ d _ 4 (n .«gossip_timestamp») []
+    (put _ d _ 3 (n .timestamp) _
+    (put _ d _ 2 (n .«last_seen») _
+    (put _ d _ 1 b _ (put _ d d 0 used _ (begin-at (used ∷ b ∷ n .«last_seen» ∷ n .timestamp ∷ n .«gossip_timestamp» ∷ []) d 0 (omega arith))))))))
+
+module _ (t : List ℕ) (i : ℕ) where
+  module _ (n : ℕ) (c : n ≡ slots t) where
+    pub past-unused : n ≤ i → false ≡ usedAt t i
+    unfolding usedAt
+    past-unused l = rw (le-ltb i (slots t) (omega arith))
+
+    pub within-used : i < n → (b : Bool) → b ≡ marked (slotAt t i) → b ≡ usedAt t i
+    unfolding usedAt
+    within-used l b e = rw (lt-ltb i (slots t) (omega arith)) e
+
+  module _ (b : Bool) (e : b ≡ usedAt t i) where
+    module _ (q : not b ≡ true) where
+      pub shown-none : (n : Slot) (d out : List ℕ) → n ≡ emptyNumbers 0 → out ≡ onto (told 0 0 n) d → out ≡ onto (shownAt t i) d
+      unfolding shownAt told stated parts placed startOf bitsOf
+      shown-none n d out p h = h ∙ rw (p, shownAt, sym e ∙ not-true b q)
+
+    module _ (q : not b ≡ false) where
+      pub used-below : i < slots t
+      unfolding usedAt
+      used-below = ltb-true i (slots t) (and-left (ltb i (slots t)) (marked (slotAt t i)) (sym e ∙ not-false b q))
+
+      pub used-end : length t < 2 ^ 64 → i * 4392 + slotLength < 2 ^ 64
+      used-end l = omega (arith, room t i used-below)
+
+      pub used-fits : length t < 2 ^ 64 → Fits w64 (i * 4392)
+      used-fits l = record { fits = omega (arith, used-end l) }
+
+      pub shown-used : (n : Slot) (d out : List ℕ) → n ≡ numbersOf (slotAt t i) → out ≡ onto (told 1 (i * 4392) n) d → out ≡ onto (shownAt t i) d
+      unfolding shownAt
+      shown-used n d out p h = h ∙ rw (p, shownAt, sym e ∙ not-false b q)
+
+pub ruleset telling =
+    (start-empty, start-there, part-put, parts-put, stated-put, told-put, past-unused, within-used, shown-none, used-below, used-end, used-fits, shown-used, needs)
