@@ -15,8 +15,8 @@ use lib.ListN.{length}
 use Rattle.octets.specs.Written.{onto}
 use Rattle.octets.proofs.Lists.{lt-or-le}
 use Rattle.table.specs.Table.{whole, checked}
-use Rattle.table.proofs.Judging.{checked-length}
 use Rattle.table.specs.Slotwise.{SoundTable, Broken}
+use Rattle.table.proofs.Judging.{checked-length}
 use Rattle.table.proofs.Keeping.{table-sound, sound-table}
 use Rattle.table.proofs.Broken.{by-check, checked-broken, broken-checked, checked-out}
 use Rattle.entry.specs.Shown.{shownCount, shownAt}

@@ -18,6 +18,7 @@ use Rattle.autocrypt.proofs.number as number
 use Rattle.autocrypt.proofs.index as index
 use Rattle.autocrypt.proofs.check as check
 use Rattle.autocrypt.proofs.process as process
+use Rattle.autocrypt.proofs.entry as entry
 use Rattle.autocrypt.proofs.recommend as recommend
 use Rattle.autocrypt.proofs.target_part as target-part
 use Rattle.autocrypt.proofs.target_key as target-key
@@ -25,12 +26,13 @@ use Rattle.autocrypt.proofs.write_autocrypt as write-autocrypt
 use Rattle.autocrypt.proofs.write_gossip as write-gossip
 use Rattle.cabi.proofs.vienghulac_check as vienghulac-check
 use Rattle.cabi.proofs.vienghulac_process as vienghulac-process
+use Rattle.cabi.proofs.vienghulac_entry as vienghulac-entry
 use Rattle.cabi.proofs.vienghulac_recommend as vienghulac-recommend
 use Rattle.cabi.proofs.vienghulac_target_key as vienghulac-target-key
 use Rattle.cabi.proofs.vienghulac_write_autocrypt as vienghulac-write-autocrypt
 use Rattle.cabi.proofs.vienghulac_write_gossip as vienghulac-write-gossip
-use Rattle.promises.specs.Outcomes.{Number, Index, Check, Process, Recommend, TargetPart, TargetKey, WriteAutocrypt, WriteGossip}
-use Rattle.promises.specs.OutcomesInC.{VienghulacCheck, VienghulacProcess, VienghulacRecommend, VienghulacTargetKey, VienghulacWriteAutocrypt, VienghulacWriteGossip}
+use Rattle.promises.specs.Outcomes.{Number, Index, Check, Process, Entry, Recommend, TargetPart, TargetKey, WriteAutocrypt, WriteGossip}
+use Rattle.promises.specs.OutcomesInC.{VienghulacCheck, VienghulacProcess, VienghulacEntry, VienghulacRecommend, VienghulacTargetKey, VienghulacWriteAutocrypt, VienghulacWriteGossip}
 use Rattle.promises.specs.Contracts.{ensuring}
 
 -- in every model of the toolchain's logic
@@ -48,6 +50,10 @@ module _ {M : Type 1} (𝓤 : URA M) (H : Heap 𝓤) (A : Atoms 𝓤) (mem : Mem
       ≡ ensuring 𝓤 H A process.ended
       (λ κs a r e. Process (now (a .0)) (a .1 .0) (now (a .1 .1 .0)) (now (a .1 .1 .1 .0)) (a .1 .1 .1 .1 .0) r (now (e .0)))
   process-contract = refl
+
+  pub entry-contract : entry.spec 𝓤 H A mem run
+      ≡ ensuring 𝓤 H A entry.ended (λ κs a r e. Entry (now (a .0)) (a .1 .0) (now (a .1 .1 .0)) r (now (e .1 .1 .0)))
+  entry-contract = refl
 
   pub recommend-contract : recommend.spec 𝓤 H A mem run
       ≡ ensuring 𝓤 H A recommend.ended (λ κs a r e. Recommend (now (a .0)) (now (a .1 .0)) (a .1 .1 .0) (a .1 .1 .1 .0) r)
@@ -79,6 +85,10 @@ module _ {M : Type 1} (𝓤 : URA M) (H : Heap 𝓤) (A : Atoms 𝓤) (mem : Mem
       ≡ ensuring 𝓤 H A vienghulac-process.ended
       (λ κs a r e. VienghulacProcess (now (a .0)) (a .1 .0) (now (a .1 .1 .0)) (now (a .1 .1 .1 .0)) (a .1 .1 .1 .1 .0) r (now (e .0)))
   vienghulac-process-contract = refl
+
+  pub vienghulac-entry-contract : vienghulac-entry.spec 𝓤 H A mem run
+      ≡ ensuring 𝓤 H A vienghulac-entry.ended (λ κs a r e. VienghulacEntry (now (a .0)) (a .1 .0) (now (a .1 .1 .0)) r (now (e .1 .1 .0)))
+  vienghulac-entry-contract = refl
 
   pub vienghulac-recommend-contract : vienghulac-recommend.spec 𝓤 H A mem run
       ≡ ensuring 𝓤 H A vienghulac-recommend.ended

@@ -2,9 +2,9 @@
 --     one-answer, one-outcome       two outcomes that meet the same equations are the same: the general statement
 --     number-unique .. write-gossip-unique    so for each public function
 --     vienghulac-check-unique ..    and for each function of include/vienghulac.h
---     process-refusal, write-autocrypt-refusal, write-gossip-refusal    what a refusal leaves
--- That each number is given exactly when its row holds is `exactly` of autocrypt/proofs: Exactly for the writers, ExactlyRecommending and
--- ExactlyProcessing for the others.
+--     process-refusal, entry-refusal, write-autocrypt-refusal, write-gossip-refusal    what a refusal leaves
+-- That each number is given exactly when its row holds is `exactly` of autocrypt/proofs: Exactly for the writers, ExactlyRecommending,
+-- ExactlyProcessing and ExactlyShowing for the others.
 -- Assumes nothing.
 use Prim.Native.Nat.{ℕ}
 use mathlib.Core.Path.{_≡_, sym, _∙_}
@@ -19,16 +19,19 @@ use Rattle.autocrypt.specs.declared.Gossip.{Gossip}
 use Rattle.autocrypt.specs.declared.Processed.{Processed}
 use Rattle.autocrypt.specs.declared.Processed.the-variants.{Refused as NotProcessed}
 use Rattle.autocrypt.specs.declared.Recommended.{Recommended}
+use Rattle.autocrypt.specs.declared.Shown.{Shown}
+use Rattle.autocrypt.specs.declared.Shown.the-variants.{Refused as NotShown}
 use Rattle.autocrypt.specs.declared.Written.{Written}
 use Rattle.autocrypt.specs.declared.Written.the-variants.{Refused as NotWritten}
 use Rattle.autocrypt.proofs.Exactly.{refused-untouched}
 use Rattle.autocrypt.proofs.ExactlyProcessing.{refused-untouched as unprocessed}
+use Rattle.autocrypt.proofs.ExactlyShowing.{refused-untouched as unshown}
 use Rattle.cabi.specs.declared.Answer.{Answer}
 use Rattle.cabi.specs.declared.Advice.{Advice}
 use Rattle.cabi.specs.declared.Part.{Part as PartInC}
 use Rattle.cabi.specs.declared.Written.{Written as WrittenInC}
-use Rattle.promises.specs.OutcomesInC.{VienghulacCheck, VienghulacProcess, VienghulacRecommend, VienghulacTargetKey, VienghulacWriteAutocrypt, VienghulacWriteGossip}
-use Rattle.promises.specs.Outcomes.{Meets, Number, Index, Check, Process, Recommend, TargetPart, TargetKey, WriteAutocrypt, WriteGossip}
+use Rattle.promises.specs.OutcomesInC.{VienghulacCheck, VienghulacProcess, VienghulacEntry, VienghulacRecommend, VienghulacTargetKey, VienghulacWriteAutocrypt, VienghulacWriteGossip}
+use Rattle.promises.specs.Outcomes.{Meets, Number, Index, Check, Process, Entry, Recommend, TargetPart, TargetKey, WriteAutocrypt, WriteGossip}
 
 pub one-answer : {A : Type 0} (defined r q : A) → r ≡ defined → q ≡ defined → r ≡ q
 one-answer defined r q h k = h ∙ sym k
@@ -50,6 +53,10 @@ check-unique table r q = one-answer _ r q
 pub process-unique : (table : List ℕ) (receipt : ℕ) (outer payload : List ℕ) (gossip : Gossip) (r q : Processed) (left other : List ℕ)
     → AllOf (Process table receipt outer payload gossip r left) → AllOf (Process table receipt outer payload gossip q other) → (r ≡ q) × (left ≡ other)
 process-unique table receipt outer payload gossip r q left other = one-outcome _ _ r q left other
+
+pub entry-unique : (table : List ℕ) (slot : ℕ) (numbers : List ℕ) (r q : Shown) (left other : List ℕ)
+    → AllOf (Entry table slot numbers r left) → AllOf (Entry table slot numbers q other) → (r ≡ q) × (left ≡ other)
+entry-unique table slot numbers r q left other = one-outcome _ _ r q left other
 
 pub recommend-unique : (table recipients : List ℕ) (isMutual reply : Bool) (r q : Recommended)
     → AllOf (Recommend table recipients isMutual reply r) → AllOf (Recommend table recipients isMutual reply q) → r ≡ q
@@ -80,6 +87,10 @@ pub vienghulac-process-unique : (table : List ℕ) (receipt : ℕ) (outer payloa
     → (r ≡ q) × (left ≡ other)
 vienghulac-process-unique table receipt outer payload gossip r q left other = one-outcome _ _ r q left other
 
+pub vienghulac-entry-unique : (table : List ℕ) (slot : ℕ) (numbers : List ℕ) (r q : Answer) (left other : List ℕ)
+    → AllOf (VienghulacEntry table slot numbers r left) → AllOf (VienghulacEntry table slot numbers q other) → (r ≡ q) × (left ≡ other)
+vienghulac-entry-unique table slot numbers r q left other = one-outcome _ _ r q left other
+
 pub vienghulac-recommend-unique : (table recipients : List ℕ) (isMutual reply : Bool) (r q : Advice)
     → AllOf (VienghulacRecommend table recipients isMutual reply r) → AllOf (VienghulacRecommend table recipients isMutual reply q) → r ≡ q
 vienghulac-recommend-unique table recipients isMutual reply r q = one-answer _ r q
@@ -102,6 +113,10 @@ pub process-refusal : (table : List ℕ) (receipt : ℕ) (outer payload : List �
     → AllOf (Process table receipt outer payload gossip (NotProcessed refusal) left) → left ≡ table
 process-refusal table receipt outer payload gossip refusal left h =
     h .1 ∙ unprocessed table receipt outer payload gossip refusal (sym (h .0))
+
+pub entry-refusal : (table : List ℕ) (slot : ℕ) (numbers : List ℕ) (refusal : Refusal) (left : List ℕ)
+    → AllOf (Entry table slot numbers (NotShown refusal) left) → left ≡ numbers
+entry-refusal table slot numbers refusal left h = h .1 ∙ unshown table slot numbers refusal (h .0)
 
 pub write-autocrypt-refusal : (address key : List ℕ) (isMutual : Bool) (out : List ℕ) (refusal : Refusal) (left : List ℕ)
     → AllOf (WriteAutocrypt address key isMutual out (NotWritten refusal) left) → left ≡ out

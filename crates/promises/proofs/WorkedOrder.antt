@@ -1,10 +1,11 @@
 -- Two mails of one sender, an older one with the key `foo` and a younger one with the key `bar`, processed on one free slot in both orders: all that
 -- `calls-in-any-order` asks for holds there. Each mail is read by computing. Neither order answers 8, though there is one slot only: whichever comes
--- second finds the sender's entry. The keys differ, so an order could matter; the mails agree because their dates differ too. Assumes nothing.
---     reads                           what the two mails bring
---     older-first, younger-first      both orders answer 0 twice
---     either-order                    the tables that they end with say the same
---     younger-stands                  that is not nothing: the key to encrypt to is the younger one
+-- second finds the sender's entry. The keys differ, so an order could matter; the mails agree because their dates differ too. What the tables say in
+-- the end is not nothing: the younger key is the one to encrypt to. The tables themselves are never computed. Assumes nothing.
+--     reads                                 what the two mails bring
+--     older-first, younger-first            both orders answer 0 twice
+--     either-order                          the tables that they end with say the same
+--     younger-stands, younger-stands-too    the key to encrypt to afterwards
 use Prim.Native.Nat.{ℕ}
 use Prim.Native.String.{String}
 use mathlib.Core.Path.{_≡_, refl, sym, ap, _∙_}

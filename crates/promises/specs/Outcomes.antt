@@ -2,7 +2,7 @@
 -- the list of what a contract ensures, clause by clause, in the words of autocrypt/src; that the contract is this list is shown in proofs/Contracts.
 --     Meets                              an outcome of a function that is lent memory for writing: two equations
 --     Number, Index, Check               number, index, check
---     Process                            process
+--     Process, Entry                     process, entry
 --     Recommend, TargetPart, TargetKey   recommend, target_part, target_key
 --     WriteAutocrypt, WriteGossip        write_autocrypt, write_gossip
 use Prim.Native.Nat.{ℕ}
@@ -17,12 +17,14 @@ use Rattle.autocrypt.specs.Refusals.{numberOf, indexOf}
 use Rattle.autocrypt.specs.Checking.{checkedAs}
 use Rattle.autocrypt.specs.Processing.{processed}
 use Rattle.autocrypt.specs.Recommending.{recommendedOf, targetPartOf, targetKeyOf}
+use Rattle.autocrypt.specs.Showing.{shownOf, leftByShowing}
 use Rattle.autocrypt.specs.Writing.{autocryptField, gossipField, writtenOf, leftByWriting}
 use Rattle.autocrypt.specs.declared.Refusal.{Refusal}
 use Rattle.autocrypt.specs.declared.Checked.{Checked}
 use Rattle.autocrypt.specs.declared.Gossip.{Gossip}
 use Rattle.autocrypt.specs.declared.Processed.{Processed}
 use Rattle.autocrypt.specs.declared.Recommended.{Recommended}
+use Rattle.autocrypt.specs.declared.Shown.{Shown}
 use Rattle.autocrypt.specs.declared.Written.{Written}
 
 -- the answer and the memory that are promised, and those that are given
@@ -41,6 +43,10 @@ Check table r = (r ≡ checkedAs (checked table)) ∷ []
 abbrev pub Process : List ℕ → ℕ → List ℕ → List ℕ → Gossip → Processed → List ℕ → List (Type 0)
 Process table receipt outer payload gossip r left =
     Meets (processed table receipt outer payload gossip .answer) (processed table receipt outer payload gossip .table) r left
+
+-- the numbers that are lent, and those that are left
+abbrev pub Entry : List ℕ → ℕ → List ℕ → Shown → List ℕ → List (Type 0)
+Entry table slot numbers r left = Meets (shownOf table (length numbers)) (leftByShowing table slot numbers) r left
 
 abbrev pub Recommend : List ℕ → List ℕ → Bool → Bool → Recommended → List (Type 0)
 Recommend table recipients isMutual reply r = (r ≡ recommendedOf table recipients isMutual reply) ∷ []

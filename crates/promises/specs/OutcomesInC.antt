@@ -1,5 +1,6 @@
 -- The same as Outcomes.antt, of the functions of include/vienghulac.h, in the words of cabi/src: the answers in numbers.
 --     VienghulacCheck, VienghulacProcess                 vienghulac_check, vienghulac_process
+--     VienghulacEntry                                    vienghulac_entry
 --     VienghulacRecommend, VienghulacTargetKey           vienghulac_recommend, vienghulac_target_key
 --     VienghulacWriteAutocrypt, VienghulacWriteGossip    vienghulac_write_autocrypt, vienghulac_write_gossip
 use Prim.Native.Nat.{ℕ}
@@ -11,8 +12,9 @@ use Rattle.table.specs.Table.{checked}
 use Rattle.autocrypt.specs.Checking.{checkedAs}
 use Rattle.autocrypt.specs.Processing.{processed}
 use Rattle.autocrypt.specs.Recommending.{recommendedOf, targetPartOf}
+use Rattle.autocrypt.specs.Showing.{shownOf, leftByShowing}
 use Rattle.autocrypt.specs.Writing.{autocryptField, gossipField, writtenOf, leftByWriting}
-use Rattle.cabi.specs.Numbers.{inNumbers, checkedInNumbers, processedInNumbers, settingOf, adviceInNumbers, partInNumbers}
+use Rattle.cabi.specs.Numbers.{inNumbers, checkedInNumbers, processedInNumbers, settingOf, shownInNumbers, adviceInNumbers, partInNumbers}
 use Rattle.cabi.specs.declared.Answer.{Answer}
 use Rattle.cabi.specs.declared.Advice.{Advice}
 use Rattle.cabi.specs.declared.Part.{Part}
@@ -26,6 +28,9 @@ abbrev pub VienghulacProcess : List ℕ → ℕ → List ℕ → List ℕ → �
 VienghulacProcess table receipt outer payload gossip r left =
     Meets (processedInNumbers (processed table receipt outer payload (settingOf gossip) .answer))
     (processed table receipt outer payload (settingOf gossip) .table) r left
+
+abbrev pub VienghulacEntry : List ℕ → ℕ → List ℕ → Answer → List ℕ → List (Type 0)
+VienghulacEntry table slot numbers r left = Meets (shownInNumbers (shownOf table (length numbers))) (leftByShowing table slot numbers) r left
 
 abbrev pub VienghulacRecommend : List ℕ → List ℕ → Bool → Bool → Advice → List (Type 0)
 VienghulacRecommend table recipients isMutual reply r = (r ≡ adviceInNumbers (recommendedOf table recipients isMutual reply)) ∷ []
