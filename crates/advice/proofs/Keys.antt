@@ -4,12 +4,12 @@
 --     place-octets, place-within      of a place in a list
 --     place-past                      an empty part past the list
 -- Assumes nothing.
-use Prim.Native.Nat.{ℕ, zero, suc, _+_, _*_, _-_, _<_, _≤_, zero-le}
+use Prim.Native.Nat.{ℕ, zero, suc, _<_, _≤_, zero-le}
 use mathlib.Core.Path.{_≡_, refl}
 use mathlib.Core.Bool.{true}
 use mathlib.Core.List.{List, [], _∷_}
 use native.Mathlib.Omega.{arith}
-use lib.ListN.{length, getD, take, drop}
+use lib.ListN.{length, getD}
 use Rattle.address.specs.Address.{canonical}
 use Rattle.address.proofs.Every.{by-test}
 use Rattle.slots.specs.Slot.{hasDirect, hasGossip, numbersOf, directKeyOf, gossipKeyOf, sound}
