@@ -20,10 +20,10 @@ use Rattle.address.proofs.Forming.{form-fits}
 use Rattle.slots.specs.Slot.{keyLimit}
 use Rattle.writer.specs.Writing.{preference, written}
 use Rattle.writer.proofs.Parts.{preference-most, field-counted}
-use Rattle.autocrypt.specs.Writing.{autocryptField, gossipField, fieldRoom, writtenOf, numberIn}
+use Rattle.autocrypt.specs.Writing.{autocryptField, gossipField, fieldRoom, writtenOf, numberIn, Row, twelve}
 use Rattle.autocrypt.specs.declared.Refusal.the-variants.{OutputLength}
 use Rattle.autocrypt.specs.declared.Written.the-variants.{Refused}
-use Rattle.autocrypt.proofs.Exactly.{Row, twelve, exactly}
+use Rattle.autocrypt.proofs.Exactly.{exactly}
 
 module _ (address key : List ℕ) (p : plain address ≡ true) (k : oneTo keyLimit (length key) ≡ true) where
   key-most : length key ≤ keyLimit

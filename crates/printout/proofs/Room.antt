@@ -14,7 +14,8 @@ use Rattle.address.proofs.Every.{by-test}
 use Rattle.slots.specs.declared.Slot.{Slot}
 use Rattle.slots.specs.Slot.{slotLength, marked, addressOf, numbersOf}
 use Rattle.slots.specs.Entry.{entryOf, numbersFor, present}
-use Rattle.slots.proofs.Sounds.{Sound as SoundSlot, sound-parts}
+use Rattle.slots.specs.Facts.{Sound as SoundSlot}
+use Rattle.slots.proofs.Sounds.{sound-parts}
 use Rattle.slots.proofs.Entries.{canonical-most, numbers-back, direct-key-in, gossip-key-in}
 use Rattle.table.specs.Table.{slots, slotAt, checked}
 use Rattle.table.specs.declared.Checked.the-variants.{Sound}
