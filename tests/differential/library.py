@@ -2,7 +2,7 @@
 import ctypes
 from pathlib import Path
 
-from probe import READ, ROOT, WRITE, Bound, Lent
+from probe import READ, ROOT, WRITE, Bound, Lent, LentNumbers
 
 
 class Answer(ctypes.Structure):
@@ -19,26 +19,6 @@ class Part(ctypes.Structure):
 
 class Written(ctypes.Structure):
     _fields_ = [("number", ctypes.c_uint64), ("length", ctypes.c_uint64)]
-
-
-class LentNumbers:
-    """Numbers that are lent for one call, between guards that are looked at after it."""
-
-    GUARD = [0xC0FFEE_0DDBA11, 0, (1 << 64) - 1]
-
-    def __init__(self, numbers: list[int]):
-        self.length = len(numbers)
-        words = self.GUARD + numbers + self.GUARD
-        self.memory = (ctypes.c_uint64 * len(words))(*words)
-
-    def words(self):
-        return ctypes.byref(self.memory, 8 * len(self.GUARD)), self.length
-
-    def now(self) -> list[int]:
-        words, guard = list(self.memory), len(self.GUARD)
-        if words[:guard] != self.GUARD or words[guard + self.length :] != self.GUARD:
-            raise AssertionError("written outside the lent numbers")
-        return words[guard : guard + self.length]
 
 
 class Library(Bound):

@@ -41,9 +41,9 @@ class Lent:
 class LentNumbers:
     """Numbers of 64 bits that are lent for one call."""
 
-    def __init__(self, count: int):
-        self.count = count
-        self.lent = Lent(struct.pack(f"{count}Q", *[UNWRITTEN] * count))
+    def __init__(self, numbers: list[int]):
+        self.count = len(numbers)
+        self.lent = Lent(struct.pack(f"{self.count}Q", *numbers))
 
     def words(self):
         return self.lent.words()[0], self.count
@@ -76,7 +76,7 @@ class Probe(Bound):
 
     def told(self, name: str, count: int, tells: set[int], kinds: list, *words) -> tuple[int, list[int]]:
         """What an export answers that is lent `count` numbers: its kind and, with a kind of `tells` alone, the numbers."""
-        lent = LentNumbers(count)
+        lent = LentNumbers([UNWRITTEN] * count)
         kind = self._call(name, ctypes.c_uint64, kinds + _write, *words, *lent.words())
         numbers = lent.now()
         if kind in tells:
