@@ -6,16 +6,8 @@ import against  # noqa: F401  makes the independent program importable
 from library import Library
 from paper import base64, keyfield, processing, table as tables, writing
 from probe import Probe
+from rfc4648 import VECTORS
 
-VECTORS = [
-    (b"", b""),
-    (b"f", b"Zg=="),
-    (b"fo", b"Zm8="),
-    (b"foo", b"Zm9v"),
-    (b"foob", b"Zm9vYg=="),
-    (b"fooba", b"Zm9vYmE="),
-    (b"foobar", b"Zm9vYmFy"),
-]
 KEYS = VECTORS[1:]  # no octets are no key
 
 # what opens a field, by its preference; gossip has none

@@ -30,6 +30,9 @@ class Header(unittest.TestCase):
     def test_slots(self):
         self.assertEqual(macro("VIENGHULAC_SLOTS"), defined("mostSlots", "table/specs/Table.antt"))
 
+    def test_numbers(self):
+        self.assertEqual(macro("VIENGHULAC_NUMBERS"), defined("shownCount", "entry/specs/Shown.antt"))
+
     def test_field(self):
         self.assertEqual(macro("VIENGHULAC_FIELD"), defined("fieldRoom", "autocrypt/specs/Writing.antt"))
 

@@ -1,6 +1,6 @@
 """No public function is left out of what crates/promises shows of each: that its contract is the claims of
 specs/Outcomes (proofs/Contracts), and that these leave it one outcome (proofs/Outcomes). A contract that was changed is
-refused by its theorem; a theorem that nobody stated is missed here.
+refused by its theorem; a function whose theorem nobody stated fails here.
 """
 import re
 import unittest

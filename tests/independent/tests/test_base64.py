@@ -5,17 +5,7 @@ import random
 import unittest
 
 from paper import base64
-
-# RFC 4648, section 10.
-VECTORS = [
-    (b"", b""),
-    (b"f", b"Zg=="),
-    (b"fo", b"Zm8="),
-    (b"foo", b"Zm9v"),
-    (b"foob", b"Zm9vYg=="),
-    (b"fooba", b"Zm9vYmE="),
-    (b"foobar", b"Zm9vYmFy"),
-]
+from rfc4648 import VECTORS
 
 
 class Decoding(unittest.TestCase):
