@@ -1,0 +1,106 @@
+-- Rows 1 and 2: what they come to, by the answer of the table's check, and back.
+--     slot-fits                          the index of a broken slot is a small number
+--     sound-rows, length-rows, slot-rows the rows, by the answer of the check
+--     rows-sound                         neither row holds only where the check finds nothing
+--     rows-length, rows-broken           row 1 and row 2 as facts about the table
+--     lowest-broken                      the index with 2 is that of the lowest slot that is neither free nor sound
+--     the ruleset                        checking, for `check`
+-- Assumes nothing.
+use Prim.Native.Nat.{ℕ, zero, suc, _+_, _%_, _<_}
+use mathlib.Core.Path.{_≡_, refl, sym, ap, _∙_}
+use mathlib.Core.Bool.{true, false, not, _&&_}
+use mathlib.Core.List.{List, []}
+use mathlib.Core.Option.{some, none}
+use native.Mathlib.Omega.{arith}
+use borrow.Author.Needs.{needs}
+use borrow.Author.Tests.{leb-true}
+use lib.Dec.{leb, eqb}
+use lib.ListN.{length}
+use mir.Syntax.{w32}
+use mir.Val.{Fits}
+use Rattle.address.proofs.Every.{and-right, by-test}
+use Rattle.refusals.specs.Rows.{Row, _when_, firstOf, answeredBy, answerOf}
+use Rattle.refusals.specs.declared.Refusal.{Refusal}
+use Rattle.refusals.specs.declared.Refusal.the-variants.{TableLength, BrokenSlot}
+use Rattle.refusals.specs.declared.Answer.{Answer}
+use Rattle.refusals.specs.declared.Answer.the-variants.{Done, Refused}
+use Rattle.refusals.proofs.Rows.{answer-done}
+use Rattle.table.specs.Table.{slots, right, whole, judged, checked}
+use Rattle.table.specs.Slotwise.{Broken}
+use Rattle.table.specs.declared.Checked.{Checked}
+use Rattle.table.specs.declared.Checked.the-variants.{Sound, Length, Slot}
+use Rattle.table.proofs.Judging.{checked-length}
+use Rattle.table.proofs.Broken.{by-check, checked-broken, broken-checked, checked-out}
+use Rattle.inspect.specs.Inspecting.{isSound, brokenSlot, tableRows}
+
+module _ (t : List ℕ) where
+  -- the check answers the length exactly where there are no whole slots
+  length-out : whole t ≡ false → firstOf (tableRows t) ≡ some TableLength
+  unfolding tableRows firstOf
+  length-out w = rw w
+
+  -- where there are, by the answer
+  module _ (w : whole t ≡ true) where
+    sound-in : checked t ≡ Sound → firstOf (tableRows t) ≡ none
+    unfolding tableRows firstOf isSound
+    sound-in e = rw (w, e)
+
+    slot-in : (i : ℕ) → checked t ≡ Slot i → firstOf (tableRows t) ≡ some (BrokenSlot i)
+    unfolding tableRows firstOf isSound brokenSlot
+    slot-in i e = rw (w, e)
+
+  -- no other table has an answer but the length
+  whole-unless : (c : Checked) → checked t ≡ c → (c ≡ Length → ⊥) → whole t ≡ true
+  whole-unless c e n = by-test (whole t) (λ w. w) (λ w. absurd (n (sym e ∙ checked-length t w)))
+
+  pub length-rows : checked t ≡ Length → firstOf (tableRows t) ≡ some TableLength
+  length-rows e = length-out (checked-out t e)
+
+  pub sound-rows : checked t ≡ Sound → firstOf (tableRows t) ≡ none
+  sound-rows e = sound-in (whole-unless Sound e (λ q. let z : _≡_ {A = ℕ} 0 1 = cc in omega arith)) e
+
+  pub slot-rows : (i : ℕ) → checked t ≡ Slot i → firstOf (tableRows t) ≡ some (BrokenSlot i)
+  slot-rows i e = slot-in (whole-unless (Slot i) e (λ q. let z : _≡_ {A = ℕ} 0 1 = cc in omega arith)) i e
+
+  pub rows-sound : firstOf (tableRows t) ≡ none → checked t ≡ Sound
+  rows-sound e =
+      by-check (checked t) (λ q. q) (λ q. let z : none ≡ some TableLength = sym e ∙ length-rows q in cc)
+      (λ i q. let z : none ≡ some (BrokenSlot i) = sym e ∙ slot-rows i q in cc)
+
+  pub lowest-broken : (i : ℕ) → firstOf (tableRows t) ≡ some (BrokenSlot i) → Broken t i
+  lowest-broken i e =
+      by-check (checked t)
+      (λ q. let z : none ≡ some (BrokenSlot i) = sym (sound-rows q) ∙ e in let n : _≡_ {A = ℕ} 0 1 = cc in absurd (omega arith))
+      (λ q. let z : some TableLength ≡ some (BrokenSlot i) = sym (length-rows q) ∙ e in let n : _≡_ {A = ℕ} 0 1 = cc in absurd (omega arith))
+      (λ j q.
+      let z : some (BrokenSlot j) ≡ some (BrokenSlot i) = sym (slot-rows j q) ∙ e in
+      let p : j ≡ i = cc in
+      checked-broken t i (q ∙ ap Slot p))
+
+  pub broken-refused : (i : ℕ) → Broken t i → firstOf (tableRows t) ≡ some (BrokenSlot i)
+  broken-refused i b = slot-rows i (broken-checked t i b)
+
+  -- as the code has it
+  module _ (r : Checked) (e : r ≡ checked t) where
+    pub slot-fits : (i : ℕ) → r ≡ Slot i → Fits w32 i
+    unfolding whole
+    slot-fits i q =
+        let b : Broken t i = checked-broken t i (sym e ∙ q) in
+        omega (arith, b .within, leb-true (slots t) 256 (and-right (eqb (length t % 4392) 0 && leb 1 (slots t)) (leb (slots t) 256) (b .whole-slots)))
+
+    pub as-sound : r ≡ Sound → Done ≡ answerOf (firstOf (tableRows t))
+    unfolding answeredBy
+    as-sound q = rw (sound-rows (sym e ∙ q))
+
+    pub as-length : r ≡ Length → Refused TableLength ≡ answerOf (firstOf (tableRows t))
+    unfolding answeredBy
+    as-length q = rw (length-rows (sym e ∙ q))
+
+    pub as-slot : (i : ℕ) → r ≡ Slot i → Refused (BrokenSlot i) ≡ answerOf (firstOf (tableRows t))
+    unfolding answeredBy
+    as-slot i q = rw (slot-rows i (sym e ∙ q))
+
+  pub checked-sound : (k : Answer) → k ≡ answerOf (firstOf (tableRows t)) → k ≡ Done → checked t ≡ Sound
+  checked-sound k e q = rows-sound (answer-done (firstOf (tableRows t)) (sym e ∙ q))
+
+pub ruleset checking = (slot-fits, as-sound, as-length, as-slot, needs)

@@ -1,0 +1,178 @@
+-- Rows of refusals: the first that holds decides, in any list.
+--     exactly                    the number is n exactly when the row of n holds and none before it
+--     first-here, first-behind   the first row holds, or it does not
+--     first-front, first-rest    rows in front of others: one of them holds, or none does
+--     none-first, none-rest, none-front, none-behind    what no row being first says of each part of a list
+--     by-refusal                 a refusal, or none
+--     refused-left, done-left    what a call leaves, by what it answers
+-- The same as the code meets them:
+--     when-refuses .. unless-passes      the row's test is known
+--     told-refuses .. denied-passes      a test of the code answers as the row's does
+--     not-denied                         a test that was passed holds
+--     front-refuses, front-passes        rows in front of others, which were answered as a whole
+--     the ruleset                        rows
+-- Assumes nothing.
+use Prim.Native.Nat.{ℕ}
+use mathlib.Core.Path.{_≡_, refl, sym, ap, subst, _∙_}
+use mathlib.Core.Logic.{_↔_}
+use mathlib.Core.Bool.{Bool, true, false, not, false≢true}
+use mathlib.Core.List.{List, [], _∷_, _++_}
+use mathlib.Core.Option.{Option, some, none}
+use native.Mathlib.Omega.{arith}
+use borrow.Author.Needs.{needs}
+use borrow.Author.Tests.{not-true, not-false}
+use Rattle.refusals.specs.Refusals.{numberOf}
+use Rattle.refusals.specs.Rows.{Row, _when_, _unless_, firstOf, answeredBy, answerOf, unlessRefused, numberIn, Gives, nothing, here, behind}
+use Rattle.refusals.specs.declared.Refusal.{Refusal}
+use Rattle.refusals.specs.declared.Answer.{Answer}
+use Rattle.refusals.specs.declared.Answer.the-variants.{Done, Refused}
+
+pub by-refusal : {P : Type 0} (o : Option Refusal) → ((r : Refusal) → o ≡ some r → P) → (o ≡ none → P) → P
+by-refusal (some r) a b = a r refl
+by-refusal none a b = b refl
+
+-- the first row
+module _ (r : Refusal) (b : Bool) (rest : List Row) where
+  pub first-here : b ≡ true → firstOf ((r when b) ∷ rest) ≡ some r
+  unfolding firstOf
+  first-here e = rw e
+
+  pub first-behind : b ≡ false → firstOf ((r when b) ∷ rest) ≡ firstOf rest
+  unfolding firstOf
+  first-behind e = rw e
+
+pub exactly : (rows : List Row) (n : ℕ) → (numberIn (firstOf rows) ≡ n) ↔ Gives rows n
+unfolding firstOf answeredBy
+exactly [] n = (λ e. nothing e, λ g. from g)
+  where
+    from : Gives [] n → 0 ≡ n
+    from (nothing e) = e
+exactly ((r when true) ∷ rest) n = (λ e. here refl e, λ g. from g)
+  where
+    from : Gives ((r when true) ∷ rest) n → numberOf r ≡ n
+    from (here e q) = q
+    from (behind e g) = absurd (false≢true (sym e))
+exactly ((r when false) ∷ rest) n = (λ e. behind refl (exactly rest n .0 e), λ g. from (exactly rest n .1) g)
+  where
+    from : (Gives rest n → numberIn (firstOf rest) ≡ n) → Gives ((r when false) ∷ rest) n → numberIn (firstOf rest) ≡ n
+    from more (here e q) = absurd (false≢true e)
+    from more (behind e g) = more g
+
+-- rows in front of others
+pub first-front : (rows rest : List Row) (r : Refusal) → firstOf rows ≡ some r → firstOf (rows ++ rest) ≡ some r
+unfolding firstOf
+first-front [] rest r e = cc
+first-front ((q when true) ∷ rows) rest r e = e
+first-front ((q when false) ∷ rows) rest r e = first-front rows rest r e
+
+pub first-rest : (rows rest : List Row) → firstOf rows ≡ none → firstOf (rows ++ rest) ≡ firstOf rest
+unfolding firstOf
+first-rest [] rest e = refl
+first-rest ((q when true) ∷ rows) rest e = cc
+first-rest ((q when false) ∷ rows) rest e = first-rest rows rest e
+
+-- no row holds
+pub none-here : (r : Refusal) (b : Bool) (rest : List Row) → firstOf ((r when b) ∷ rest) ≡ none → b ≡ false
+unfolding firstOf
+none-here r true rest e = cc
+none-here r false rest e = refl
+
+pub none-rest : (r : Refusal) (b : Bool) (rest : List Row) → firstOf ((r when b) ∷ rest) ≡ none → firstOf rest ≡ none
+unfolding firstOf
+none-rest r true rest e = cc
+none-rest r false rest e = e
+
+pub none-front : (rows rest : List Row) → firstOf (rows ++ rest) ≡ none → firstOf rows ≡ none
+unfolding firstOf
+none-front [] rest e = refl
+none-front ((q when true) ∷ rows) rest e = e
+none-front ((q when false) ∷ rows) rest e = none-front rows rest e
+
+pub none-behind : (rows rest : List Row) → firstOf (rows ++ rest) ≡ none → firstOf rest ≡ none
+none-behind rows rest e = sym (first-rest rows rest (none-front rows rest e)) ∙ e
+
+-- what is answered and left
+module _ {A : Type 0} (f : Refusal → A) (d : A) where
+  pub refused-is : (o : Option Refusal) (r : Refusal) → o ≡ some r → answeredBy o f d ≡ f r
+  unfolding answeredBy
+  refused-is o r e = rw e
+
+  pub done-is : (o : Option Refusal) → o ≡ none → answeredBy o f d ≡ d
+  unfolding answeredBy
+  done-is o e = rw e
+
+pub answer-refused : (o : Option Refusal) (r : Refusal) → answerOf o ≡ Refused r → o ≡ some r
+unfolding answeredBy
+answer-refused (some q) r e = ap some cc
+answer-refused none r e = cc
+
+pub answer-done : (o : Option Refusal) → answerOf o ≡ Done → o ≡ none
+unfolding answeredBy
+answer-done (some q) e = cc
+answer-done none e = refl
+
+-- The same as the code has them; x is what the call answers or leaves.
+module _ {A : Type 0} (f : Refusal → A) (d : A) (r : Refusal) (rest : List Row) (x : A) where
+  -- the row's test is known
+  module _ (b : Bool) where
+    pub when-refuses : b ≡ true → x ≡ f r → x ≡ answeredBy (firstOf ((r when b) ∷ rest)) f d
+    when-refuses t h = h ∙ sym (refused-is f d (firstOf ((r when b) ∷ rest)) r (first-here r b rest t))
+
+    pub when-passes : b ≡ false → x ≡ answeredBy (firstOf rest) f d → x ≡ answeredBy (firstOf ((r when b) ∷ rest)) f d
+    when-passes t h = h ∙ ap (λ (o : Option Refusal). answeredBy o f d) (sym (first-behind r b rest t))
+
+  module _ (b : Bool) where
+    pub unless-refuses : b ≡ false → x ≡ f r → x ≡ answeredBy (firstOf ((r unless b) ∷ rest)) f d
+    unless-refuses t h = when-refuses (not b) (ap not t) h
+
+    pub unless-passes : b ≡ true → x ≡ answeredBy (firstOf rest) f d → x ≡ answeredBy (firstOf ((r unless b) ∷ rest)) f d
+    unless-passes t h = when-passes (not b) (ap not t) h
+
+  -- a test c of the code answers as the row's does
+  module _ (b c : Bool) (e : c ≡ b) where
+    pub told-refuses : c ≡ true → x ≡ f r → x ≡ answeredBy (firstOf ((r when b) ∷ rest)) f d
+    told-refuses t h = when-refuses b (sym e ∙ t) h
+
+    pub told-passes : c ≡ false → x ≡ answeredBy (firstOf rest) f d → x ≡ answeredBy (firstOf ((r when b) ∷ rest)) f d
+    told-passes t h = when-passes b (sym e ∙ t) h
+
+    pub denied-refuses : not c ≡ true → x ≡ f r → x ≡ answeredBy (firstOf ((r unless b) ∷ rest)) f d
+    denied-refuses t h = unless-refuses b (sym e ∙ not-true c t) h
+
+    pub denied-passes : not c ≡ false → x ≡ answeredBy (firstOf rest) f d → x ≡ answeredBy (firstOf ((r unless b) ∷ rest)) f d
+    denied-passes t h = unless-passes b (sym e ∙ not-false c t) h
+
+-- what the test that was passed says
+pub not-denied : (b c : Bool) → c ≡ b → not c ≡ false → b ≡ true
+not-denied b c e t = sym e ∙ not-false c t
+
+-- rows that were answered as a whole, in front of others
+module _ {A : Type 0} (f : Refusal → A) (d : A) (rows rest : List Row) (k : Answer) (e : k ≡ answerOf (firstOf rows)) (x : A) where
+  pub front-refuses : (r : Refusal) → k ≡ Refused r → x ≡ f r → x ≡ answeredBy (firstOf (rows ++ rest)) f d
+  front-refuses r q h =
+      h ∙ sym (refused-is f d (firstOf (rows ++ rest)) r (first-front rows rest r (answer-refused (firstOf rows) r (sym e ∙ q))))
+
+  pub front-passes : k ≡ Done → x ≡ answeredBy (firstOf rest) f d → x ≡ answeredBy (firstOf (rows ++ rest)) f d
+  front-passes q h =
+      h ∙ ap (λ (o : Option Refusal). answeredBy o f d) (sym (first-rest rows rest (answer-done (firstOf rows) (sym e ∙ q))))
+
+pub no-row : {A : Type 0} (f : Refusal → A) (d x : A) → x ≡ d → x ≡ answeredBy (firstOf []) f d
+unfolding firstOf answeredBy
+no-row f d x e = e
+
+pub ruleset rows =
+    (
+      when-refuses,
+      when-passes,
+      unless-refuses,
+      unless-passes,
+      told-refuses,
+      told-passes,
+      denied-refuses,
+      denied-passes,
+      front-refuses,
+      front-passes,
+      no-row,
+      not-denied,
+      needs,
+    )

@@ -1,0 +1,63 @@
+-- "Writing", of paper 01, with its refusals: what the two writers answer and what they leave in the output.
+--     autocryptName, gossipName      the names of the two fields
+--     autocryptField, gossipField    the two fields
+--     fieldRoom                      room that neither exceeds
+--     writingRows, refusedWriting    rows 9, 11 and 12
+--     writtenOf, leftByWriting       the answer, and what the output holds afterwards
+use Prim.Native.Nat.{ℕ}
+use mathlib.Core.Bool.{Bool, false}
+use mathlib.Core.List.{List, [], _∷_}
+use mathlib.Core.Option.{Option}
+use lib.Dec.{leb}
+use lib.ListN.{length}
+use Rattle.octets.specs.Octets.{ascii}
+use Rattle.octets.specs.Written.{onto}
+use Rattle.refusals.specs.Rows.{Row, _unless_, firstOf, answeredBy, unlessRefused}
+use Rattle.refusals.specs.declared.Refusal.{Refusal}
+use Rattle.refusals.specs.declared.Refusal.the-variants.{OwnAddress, KeyLength, OutputLength}
+use Rattle.address.specs.Address.{oneTo, plain}
+use Rattle.slots.specs.Slot.{keyLimit}
+use Rattle.writer.specs.Writing.{written}
+use Rattle.write.specs.declared.Written.{Written}
+use Rattle.write.specs.declared.Written.the-variants.{Done, Refused}
+
+abbrev pub autocryptName : List ℕ
+autocryptName = ascii "Autocrypt"
+
+abbrev pub gossipName : List ℕ
+gossipName = ascii "Autocrypt-Gossip"
+
+-- "`Autocrypt: ..` is the whole field for that address, mutual, key"
+unfoldable pub autocryptField : List ℕ → Bool → List ℕ → List ℕ
+autocryptField address isMutual key = written autocryptName address isMutual key
+
+-- "Gossip uses its name and never a preference."
+unfoldable pub gossipField : List ℕ → List ℕ → List ℕ
+gossipField address key = written gossipName address false key
+
+-- what the C header promises: an address has at most 254 octets, and a key of 2,048 octets has lines of 2,840
+abbrev pub fieldRoom : ℕ
+fieldRoom = 3200
+
+-- "own address argument isn't one plain address", "key argument isn't 1 to 2,048 octets", "output shorter than the field"
+unfoldable pub writingRows : List ℕ → List ℕ → List ℕ → ℕ → List Row
+writingRows address key field room =
+    (OwnAddress unless plain address)
+    ∷ (KeyLength unless oneTo keyLimit (length key))
+    ∷ (OutputLength unless leb (length field) room)
+    ∷ []
+
+unfoldable pub refusedWriting : List ℕ → List ℕ → List ℕ → ℕ → Option Refusal
+refusedWriting address key field room = firstOf (writingRows address key field room)
+
+-- "Success answers 0, writing also the length of the field, which opens the output. A refusal .. writes nothing. A written field leaves
+-- the output past its end unchanged."
+unfoldable pub writtenOf : List ℕ → List ℕ → Bool → List ℕ → ℕ → Written
+writtenOf name address isMutual key room =
+    let field = written name address isMutual key in
+    answeredBy (refusedWriting address key field room) Refused (Done (length field))
+
+unfoldable pub leftByWriting : List ℕ → List ℕ → Bool → List ℕ → List ℕ → List ℕ
+leftByWriting name address isMutual key out =
+    let field = written name address isMutual key in
+    unlessRefused (refusedWriting address key field (length out)) out (onto field out)
