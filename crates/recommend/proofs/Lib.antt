@@ -1,0 +1,2 @@
+pub mod Recommending
+pub mod SameEntries

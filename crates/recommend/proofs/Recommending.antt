@@ -1,0 +1,157 @@
+-- Recommending: what the code finds out, and what it answers by it.
+--     list-none, list-counted           "1 to 100 addresses", as the code counts them
+--     admitted-sound, admitted-list     where no row holds the table is sound, and the list is readable
+--     refused-advice .. part-given      the answers of both calls, by what `admit` answers
+--     part-end .. part-is-key           the part lies within the table, and its octets are the entry's key
+--     the rulesets                      counting, for `is_recipient_list`; admitting, for `admit`; recommending, for `recommend`; parting, for
+--                                       `target_part`; handing, for `target_key`
+-- Assumes nothing.
+use Prim.Native.Nat.{ℕ, _+_, _-_, _^_, _<_, _≤_, zero-le}
+use mathlib.Core.Path.{_≡_, refl, sym, ap, _∙_}
+use mathlib.Core.Bool.{Bool, true, false, _&&_}
+use mathlib.Core.List.{List, [], _∷_}
+use mathlib.Core.Option.{Option, some, none}
+use native.Mathlib.Omega.{arith}
+use borrow.Author.Needs.{needs}
+use borrow.Author.Tests.{not-false}
+use lib.Dec.{leb}
+use lib.ListN.{length, take, drop}
+use mir.Syntax.{w64}
+use mir.Val.{Fits}
+use Rattle.refusals.specs.Rows.{Row, _unless_, answeredBy, answerOf}
+use Rattle.refusals.specs.declared.Refusal.{Refusal}
+use Rattle.refusals.specs.declared.Refusal.the-variants.{Recipients}
+use Rattle.refusals.specs.declared.Answer.{Answer}
+use Rattle.refusals.specs.declared.Answer.the-variants.{Done as Admitted, Refused as NotAdmitted}
+use Rattle.refusals.proofs.Rows.{by-refusal, none-here, none-front, none-behind, refused-is, done-is, answer-refused, answer-done, rows}
+use Rattle.list.specs.List.{addresses, given, isGiven}
+use Rattle.list.specs.Answers.{countedOf}
+use Rattle.list.specs.declared.Counted.{Counted}
+use Rattle.list.specs.declared.Counted.the-variants.{Count, Unreadable}
+use Rattle.list.proofs.Readable.{counted-some, counted-none}
+use Rattle.table.specs.Table.{checked}
+use Rattle.table.specs.declared.Checked.the-variants.{Sound}
+use Rattle.inspect.specs.Inspecting.{tableRows}
+use Rattle.inspect.proofs.Tables.{rows-sound}
+use Rattle.advice.specs.Advice.{overall, advised}
+use Rattle.advice.specs.Places.{noPart, targetAt, octetsAt, Within}
+use Rattle.advice.specs.declared.Advice.{Advice}
+use Rattle.advice.specs.declared.Part.{Part}
+use Rattle.advice.proofs.Keys.{place-within, place-octets}
+use Rattle.recommend.specs.Recommending.{recipientList, recommendingRows, refusedRecommending, recommendedOf, targetPartOf, targetKeyOf}
+use Rattle.recommend.specs.declared.Recommended.{Recommended}
+use Rattle.recommend.specs.declared.Recommended.the-variants.{Done, Refused}
+
+-- 1 to 100 addresses
+list-of : (o : Option (List (List ℕ))) (list : List (List ℕ)) (n : ℕ) → o ≡ some list → n ≡ length list → (leb 1 n && leb n 100) ≡ recipientList o
+unfolding recipientList
+list-of o list n e q = rw (e, q)
+
+module _ (o : Option (List (List ℕ))) (k : Counted) (e : k ≡ countedOf o) where
+  pub list-none : k ≡ Unreadable → false ≡ recipientList o
+  unfolding recipientList
+  list-none q = rw (counted-none o (sym q ∙ e))
+
+  pub list-counted : (n : ℕ) → k ≡ Count n → (leb 1 n && leb n 100) ≡ recipientList o
+  list-counted n q = let c = counted-some o n (sym q ∙ e) in list-of o (c .0) n (c .1 .0) (c .1 .1)
+
+pub ruleset counting = (list-none, list-counted, needs)
+
+pub ruleset admitting = (rows)
+
+list-readable : (o : Option (List (List ℕ))) → recipientList o ≡ true → isGiven o ≡ true
+unfolding recipientList isGiven
+list-readable none e = e
+list-readable (some list) e = refl
+
+-- no row holds
+module _ (t s : List ℕ) (e : refusedRecommending t s ≡ none) where
+  abbrev last : List Row
+  last = (Recipients unless recipientList (addresses s)) ∷ []
+
+  pub admitted-sound : checked t ≡ Sound
+  unfolding refusedRecommending recommendingRows
+  admitted-sound = rows-sound t (none-front (tableRows t) last e)
+
+  pub admitted-list : isGiven (addresses s) ≡ true
+  unfolding refusedRecommending recommendingRows
+  admitted-list =
+      list-readable (addresses s)
+      (not-false (recipientList (addresses s)) (none-here Recipients _ [] (none-behind (tableRows t) last e)))
+
+-- by what `admit` answers
+module _ (t s : List ℕ) (k : Answer) (e : k ≡ answerOf (refusedRecommending t s)) where
+  module _ (r : Refusal) (q : k ≡ NotAdmitted r) where
+    out : refusedRecommending t s ≡ some r
+    out = answer-refused (refusedRecommending t s) r (sym e ∙ q)
+
+    pub refused-advice : (m reply : Bool) → Refused r ≡ recommendedOf t s m reply
+    unfolding recommendedOf
+    refused-advice m reply = sym (refused-is Refused _ (refusedRecommending t s) r out)
+
+    pub refused-part : (place : ℕ) → noPart ≡ targetPartOf t s place
+    unfolding targetPartOf
+    refused-part place = sym (refused-is (λ (x : Refusal). noPart) _ (refusedRecommending t s) r out)
+
+  module _ (q : k ≡ Admitted) where
+    in-order : refusedRecommending t s ≡ none
+    in-order = answer-done (refusedRecommending t s) (sym e ∙ q)
+
+    pub table-taken : checked t ≡ Sound
+    table-taken = admitted-sound t s in-order
+
+    pub list-given : isGiven (addresses s) ≡ true
+    list-given = admitted-list t s in-order
+
+    pub advice-given : (m reply : Bool) (a : Advice) → a ≡ overall (advised t m reply (given (addresses s))) → Done a ≡ recommendedOf t s m reply
+    unfolding recommendedOf
+    advice-given m reply a h = ap Done h ∙ sym (done-is Refused _ (refusedRecommending t s) in-order)
+
+    pub part-given : (place : ℕ) (p : Part) → p ≡ targetAt t (given (addresses s)) place → p ≡ targetPartOf t s place
+    unfolding targetPartOf
+    part-given place p h = h ∙ sym (done-is (λ (x : Refusal). noPart) _ (refusedRecommending t s) in-order)
+
+pub ruleset recommending = (refused-advice, table-taken, list-given, advice-given, needs)
+
+pub ruleset parting = (refused-part, table-taken, list-given, part-given, needs)
+
+-- the part, and the key that it is
+module _ (t s : List ℕ) (place : ℕ) where
+  part-none : (r : Refusal) → refusedRecommending t s ≡ some r → targetPartOf t s place ≡ noPart
+  unfolding targetPartOf
+  part-none r e = refused-is (λ (x : Refusal). noPart) _ (refusedRecommending t s) r e
+
+  part-some : refusedRecommending t s ≡ none → targetPartOf t s place ≡ targetAt t (given (addresses s)) place
+  unfolding targetPartOf
+  part-some e = done-is (λ (x : Refusal). noPart) _ (refusedRecommending t s) e
+
+  pub part-within : Within t (targetPartOf t s place)
+  part-within =
+      by-refusal (refusedRecommending t s)
+      (λ r e. rw (part-none r e) zero-le)
+      (λ e. rw (part-some e) (place-within t (admitted-sound t s e) (given (addresses s)) place))
+
+  pub part-key : octetsAt t (targetPartOf t s place) ≡ targetKeyOf t s place
+  unfolding targetKeyOf octetsAt answeredBy
+  part-key =
+      by-refusal (refusedRecommending t s)
+      (λ r e. rw (part-none r e, targetKeyOf, e))
+      (λ e. rw (part-some e, targetKeyOf, e) (place-octets t (admitted-sound t s e) (given (addresses s)) place))
+
+  module _ (p : Part) (h : p ≡ targetPartOf t s place) where
+    pub part-end : p .start + p .length ≤ length t
+    part-end = rw h part-within
+
+    pub part-fits : length t < 2 ^ 64 → Fits w64 (p .start + p .length)
+    part-fits l = record { fits = omega (arith, part-end) }
+
+    pub part-octets : take (p .start + p .length - p .start) (drop (p .start) t) ≡ octetsAt t (targetPartOf t s place)
+    unfolding octetsAt
+    part-octets =
+        let n : p .start + p .length - p .start ≡ p .length = omega arith in
+        rw (n, h)
+
+    pub part-is-key : take (p .start + p .length - p .start) (drop (p .start) t) ≡ targetKeyOf t s place
+    part-is-key = part-octets ∙ part-key
+
+pub ruleset handing = (part-end, part-fits, part-octets, part-is-key, needs)

@@ -1,0 +1,52 @@
+-- "Recommending", of paper 01, with its refusals: what the first call answers, and the key that the second hands back. What is advised and
+-- which key is a recipient's target key is said by the crate `advice`.
+--     mostRecipients, recipientList             "1 to 100 addresses"
+--     recommendingRows, refusedRecommending     rows 1, 2 and 10
+--     recommendedOf                             the answer
+--     targetPartOf, targetKeyOf                 the part of the table that is handed back, and the key that it is
+use Prim.Native.Nat.{ℕ}
+use mathlib.Core.Bool.{Bool, false}
+use mathlib.Core.List.{List, [], _∷_, _++_}
+use mathlib.Core.Option.{Option, some, none}
+use lib.ListN.{length, getD}
+use Rattle.refusals.specs.Rows.{Row, _unless_, firstOf, answeredBy, unlessRefused}
+use Rattle.refusals.specs.declared.Refusal.{Refusal}
+use Rattle.refusals.specs.declared.Refusal.the-variants.{Recipients}
+use Rattle.address.specs.Address.{oneTo}
+use Rattle.list.specs.List.{addresses, given}
+use Rattle.inspect.specs.Inspecting.{tableRows}
+use Rattle.advice.specs.Advice.{overall, advised, targets}
+use Rattle.advice.specs.Places.{noPart, targetAt}
+use Rattle.advice.specs.declared.Part.{Part}
+use Rattle.recommend.specs.declared.Recommended.{Recommended}
+use Rattle.recommend.specs.declared.Recommended.the-variants.{Done, Refused}
+
+-- "1 to 100 addresses"
+abbrev pub mostRecipients : ℕ
+mostRecipients = 100
+
+-- "recipient list unreadable, or not 1 to 100 addresses", denied; equal addresses count as often as they stand
+unfoldable pub recipientList : Option (List (List ℕ)) → Bool
+recipientList none = false
+recipientList (some list) = oneTo mostRecipients (length list)
+
+unfoldable pub recommendingRows : List ℕ → List ℕ → List Row
+recommendingRows table recipients = tableRows table ++ ((Recipients unless recipientList (addresses recipients)) ∷ [])
+
+unfoldable pub refusedRecommending : List ℕ → List ℕ → Option Refusal
+refusedRecommending table recipients = firstOf (recommendingRows table recipients)
+
+-- what the first call answers
+unfoldable pub recommendedOf : List ℕ → List ℕ → Bool → Bool → Recommended
+recommendedOf table recipients isMutual reply =
+    answeredBy (refusedRecommending table recipients) Refused (Done (overall (advised table isMutual reply (given (addresses recipients)))))
+
+-- "A second call .. hands back that recipient's target key as a part of the lent table, an empty part without one, past the list or where the
+-- first call refuses."
+unfoldable pub targetPartOf : List ℕ → List ℕ → ℕ → Part
+targetPartOf table recipients place = unlessRefused (refusedRecommending table recipients) noPart (targetAt table (given (addresses recipients)) place)
+
+-- the key that this part is: that of the entry
+unfoldable pub targetKeyOf : List ℕ → List ℕ → ℕ → List ℕ
+targetKeyOf table recipients place =
+    unlessRefused (refusedRecommending table recipients) [] (getD (targets table (given (addresses recipients))) place [])
