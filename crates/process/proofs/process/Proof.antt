@@ -1,0 +1,41 @@
+-- `process::process` meets its contract: the laws of `Processing` answer every need. Assumes nothing.
+use Rattle.process.proofs.process.Statement.{statement}
+use Rattle.process.proofs.process.Tie as tie
+use Rattle.process.proofs.Processing.{processing}
+
+check-requires : tie.Need-check-requires
+check-requires c κs = search processing
+
+enum-told : tie.Need-enum-told
+enum-told c = search processing
+
+process-sound-requires : tie.Need-process-sound-requires
+process-sound-requires c κs = search processing
+
+enum-known-refusal : tie.Need-enum-known-refusal
+enum-known-refusal c = search processing
+
+same-length : tie.Need-same-length
+same-length c = search processing
+
+returns : tie.Need-returns
+returns c = search processing
+
+same-length-2 : tie.Need-same-length-2
+same-length-2 c = search processing
+
+returns-2 : tie.Need-returns-2
+returns-2 c = search processing
+
+pub process-spec : {M : Type 1} → statement M
+process-spec =
+    tie.close
+    (tie.spec
+    check-requires
+    enum-told
+    process-sound-requires
+    enum-known-refusal
+    same-length
+    returns
+    same-length-2
+    returns-2)
