@@ -3,6 +3,7 @@
 --     admitted-sound, admitted-list     where no row holds the table is sound, and the list is readable
 --     refused-advice .. part-given      the answers of both calls, by what `admit` answers
 --     part-end .. part-is-key           the part lies within the table, and its octets are the entry's key
+--     done-advised, index-lowest        what comes with the first call's answer
 --     the rulesets                      counting, for `is_recipient_list`; admitting, for `admit`; recommending, for `recommend`; parting, for
 --                                       `target_part`; handing, for `target_key`
 -- Assumes nothing.
@@ -18,21 +19,22 @@ use lib.Dec.{leb}
 use lib.ListN.{length, take, drop}
 use mir.Syntax.{w64}
 use mir.Val.{Fits}
-use Rattle.refusals.specs.Rows.{Row, _unless_, answeredBy, answerOf}
+use Rattle.refusals.specs.Rows.{Row, _unless_, answeredBy, answerOf, mentions}
 use Rattle.refusals.specs.declared.Refusal.{Refusal}
-use Rattle.refusals.specs.declared.Refusal.the-variants.{Recipients}
+use Rattle.refusals.specs.declared.Refusal.the-variants.{BrokenSlot, Recipients}
 use Rattle.refusals.specs.declared.Answer.{Answer}
 use Rattle.refusals.specs.declared.Answer.the-variants.{Done as Admitted, Refused as NotAdmitted}
-use Rattle.refusals.proofs.Rows.{by-refusal, none-here, none-front, none-behind, refused-is, done-is, answer-refused, answer-done, rows}
+use Rattle.refusals.proofs.Rows.{by-refusal, none-here, none-front, none-behind, front-only, refused-is, done-is, answer-refused, answer-done, rows}
 use Rattle.list.specs.List.{addresses, given, isGiven}
 use Rattle.list.specs.Answers.{countedOf}
 use Rattle.list.specs.declared.Counted.{Counted}
 use Rattle.list.specs.declared.Counted.the-variants.{Count, Unreadable}
 use Rattle.list.proofs.Readable.{counted-some, counted-none}
 use Rattle.table.specs.Table.{checked}
+use Rattle.table.specs.Slotwise.{Broken}
 use Rattle.table.specs.declared.Checked.the-variants.{Sound}
 use Rattle.inspect.specs.Inspecting.{tableRows}
-use Rattle.inspect.proofs.Tables.{rows-sound}
+use Rattle.inspect.proofs.Tables.{rows-sound, lowest-broken}
 use Rattle.advice.specs.Advice.{overall, advised}
 use Rattle.advice.specs.Places.{noPart, targetAt, octetsAt, Within}
 use Rattle.advice.specs.declared.Advice.{Advice}
@@ -155,3 +157,27 @@ module _ (t s : List ℕ) (place : ℕ) where
     part-is-key = part-octets ∙ part-key
 
 pub ruleset handing = (part-end, part-fits, part-octets, part-is-key, needs)
+
+-- what comes with each answer
+module _ (t s : List ℕ) (m reply : Bool) where
+  abbrev advice : Advice
+  advice = overall (advised t m reply (given (addresses s)))
+
+  by-answer : (o : Option Refusal) (a : Recommended) → answeredBy o Refused (Done advice) ≡ a → {P : Type 0}
+      → ((r : Refusal) → o ≡ some r → a ≡ Refused r → P) → (o ≡ none → a ≡ Done advice → P) → P
+  unfolding answeredBy
+  by-answer (some r) a e refused done = refused r refl (sym e)
+  by-answer none a e refused done = done refl (sym e)
+
+  pub done-advised : (a : Advice) → recommendedOf t s m reply ≡ Done a → a ≡ advice
+  unfolding recommendedOf
+  done-advised a e = by-answer (refusedRecommending t s) (Done a) e (λ r q z. cc) (λ q z. cc)
+
+  pub index-lowest : (i : ℕ) → recommendedOf t s m reply ≡ Refused (BrokenSlot i) → Broken t i
+  unfolding recommendedOf refusedRecommending recommendingRows mentions
+  index-lowest i e =
+      by-answer (refusedRecommending t s) (Refused (BrokenSlot i)) e
+      (λ r q z.
+      let same : BrokenSlot i ≡ r = cc in
+      lowest-broken t i (front-only (tableRows t) ((Recipients unless recipientList (addresses s)) ∷ []) (BrokenSlot i) refl (q ∙ ap some (sym same))))
+      (λ q z. let n : _≡_ {A = ℕ} 0 1 = cc in absurd (omega arith))

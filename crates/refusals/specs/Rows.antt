@@ -6,11 +6,13 @@
 --     answerOf, unlessRefused  the answer of a call with nothing else to say; what a call leaves that writes nothing where it is refused
 --     numberIn                 "Success answers 0", a refusal its number
 --     Gives                    the row of a number holds and none before it; for 0, no row holds
+--     mentions                 is there a row with this number, whether or not it holds?
 use Prim.Native.Nat.{ℕ}
 use mathlib.Core.Path.{_≡_}
-use mathlib.Core.Bool.{Bool, true, false, not}
+use mathlib.Core.Bool.{Bool, true, false, not, _||_}
 use mathlib.Core.List.{List, [], _∷_}
 use mathlib.Core.Option.{Option, some, none}
+use lib.Dec.{eqb}
 use Rattle.refusals.specs.Refusals.{numberOf}
 use Rattle.refusals.specs.declared.Refusal.{Refusal}
 use Rattle.refusals.specs.declared.Answer.{Answer}
@@ -48,3 +50,8 @@ pub data Gives : List Row → ℕ → Type 0 where
   nothing : {n : ℕ} → 0 ≡ n → Gives [] n
   here : {r : Refusal} {b : Bool} {rest : List Row} {n : ℕ} → b ≡ true → numberOf r ≡ n → Gives ((r when b) ∷ rest) n
   behind : {r : Refusal} {b : Bool} {rest : List Row} {n : ℕ} → b ≡ false → Gives rest n → Gives ((r when b) ∷ rest) n
+
+-- is there a row with this number?
+unfoldable pub mentions : ℕ → List Row → Bool
+mentions n [] = false
+mentions n ((r when b) ∷ rest) = eqb (numberOf r) n || mentions n rest

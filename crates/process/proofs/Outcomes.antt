@@ -1,0 +1,158 @@
+-- What comes with each answer of processing.
+--     InOrder, in-order                  rows 3 to 7 do not hold: what that says of the blocks
+--     message-is, message-good           the message that is then brought, and that it is good
+--     sound-first, unsound-first         with a sound table rows 3 to 8 decide, with another one 1 and 2
+--     refused-untouched, done-left       a refusal leaves the table as it was; success leaves the one to which the message was applied
+--     done-sound, done-in-order, done-room     success: the table was sound, no row held, and there was room
+--     index-lowest                       the index with 2 is that of the lowest slot that is neither free nor sound
+--     processed-keeps, processed-octets  a sound table stays sound, whatever the message
+--     done-entry                         success: what the entry of any address is afterwards
+-- Assumes nothing.
+use Prim.Native.Nat.{ℕ, _≤_}
+use mathlib.Core.Path.{_≡_, refl, sym, ap, subst, _∙_}
+use mathlib.Core.Bool.{Bool, true, false, not, _&&_}
+use mathlib.Core.List.{List, [], _∷_, _++_}
+use mathlib.Core.Option.{Option, some, none}
+use borrow.Author.Tests.{leb-true, not-false}
+use lib.Dec.{leb}
+use Rattle.octets.specs.Octets.{AllOctets}
+use Rattle.header.specs.Header.{FieldText, fieldsOf, readable}
+use Rattle.header.proofs.Octetwise.{ValuesOctets, block-octets}
+use Rattle.address.proofs.Every.{by-test}
+use Rattle.refusals.specs.Rows.{Row, _when_, _unless_, firstOf, answerOf, mentions}
+use Rattle.refusals.specs.declared.Refusal.{Refusal}
+use Rattle.refusals.specs.declared.Refusal.the-variants.{BrokenSlot, ReceiptTime, OuterBlock, Sender, Report, PayloadBlock, NoFreeSlot}
+use Rattle.refusals.specs.declared.Answer.the-variants.{Done, Refused}
+use Rattle.refusals.proofs.Rows.{by-refusal, first-front, first-rest, none-here, none-rest, none-front, none-behind, front-only, refused-is, done-is, answer-refused, answer-done}
+use Rattle.slots.specs.Slot.{timeLimit}
+use Rattle.table.specs.Table.{checked}
+use Rattle.table.specs.Slotwise.{Broken}
+use Rattle.table.specs.Entries.{entryIn}
+use Rattle.table.specs.declared.Checked.the-variants.{Sound}
+use Rattle.inspect.specs.Inspecting.{tableRows}
+use Rattle.inspect.proofs.Tables.{sound-rows, rows-sound, lowest-broken}
+use Rattle.update.specs.Message.{Message, GoodMessage, hasRoom, applied, entryAfter}
+use Rattle.update.proofs.Applying.{applied-sound, applied-octets, applied-entry}
+use Rattle.fields.specs.Fields.{fieldsIn}
+use Rattle.fields.proofs.Values.{fields-read}
+use Rattle.outer.specs.Outer.{senderIn, isReported}
+use Rattle.delivery.specs.Delivery.{messageBy}
+use Rattle.delivery.proofs.Good.{message-good as by-blocks}
+use Rattle.process.specs.Processing.{taken, payloadIn, hasSender, senderOr, messageRows, messageOf, roomRows, processingRows, refusedProcessing, leftByProcessing}
+use Rattle.process.specs.declared.Gossip.{Gossip}
+
+-- there is a sender
+sender-there : (o : Option (List ℕ)) → hasSender o ≡ true → o ≡ some (senderOr o)
+unfolding hasSender senderOr
+sender-there none e = cc
+sender-there (some a) e = refl
+
+pub record InOrder (receipt : ℕ) (outer payload : List ℕ) (g : Gossip) : Type 0 where
+  pub in-time : receipt ≤ timeLimit
+  pub outer-read : readable outer ≡ true
+  pub sent : senderIn (fieldsIn outer) ≡ some (senderOr (senderIn (fieldsIn outer)))
+  pub no-report : isReported (fieldsIn outer) ≡ false
+  pub payload-read : (taken g && not (readable payload)) ≡ false
+
+module _ (receipt : ℕ) (outer payload : List ℕ) (g : Gossip) where
+  pub in-order : firstOf (messageRows receipt outer payload g) ≡ none → InOrder receipt outer payload g
+  unfolding messageRows
+  in-order e =
+      let behind-three = none-rest ReceiptTime _ _ e in
+      let behind-four = none-rest OuterBlock _ _ behind-three in
+      let behind-five = none-rest Sender _ _ behind-four in
+      let behind-six = none-rest Report _ _ behind-five in
+      record {
+        in-time = leb-true receipt timeLimit (not-false (leb receipt timeLimit) (none-here ReceiptTime _ _ e));
+        outer-read = not-false (readable outer) (none-here OuterBlock _ _ behind-three);
+        sent = sender-there (senderIn (fieldsIn outer)) (not-false (hasSender (senderIn (fieldsIn outer))) (none-here Sender _ _ behind-four));
+        no-report = none-here Report _ _ behind-five;
+        payload-read = none-here PayloadBlock _ _ behind-six;
+      }
+
+  module _ (h : InOrder receipt outer payload g) where
+    -- gossip is taken of a readable payload, or of none
+    pub payload-octets : AllOctets payload → ValuesOctets (payloadIn g payload)
+    unfolding payloadIn ValuesOctets
+    payload-octets v = by-test (taken g) (λ k. rw (payloadIn, k) (taking k)) (λ k. rw (payloadIn, k) tt)
+      where
+        taking : taken g ≡ true → ValuesOctets (fieldsIn payload)
+        taking k =
+            let r : readable payload ≡ true = not-false (readable payload) (subst (λ (x : Bool). (x && not (readable payload)) ≡ false) k (h .payload-read)) in
+            block-octets payload v (fieldsIn payload) (fields-read payload r)
+
+    pub message-good : AllOctets outer → AllOctets payload → GoodMessage (messageOf receipt outer payload g)
+    unfolding messageOf
+    message-good u v =
+        by-blocks receipt (h .in-time) outer u (fieldsIn outer) (fields-read outer (h .outer-read)) (senderOr (senderIn (fieldsIn outer))) (h .sent)
+        (payloadIn g payload) (payload-octets v)
+
+module _ (t : List ℕ) (receipt : ℕ) (outer payload : List ℕ) (g : Gossip) where
+  abbrev refusal : Option Refusal
+  refusal = refusedProcessing t receipt outer payload g
+
+  abbrev message : Message
+  message = messageOf receipt outer payload g
+
+  pub sound-first : checked t ≡ Sound → refusal ≡ firstOf (messageRows receipt outer payload g ++ roomRows t message)
+  unfolding refusedProcessing processingRows
+  sound-first s = first-rest (tableRows t) _ (sound-rows t s)
+
+  pub unsound-first : (r : Refusal) → firstOf (tableRows t) ≡ some r → refusal ≡ some r
+  unfolding refusedProcessing processingRows
+  unsound-first r e = first-front (tableRows t) _ r e
+
+  -- no row holds
+  module _ (e : refusal ≡ none) where
+    pub done-sound : checked t ≡ Sound
+    unfolding refusedProcessing processingRows
+    done-sound = rows-sound t (none-front (tableRows t) _ e)
+
+    behind-table : firstOf (messageRows receipt outer payload g ++ roomRows t message) ≡ none
+    behind-table = sym (sound-first done-sound) ∙ e
+
+    pub done-in-order : InOrder receipt outer payload g
+    done-in-order = in-order receipt outer payload g (none-front (messageRows receipt outer payload g) (roomRows t message) behind-table)
+
+    pub done-room : hasRoom t message ≡ true
+    unfolding roomRows
+    done-room = not-false (hasRoom t message) (none-here NoFreeSlot _ [] (none-behind (messageRows receipt outer payload g) (roomRows t message) behind-table))
+
+    pub done-left : leftByProcessing t receipt outer payload g ≡ applied t message
+    unfolding leftByProcessing
+    done-left = done-is (λ (x : Refusal). t) (applied t message) refusal e
+
+  pub refused-left : (r : Refusal) → refusal ≡ some r → leftByProcessing t receipt outer payload g ≡ t
+  unfolding leftByProcessing
+  refused-left r e = refused-is (λ (x : Refusal). t) (applied t message) refusal r e
+
+  pub refused-untouched : (r : Refusal) → answerOf refusal ≡ Refused r → leftByProcessing t receipt outer payload g ≡ t
+  refused-untouched r a = refused-left r (answer-refused refusal r a)
+
+  -- 2 is given by the rows of the table alone
+  pub index-lowest : (i : ℕ) → answerOf refusal ≡ Refused (BrokenSlot i) → Broken t i
+  unfolding refusedProcessing processingRows messageRows roomRows mentions
+  index-lowest i a = lowest-broken t i (front-only (tableRows t) (messageRows receipt outer payload g ++ roomRows t message) (BrokenSlot i) refl (answer-refused refusal (BrokenSlot i) a))
+
+  -- blocks of octets
+  module _ (o : AllOctets t) (u : AllOctets outer) (v : AllOctets payload) where
+    -- what holds of the table as it came, and of one to which a good message is applied
+    after : (P : List ℕ → Type 0) → P t → (GoodMessage message → P (applied t message)) → P (leftByProcessing t receipt outer payload g)
+    after P p more =
+        by-refusal refusal
+        (λ r e. subst P (sym (refused-left r e)) p)
+        (λ e. subst P (sym (done-left e)) (more (message-good receipt outer payload g (done-in-order e) u v)))
+
+    module _ (s : checked t ≡ Sound) where
+      pub processed-keeps : checked (leftByProcessing t receipt outer payload g) ≡ Sound
+      processed-keeps = after (λ x. checked x ≡ Sound) s (λ good. applied-sound t message good s o)
+
+      pub processed-octets : AllOctets (leftByProcessing t receipt outer payload g)
+      processed-octets = after AllOctets o (λ good. applied-octets t message good s o)
+
+    pub done-entry : answerOf refusal ≡ Done → (b : List ℕ)
+        → entryIn (leftByProcessing t receipt outer payload g) b ≡ entryAfter message b (entryIn t b)
+    done-entry a b =
+        let e : refusal ≡ none = answer-done refusal a in
+        ap (λ (x : List ℕ). entryIn x b) (done-left e)
+        ∙ applied-entry t message (message-good receipt outer payload g (done-in-order e) u v) (done-sound e) o (done-room e) b
