@@ -1,0 +1,99 @@
+// Answers in numbers, as C has them. What each field says stands in specs/Numbers.antt.
+ghost use mathlib.Core.Path.{_≡_};
+ghost use Rattle.cabi.specs.Numbers.{inNumbers, writtenInNumbers, adviceNumber, adviceInNumbers, partInNumbers};
+
+// vienghulac_answer
+#[repr(C)]
+pub struct Answer {
+    pub number: u32,
+    pub index: u32,
+}
+
+// vienghulac_written
+#[repr(C)]
+pub struct Written {
+    pub number: u64,
+    pub length: u64,
+}
+
+// vienghulac_advice
+#[repr(C)]
+pub struct Advice {
+    pub number: u32,
+    pub index: u32,
+    pub advice: u32,
+}
+
+// vienghulac_part
+#[repr(C)]
+pub struct Part {
+    pub start: u64,
+    pub length: u64,
+}
+
+pub fn in_numbers(answer: autocrypt::Answer) -> Answer
+    ensures { λ r. ⌜ r ≡ inNumbers answer ⌝ }
+{
+    match answer {
+        autocrypt::Answer::Done => Answer {
+            number: 0,
+            index: 0,
+        },
+        autocrypt::Answer::Refused(r) => Answer {
+            number: autocrypt::number(r),
+            index: autocrypt::index(r),
+        },
+    }
+}
+
+pub fn written_in_numbers(answer: autocrypt::Written) -> Written
+    ensures { λ r. ⌜ r ≡ writtenInNumbers answer ⌝ }
+{
+    match answer {
+        autocrypt::Written::Done(n) => Written {
+            number: 0,
+            length: n as u64,
+        },
+        autocrypt::Written::Refused(r) => Written {
+            number: autocrypt::number(r) as u64,
+            length: 0,
+        },
+    }
+}
+
+fn advice_number(advice: autocrypt::Advice) -> u32
+    ensures { λ r. ⌜ r ≡ adviceNumber advice ⌝ }
+{
+    match advice {
+        autocrypt::Advice::Disable => 1,
+        autocrypt::Advice::Discourage => 2,
+        autocrypt::Advice::Available => 3,
+        autocrypt::Advice::Encrypt => 4,
+    }
+}
+
+pub fn advice_in_numbers(answer: autocrypt::Recommended) -> Advice
+    ensures { λ r. ⌜ r ≡ adviceInNumbers answer ⌝ }
+{
+    match answer {
+        autocrypt::Recommended::Done(advice) => Advice {
+            number: 0,
+            index: 0,
+            advice: advice_number(advice),
+        },
+        autocrypt::Recommended::Refused(r) => Advice {
+            number: autocrypt::number(r),
+            index: autocrypt::index(r),
+            advice: 0,
+        },
+    }
+}
+
+pub fn part_in_numbers(part: autocrypt::Part) -> Part
+    ensures { λ r. ⌜ r ≡ partInNumbers part ⌝ }
+{
+    Part {
+        start: part.start as u64,
+        length: part.length as u64,
+    }
+}
