@@ -2,6 +2,7 @@
 --     InOrder, in-order                  rows 3 to 7 do not hold: what that says of the blocks
 --     message-is, message-good           the message that is then brought, and that it is good
 --     sound-first, unsound-first         with a sound table rows 3 to 8 decide, with another one 1 and 2
+--     message-refused, message-fits, message-full     a sound table: which of 3 to 8 it is, or none
 --     refused-untouched, done-left       a refusal leaves the table as it was; success leaves the one to which the message was applied
 --     done-sound, done-in-order, done-room     success: the table was sound, no row held, and there was room
 --     index-lowest                       the index with 2 is that of the lowest slot that is neither free nor sound
@@ -101,6 +102,23 @@ module _ (t : List ℕ) (receipt : ℕ) (outer payload : List ℕ) (g : Gossip) 
   pub unsound-first : (r : Refusal) → firstOf (tableRows t) ≡ some r → refusal ≡ some r
   unfolding refusedProcessing processingRows
   unsound-first r e = first-front (tableRows t) _ r e
+
+  -- a sound table, by the rows behind
+  module _ (s : checked t ≡ Sound) where
+    pub message-refused : (r : Refusal) → firstOf (messageRows receipt outer payload g) ≡ some r → refusal ≡ some r
+    message-refused r e = sound-first s ∙ first-front (messageRows receipt outer payload g) (roomRows t message) r e
+
+    module _ (e : firstOf (messageRows receipt outer payload g) ≡ none) where
+      room-first : refusal ≡ firstOf (roomRows t message)
+      room-first = sound-first s ∙ first-rest (messageRows receipt outer payload g) (roomRows t message) e
+
+      pub message-fits : hasRoom t message ≡ true → refusal ≡ none
+      unfolding roomRows firstOf
+      message-fits h = room-first ∙ rw h
+
+      pub message-full : hasRoom t message ≡ false → refusal ≡ some NoFreeSlot
+      unfolding roomRows firstOf
+      message-full h = room-first ∙ rw h
 
   -- no row holds
   module _ (e : refusal ≡ none) where

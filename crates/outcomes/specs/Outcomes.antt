@@ -1,0 +1,65 @@
+-- What the contracts of the public functions ask of an outcome: of the answer r, and of what the memory lent for writing holds afterwards. Each is
+-- the list of what a contract ensures, clause by clause, in the words of the sources; that the contract is this list is shown in proofs/Contracts.
+--     Meets                              an outcome of a function that is lent memory for writing: two equations
+--     Number, Index, Check               number, index, check
+--     Process, Entry                     process, entry
+--     Recommend, TargetPart, TargetKey   recommend, target_part, target_key
+--     WriteAutocrypt, WriteGossip        write_autocrypt, write_gossip
+use Prim.Native.Nat.{ℕ}
+use mathlib.Core.Path.{_≡_}
+use mathlib.Core.Bool.{Bool, false}
+use mathlib.Core.List.{List, [], _∷_}
+use lib.ListN.{length}
+use Rattle.advice.specs.Places.{octetsAt}
+use Rattle.advice.specs.declared.Part.{Part}
+use Rattle.refusals.specs.Refusals.{numberOf, indexOf}
+use Rattle.refusals.specs.Rows.{firstOf, answerOf}
+use Rattle.refusals.specs.declared.Refusal.{Refusal}
+use Rattle.refusals.specs.declared.Answer.{Answer}
+use Rattle.inspect.specs.Inspecting.{tableRows, refusedShowing, leftByShowing}
+use Rattle.process.specs.Processing.{refusedProcessing, leftByProcessing}
+use Rattle.process.specs.declared.Gossip.{Gossip}
+use Rattle.recommend.specs.Recommending.{recommendedOf, targetPartOf, targetKeyOf}
+use Rattle.recommend.specs.declared.Recommended.{Recommended}
+use Rattle.write.specs.Writing.{autocryptName, gossipName, writtenOf, leftByWriting}
+use Rattle.write.specs.declared.Written.{Written}
+
+-- the answer and the memory that are promised, and those that are given
+abbrev pub Meets : {A : Type 0} → A → List ℕ → A → List ℕ → List (Type 0)
+Meets answer memory r left = (r ≡ answer) ∷ (left ≡ memory) ∷ []
+
+abbrev pub Number : Refusal → ℕ → List (Type 0)
+Number refusal r = (r ≡ numberOf refusal) ∷ []
+
+abbrev pub Index : Refusal → ℕ → List (Type 0)
+Index refusal r = (r ≡ indexOf refusal) ∷ []
+
+abbrev pub Check : List ℕ → Answer → List (Type 0)
+Check table r = (r ≡ answerOf (firstOf (tableRows table))) ∷ []
+
+abbrev pub Process : List ℕ → ℕ → List ℕ → List ℕ → Gossip → Answer → List ℕ → List (Type 0)
+Process table receipt outer payload gossip r left =
+    Meets (answerOf (refusedProcessing table receipt outer payload gossip)) (leftByProcessing table receipt outer payload gossip) r left
+
+-- the numbers that are lent, and those that are left
+abbrev pub Entry : List ℕ → ℕ → List ℕ → Answer → List ℕ → List (Type 0)
+Entry table slot numbers r left = Meets (answerOf (refusedShowing table (length numbers))) (leftByShowing table slot numbers) r left
+
+abbrev pub Recommend : List ℕ → List ℕ → Bool → Bool → Recommended → List (Type 0)
+Recommend table recipients isMutual reply r = (r ≡ recommendedOf table recipients isMutual reply) ∷ []
+
+abbrev pub TargetPart : List ℕ → List ℕ → Bool → Bool → ℕ → Part → List (Type 0)
+TargetPart table recipients isMutual reply place r = (r ≡ targetPartOf table recipients place) ∷ []
+
+-- the octets of the part that is handed back: what they are, and which of the table's they are
+abbrev pub TargetKey : List ℕ → List ℕ → Bool → Bool → ℕ → List ℕ → List (Type 0)
+TargetKey table recipients isMutual reply place r =
+    (r ≡ targetKeyOf table recipients place) ∷ (r ≡ octetsAt table (targetPartOf table recipients place)) ∷ []
+
+abbrev pub WriteAutocrypt : List ℕ → List ℕ → Bool → List ℕ → Written → List ℕ → List (Type 0)
+WriteAutocrypt address key isMutual out r left =
+    Meets (writtenOf autocryptName address isMutual key (length out)) (leftByWriting autocryptName address isMutual key out) r left
+
+abbrev pub WriteGossip : List ℕ → List ℕ → List ℕ → Written → List ℕ → List (Type 0)
+WriteGossip address key out r left =
+    Meets (writtenOf gossipName address false key (length out)) (leftByWriting gossipName address false key out) r left

@@ -1,0 +1,47 @@
+-- What the contracts of the functions of include/vienghulac.h ask of an outcome, in the words of cabi/src: as in Outcomes.antt, with the answers in
+-- numbers.
+--     VienghulacCheck, VienghulacProcess                 vienghulac_check, vienghulac_process
+--     VienghulacEntry                                    vienghulac_entry
+--     VienghulacRecommend, VienghulacTargetKey           vienghulac_recommend, vienghulac_target_key
+--     VienghulacWriteAutocrypt, VienghulacWriteGossip    vienghulac_write_autocrypt, vienghulac_write_gossip
+use Prim.Native.Nat.{ℕ}
+use mathlib.Core.Path.{_≡_}
+use mathlib.Core.Bool.{Bool, false}
+use mathlib.Core.List.{List, [], _∷_}
+use lib.ListN.{length}
+use Rattle.refusals.specs.Rows.{firstOf, answerOf}
+use Rattle.inspect.specs.Inspecting.{tableRows, refusedShowing, leftByShowing}
+use Rattle.process.specs.Processing.{refusedProcessing, leftByProcessing}
+use Rattle.recommend.specs.Recommending.{recommendedOf, targetPartOf}
+use Rattle.write.specs.Writing.{autocryptName, gossipName, writtenOf, leftByWriting}
+use Rattle.cabi.specs.Numbers.{inNumbers, writtenInNumbers, settingOf, adviceInNumbers, partInNumbers}
+use Rattle.cabi.specs.declared.numbers.Answer.{Answer}
+use Rattle.cabi.specs.declared.numbers.Advice.{Advice}
+use Rattle.cabi.specs.declared.numbers.Part.{Part}
+use Rattle.cabi.specs.declared.numbers.Written.{Written}
+use Rattle.outcomes.specs.Outcomes.{Meets}
+
+abbrev pub VienghulacCheck : List ℕ → Answer → List (Type 0)
+VienghulacCheck table r = (r ≡ inNumbers (answerOf (firstOf (tableRows table)))) ∷ []
+
+abbrev pub VienghulacProcess : List ℕ → ℕ → List ℕ → List ℕ → ℕ → Answer → List ℕ → List (Type 0)
+VienghulacProcess table receipt outer payload gossip r left =
+    Meets (inNumbers (answerOf (refusedProcessing table receipt outer payload (settingOf gossip))))
+    (leftByProcessing table receipt outer payload (settingOf gossip)) r left
+
+abbrev pub VienghulacEntry : List ℕ → ℕ → List ℕ → Answer → List ℕ → List (Type 0)
+VienghulacEntry table slot numbers r left = Meets (inNumbers (answerOf (refusedShowing table (length numbers)))) (leftByShowing table slot numbers) r left
+
+abbrev pub VienghulacRecommend : List ℕ → List ℕ → Bool → Bool → Advice → List (Type 0)
+VienghulacRecommend table recipients isMutual reply r = (r ≡ adviceInNumbers (recommendedOf table recipients isMutual reply)) ∷ []
+
+abbrev pub VienghulacTargetKey : List ℕ → List ℕ → Bool → Bool → ℕ → Part → List (Type 0)
+VienghulacTargetKey table recipients isMutual reply place r = (r ≡ partInNumbers (targetPartOf table recipients place)) ∷ []
+
+abbrev pub VienghulacWriteAutocrypt : List ℕ → List ℕ → Bool → List ℕ → Written → List ℕ → List (Type 0)
+VienghulacWriteAutocrypt address key isMutual out r left =
+    Meets (writtenInNumbers (writtenOf autocryptName address isMutual key (length out))) (leftByWriting autocryptName address isMutual key out) r left
+
+abbrev pub VienghulacWriteGossip : List ℕ → List ℕ → List ℕ → Written → List ℕ → List (Type 0)
+VienghulacWriteGossip address key out r left =
+    Meets (writtenInNumbers (writtenOf gossipName address false key (length out))) (leftByWriting gossipName address false key out) r left

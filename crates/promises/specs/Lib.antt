@@ -1,9 +1,0 @@
-pub mod RoundTrip
-pub mod Standing
-pub mod Outcomes
-pub mod OutcomesInC
-pub mod Contracts
-pub mod Examples
-pub mod Brought
-pub mod Fetching
-pub mod Calls

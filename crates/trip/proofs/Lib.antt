@@ -1,0 +1,10 @@
+pub mod Among
+pub mod Folded
+pub mod HandedOut
+pub mod Holding
+pub mod RoundTrip
+pub mod Standing
+pub mod Through
+pub mod WholeTrip
+pub mod Worked
+pub mod WorkedTrip

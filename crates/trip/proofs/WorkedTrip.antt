@@ -1,0 +1,123 @@
+-- The round trip with the paper's field: written for A@B.example, mutual, key `foo`, sent from there and processed on one free slot at the time
+-- 1000. All premises hold by computing, and so the entry is as the theorem says. Assumes nothing.
+--     sound, in-order, room, done        no row holds: the answer is 0
+--     foo-is-there, foo-is-handed-out    the entry afterwards, and the key to encrypt to
+use Prim.Native.Nat.{ℕ, zero, suc}
+use mathlib.Core.Path.{_≡_, refl, ap, _∙_}
+use mathlib.Core.Bool.{true}
+use mathlib.Core.List.{List, [], _∷_}
+use mathlib.Core.Option.{some, none}
+use native.Mathlib.Omega.{arith}
+use borrow.Author.Tests.{leb-true}
+use lib.Dec.{leb}
+use lib.ListN.{replicate}
+use Rattle.octets.specs.Octets as octets
+use Rattle.octets.specs.Octets.{ascii, AllOctets}
+use Rattle.octets.specs.Numbers.{number}
+use Rattle.octets.proofs.Joined.{replicate-octets}
+use Rattle.tokens.specs.Tokens as tokens
+use Rattle.base64.specs.Base64 as base64
+use Rattle.header.specs.Header as header
+use Rattle.header.specs.Blocks.{isRaw}
+use Rattle.address.specs.Pieces as pieces
+use Rattle.address.specs.Pieces.{every}
+use Rattle.address.specs.Address as address
+use Rattle.address.proofs.Every.{and-left, and-right}
+use Rattle.list.specs.List as list
+use Rattle.list.specs.Answers as answers
+use Rattle.date.specs.Date as date
+use Rattle.keyfield.specs.Field as keyfield
+use Rattle.writer.specs.Writing as writer
+use Rattle.slots.specs.Slot as slots
+use Rattle.table.specs.Table as table
+use Rattle.table.specs.Entries.{entryIn}
+use Rattle.table.specs.declared.Checked.the-variants.{Sound}
+use Rattle.update.specs.Update as update
+use Rattle.update.specs.Message as brought
+use Rattle.fields.specs.Fields as fields
+use Rattle.outer.specs.Outer as outer-specs
+use Rattle.keys.specs.Keys as keys
+use Rattle.delivery.specs.Delivery as delivery
+use Rattle.refusals.specs.Rows.{firstOf, answerOf}
+use Rattle.refusals.specs.declared.Answer.the-variants.{Done, Refused}
+use Rattle.refusals.proofs.Rows.{done-is}
+use Rattle.process.specs.Processing as process
+use Rattle.process.specs.Processing.{messageRows, messageOf, refusedProcessing, leftByProcessing}
+use Rattle.process.specs.declared.Gossip.the-variants.{Unset}
+use Rattle.process.proofs.Outcomes.{message-fits}
+use Rattle.recommend.specs.Recommending.{targetKeyOf}
+use Rattle.write.specs.Writing.{autocryptField}
+use Rattle.trip.specs.RoundTrip.{one, none as no-lines, Writable, Holding, behind, others}
+use Rattle.trip.specs.Standing.{directHalf}
+use Rattle.trip.proofs.WholeTrip.{autocrypt-processed}
+use Rattle.trip.proofs.HandedOut.{key-handed-out}
+
+-- octets that a test finds to be octets
+pub tested : (s : List ℕ) → every (λ x. leb x 255) s ≡ true → AllOctets s
+unfolding pieces.every
+tested [] e i = omega arith
+tested (x ∷ s) e zero = let l = leb-true x 255 (and-left (leb x 255) (every (λ y. leb y 255) s) e) in omega arith
+tested (x ∷ s) e (suc i) = tested s (and-right (leb x 255) (every (λ y. leb y 255) s) e) i
+
+abbrev pub free : List ℕ
+free = replicate 4392 0
+
+abbrev address-given : List ℕ
+address-given = ascii "A@B.example"
+
+abbrev front : List ℕ
+front = ascii "From: A@B.example\r\n"
+
+abbrev outer : List ℕ
+outer = ascii "From: A@B.example\r\nAutocrypt: addr=a@b.example; prefer-encrypt=mutual; keydata=\r\n Zm9v\r\n"
+
+writable : Writable address-given (ascii "foo")
+unfolding address.plain address.localPart address.atom address.domain address.label address.labelOctet address.freeEnds pieces.every pieces.onFirst pieces.pieces pieces.before pieces.behind tokens.belongs
+writable = record { plainly = refl; octets = tested (ascii "foo") refl; limit = refl }
+
+holding : Holding outer (autocryptField address-given true (ascii "foo"))
+unfolding autocryptField writer.written writer.fieldText writer.preference address.canonical octets.lowered octets.lower base64.encode base64.letter base64.lines base64.laid header.belongs header.runLength header.closes header.ofEnding header.unfolded isRaw
+holding =
+    record {
+      front = front;
+      before = record { name = ascii "From"; value = ascii " A@B.example" } ∷ [];
+      whole-fields = one (ascii "From") (ascii " A@B.example\r\n") [] [] refl (omega arith) refl no-lines;
+      rest = [];
+      no-continuation = refl;
+      is = refl;
+    }
+
+sound : table.checked free ≡ Sound
+unfolding table.checked table.whole table.slots table.judged table.right table.slotAt slots.free octets.allZero
+sound = refl
+
+in-order : firstOf (messageRows 1000 outer [] Unset) ≡ none
+unfolding header.isSome octets.sameOctets octets.sameName octets.lowered octets.lower header.fieldsOf header.fields header.fieldsWithin header.inFront header.unfolded header.over header.ofEnding header.opensField header.runLength header.rawLength header.belongs header.closes header.isReport list.openingOf list.holdsAt list.runToken list.quotedToken list.tokenAt list.firstToken list.afterAddress list.after list.inFront list.listedBy list.listed list.addresses answers.onlyOf address.addressOctet address.plain address.localPart address.atom address.domain address.label address.labelOctet address.freeEnds address.canonical pieces.every pieces.onFirst pieces.pieces pieces.before pieces.behind pieces.run tokens.blank tokens.past tokens.kindOf tokens.control tokens.belongs tokens.afterQuote fields.readFields fields.fieldsIn fields.isKind fields.valuesOf fields.onlyValue outer-specs.canonicalOf outer-specs.senderBy outer-specs.senderIn outer-specs.anyReport outer-specs.isReported process.taken process.hasSender messageRows firstOf
+in-order = refl
+
+sender-is : outer-specs.senderIn (fields.fieldsIn outer) ≡ some (ascii "a@b.example")
+unfolding octets.sameOctets octets.sameName octets.lowered octets.lower header.fieldsOf header.fields header.fieldsWithin header.inFront header.unfolded header.over header.ofEnding header.opensField header.runLength header.rawLength header.belongs header.closes header.isReport list.openingOf list.holdsAt list.runToken list.quotedToken list.tokenAt list.firstToken list.afterAddress list.after list.inFront list.listedBy list.listed list.addresses answers.onlyOf address.addressOctet address.plain address.localPart address.atom address.domain address.label address.labelOctet address.freeEnds address.canonical pieces.every pieces.onFirst pieces.pieces pieces.before pieces.behind pieces.run tokens.blank tokens.past tokens.kindOf tokens.control tokens.belongs tokens.afterQuote fields.readFields fields.fieldsIn fields.isKind fields.valuesOf fields.onlyValue outer-specs.canonicalOf outer-specs.senderBy outer-specs.senderIn outer-specs.anyReport outer-specs.isReported
+sender-is = refl
+
+room-for : brought.hasRoom free (delivery.messageBy 1000 (ascii "a@b.example") (fields.fieldsIn outer) []) ≡ true
+unfolding brought.hasRoom brought.newcomers brought.addressesOf brought.gossipAddresses delivery.messageBy keys.accepted keys.gossipIn fields.valuesOf table.found table.lowest table.holds table.freeCount table.howMany table.unused table.slots table.slotAt slots.marked slots.addressOf number octets.sameOctets list.among
+room-for = refl
+
+room : brought.hasRoom free (messageOf 1000 outer [] Unset) ≡ true
+unfolding messageOf process.senderOr process.payloadIn process.taken fields.fieldsIn fields.readFields header.fieldsOf header.fields header.fieldsWithin header.over
+room = rw sender-is room-for
+
+done : answerOf (refusedProcessing free 1000 outer [] Unset) ≡ Done
+done = done-is Refused Done (refusedProcessing free 1000 outer [] Unset) (message-fits free 1000 outer [] Unset sound in-order room)
+
+foo-is-there : directHalf (entryIn (leftByProcessing free 1000 outer [] Unset) (ascii "a@b.example"))
+    ≡ some (record { timestamp = 1000; key = ascii "foo"; «mutual» = true })
+unfolding holding others behind directHalf entryIn update.younger table.found table.lowest table.holds table.slots table.slotAt slots.marked slots.addressOf number octets.sameOctets octets.sameName octets.lowered octets.lower header.fieldsOf header.fields header.fieldsWithin header.inFront header.unfolded header.over header.ofEnding header.opensField header.runLength header.rawLength header.belongs header.closes list.openingOf list.holdsAt list.runToken list.quotedToken list.tokenAt list.firstToken list.afterAddress list.after list.inFront list.listedBy list.listed list.addresses answers.onlyOf address.addressOctet address.plain address.localPart address.atom address.domain address.label address.labelOctet address.freeEnds address.canonical pieces.every pieces.onFirst pieces.pieces pieces.before pieces.behind pieces.run tokens.blank tokens.past tokens.kindOf tokens.control tokens.belongs tokens.afterQuote date.effectiveDate keyfield.validFields fields.readFields fields.fieldsIn fields.isKind fields.valuesOf fields.onlyValue outer-specs.canonicalOf outer-specs.senderBy outer-specs.senderIn outer-specs.dateBy outer-specs.dateIn
+foo-is-there =
+    let h = autocrypt-processed free 1000 outer [] Unset (replicate-octets 4392 0 (omega arith)) (tested outer refl) (tested [] refl) done address-given (ascii "foo") true writable holding refl refl in
+    ap directHalf (h .there) ∙ h .set refl
+
+foo-is-handed-out : targetKeyOf (leftByProcessing free 1000 outer [] Unset) address-given 0 ≡ ascii "foo"
+unfolding holding others behind directHalf entryIn update.younger table.found table.lowest table.holds table.slots table.slotAt slots.marked slots.addressOf number octets.sameOctets octets.sameName octets.lowered octets.lower header.fieldsOf header.fields header.fieldsWithin header.inFront header.unfolded header.over header.ofEnding header.opensField header.runLength header.rawLength header.belongs header.closes list.openingOf list.holdsAt list.runToken list.quotedToken list.tokenAt list.firstToken list.afterAddress list.after list.inFront list.listedBy list.listed list.addresses answers.onlyOf address.addressOctet address.plain address.localPart address.atom address.domain address.label address.labelOctet address.freeEnds address.canonical pieces.every pieces.onFirst pieces.pieces pieces.before pieces.behind pieces.run tokens.blank tokens.past tokens.kindOf tokens.control tokens.belongs tokens.afterQuote date.effectiveDate keyfield.validFields fields.readFields fields.fieldsIn fields.isKind fields.valuesOf fields.onlyValue outer-specs.canonicalOf outer-specs.senderBy outer-specs.senderIn outer-specs.dateBy outer-specs.dateIn
+foo-is-handed-out =
+    key-handed-out free 1000 outer [] Unset (replicate-octets 4392 0 (omega arith)) (tested outer refl) (tested [] refl) done address-given (ascii "foo") true writable holding refl refl refl
