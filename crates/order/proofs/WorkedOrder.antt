@@ -91,7 +91,7 @@ pub record Reads (c : Call) (m : Message) : Type 0 where
   pub brings : messageOf (c .receipt) (c .outer) (c .payload) (c .setting) ≡ m
 
 reads : Reads older (bringing "foo" 1000) × Reads younger (bringing "bar" 2000)
-unfolding messageRows messageOf firstOf processing.hasSender processing.senderOr processing.payloadIn processing.taken delivery.messageBy delivery.directBy bind octets.lower octets.lowered octets.sameName octets.sameOctets octets.startsWith tokens.blank tokens.past tokens.kindOf tokens.control tokens.belongs tokens.runLength tokens.afterQuote base64.decode base64.follow base64.before base64.atEnd base64.grouped base64.closed base64.signOf base64.without base64.blank header.fieldsOf header.fields header.fieldsWithin header.inFront header.unfolded header.over header.ofEnding header.opensField header.runLength header.rawLength header.belongs header.closes header.isReport pieces.every pieces.onFirst pieces.pieces pieces.before pieces.behind pieces.run address.addressOctet address.atom address.localPart address.labelOctet address.freeEnds address.label address.domain address.plain address.canonical list.openingOf list.holdsAt list.runToken list.quotedToken list.tokenAt list.firstToken list.afterAddress list.after list.inFront list.listedBy list.listed list.addresses answered.onlyOf date.effectiveDate keyfield.trimmedFront keyfield.trimmedBack keyfield.trimmed keyfield.nameOf keyfield.attribute keyfield.holds keyfield.attributeOf keyfield.withAddress keyfield.withPreference keyfield.step keyfield.saidWith keyfield.ifLast keyfield.saidFrom keyfield.saidOf keyfield.limited keyfield.keyOf keyfield.withKey keyfield.fieldBy keyfield.fieldOf keyfield.naming keyfield.validFields keyfield.onlyOne keyfield.counted fields.readFields fields.fieldsIn fields.isKind fields.valuesOf fields.onlyValue outer-specs.canonicalOf outer-specs.senderBy outer-specs.senderIn outer-specs.anyReport outer-specs.isReported outer-specs.dateBy outer-specs.dateIn keys.countedIn keys.accepted keys.gossipIn
+unfolding messageRows messageOf firstOf header.isSome processing.hasSender processing.senderOr processing.payloadIn processing.taken delivery.messageBy delivery.directBy bind octets.lower octets.lowered octets.sameName octets.sameOctets octets.startsWith tokens.blank tokens.past tokens.kindOf tokens.control tokens.belongs tokens.runLength tokens.afterQuote base64.decode base64.follow base64.before base64.atEnd base64.grouped base64.closed base64.signOf base64.without base64.blank header.fieldsOf header.fields header.fieldsWithin header.inFront header.unfolded header.over header.ofEnding header.opensField header.runLength header.rawLength header.belongs header.closes header.isReport pieces.every pieces.onFirst pieces.pieces pieces.before pieces.behind pieces.run address.addressOctet address.atom address.localPart address.labelOctet address.freeEnds address.label address.domain address.plain address.canonical list.openingOf list.holdsAt list.runToken list.quotedToken list.tokenAt list.firstToken list.afterAddress list.after list.inFront list.listedBy list.listed list.addresses answered.onlyOf date.effectiveDate keyfield.trimmedFront keyfield.trimmedBack keyfield.trimmed keyfield.nameOf keyfield.attribute keyfield.holds keyfield.attributeOf keyfield.withAddress keyfield.withPreference keyfield.step keyfield.saidWith keyfield.ifLast keyfield.saidFrom keyfield.saidOf keyfield.limited keyfield.keyOf keyfield.withKey keyfield.fieldBy keyfield.fieldOf keyfield.naming keyfield.validFields keyfield.onlyOne keyfield.counted fields.readFields fields.fieldsIn fields.isKind fields.valuesOf fields.onlyValue outer-specs.canonicalOf outer-specs.senderBy outer-specs.senderIn outer-specs.anyReport outer-specs.isReported outer-specs.dateBy outer-specs.dateIn keys.countedIn keys.accepted keys.gossipIn
 reads = (record { in-order = refl; brings = refl }, record { in-order = refl; brings = refl })
 
 free-octets : AllOctets free
