@@ -183,19 +183,18 @@ pub no-row : {A : Type 0} (f : Refusal → A) (d x : A) → x ≡ d → x ≡ an
 unfolding firstOf answeredBy
 no-row f d x e = e
 
-pub ruleset rows =
-    (
-      when-refuses,
-      when-passes,
-      unless-refuses,
-      unless-passes,
-      told-refuses,
-      told-passes,
-      denied-refuses,
-      denied-passes,
-      front-refuses,
-      front-passes,
-      no-row,
-      not-denied,
-      needs,
-    )
+pub ruleset rows = (
+  when-refuses,
+  when-passes,
+  unless-refuses,
+  unless-passes,
+  told-refuses,
+  told-passes,
+  denied-refuses,
+  denied-passes,
+  front-refuses,
+  front-passes,
+  no-row,
+  not-denied,
+  needs,
+)

@@ -22,12 +22,10 @@ pub data Row : Type 0 where
   _when_ : Refusal → Bool → Row
 
 infix 30 _when_
-
 abbrev pub _unless_ : Refusal → Bool → Row
 r unless b = r when (not b)
 
 infix 30 _unless_
-
 unfoldable pub firstOf : List Row → Option Refusal
 firstOf [] = none
 firstOf ((r when b) ∷ rest) = elim b [ true ↦ some r | false ↦ firstOf rest ]
