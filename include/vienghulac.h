@@ -16,18 +16,18 @@
  * memory as it was:
  *
  *      0   done
- *      1   the table's length is not 1 to 256 whole slots
- *      2   a slot of the table is neither free nor sound; the lowest such index is answered with it
- *      3   the receipt time is above 253,402,300,799
- *      4   the outer header block is unreadable
- *      5   there is not exactly one From field, or it is not a readable list of exactly one address
+ *      1   table length isn't 1 to 256 whole slots
+ *      2   a slot is neither free nor sound; the lowest such index is answered with it
+ *      3   receipt time above the limit; it is 253,402,300,799, the last second of the year 9999
+ *      4   outer header block unreadable
+ *      5   not exactly one From field, or it isn't a readable list of exactly one address
  *      6   a Content-Type is multipart/report
  *      7   gossip is taken and the payload block is unreadable
- *      8   there are more new addresses than free slots
- *      9   the address argument is not one plain address
- *     10   the recipient list is unreadable, or has not 1 to 100 addresses
- *     11   the key argument is not 1 to 2,048 octets long
- *     12   the output is shorter than the field, or fewer than VIENGHULAC_NUMBERS numbers are lent
+ *      8   more new addresses than free slots
+ *      9   own address argument isn't one plain address
+ *     10   recipient list unreadable, or not 1 to 100 addresses
+ *     11   key argument isn't 1 to 2,048 octets
+ *     12   output shorter than the field, or fewer than 11 numbers lent
  *
  * Where more than one of them holds, the number that stands first in this list is given.
  *

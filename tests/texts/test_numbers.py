@@ -34,7 +34,7 @@ class Header(unittest.TestCase):
         self.assertEqual(macro("VIENGHULAC_NUMBERS"), defined("shownCount", "entry/specs/Shown.antt"))
 
     def test_field(self):
-        self.assertEqual(macro("VIENGHULAC_FIELD"), defined("fieldRoom", "autocrypt/specs/Writing.antt"))
+        self.assertEqual(macro("VIENGHULAC_FIELD"), defined("fieldRoom", "write/specs/Writing.antt"))
 
 
 if __name__ == "__main__":
