@@ -28,7 +28,8 @@ pub extern "C" fn vienghulac_process(
     payload: &[u8],
     gossip: u8,
 ) -> Answer
-    ensures { λ r. ⌜ r ≡ inNumbers (answerOf (refusedProcessing (now (table .entry)) receipt (now (outer .entry)) (now (payload .entry)) (settingOf gossip))) ⌝ }
+    ensures { λ r. ⌜ r
+        ≡ inNumbers (answerOf (refusedProcessing (now (table .entry)) receipt (now (outer .entry)) (now (payload .entry)) (settingOf gossip))) ⌝ }
     ensures { λ _. ⌜ now (table .exit) ≡ leftByProcessing (now (table .entry)) receipt (now (outer .entry)) (now (payload .entry)) (settingOf gossip) ⌝ }
 {
     let setting = setting_of(gossip);
