@@ -1,3 +1,5 @@
+pub mod Tests
+pub mod Every
 pub mod Lists
 pub mod Writing
 pub mod Letters

@@ -1,6 +1,8 @@
--- Runs of octets, as paper 01 speaks of them: texts in ASCII, equality, names without regard to ASCII case, runs of zeros.
+-- Octets and lists of them, as paper 01 speaks of them: texts in ASCII, blanks, equality, names without regard to ASCII case, zeros.
 --     ascii        the octets of a text that is written out
 --     octet        the octet of one character that is written out
+--     space .. lf  octets that have names
+--     blank        a space or a tab
 --     AllOctets    each element is an octet
 --     sameOctets   the two lists are equal, as a test
 --     lower        "lower-cases ASCII letters .. and keeps all else", one octet
@@ -11,7 +13,7 @@
 use Prim.Native.Nat.{ℕ, _+_, _<_}
 use Prim.Native.Char.{Char, code}
 use Prim.Native.String.{String, [] as no-more, _∷_ as _then_}
-use mathlib.Core.Bool.{Bool, true, false, cond, _&&_}
+use mathlib.Core.Bool.{Bool, true, false, cond, _&&_, _||_}
 use mathlib.Core.List.{List, [], _∷_, map}
 use lib.Dec.{leb, eqb}
 use lib.ListN.{getD}
@@ -22,6 +24,22 @@ ascii (c then rest) = code c ∷ ascii rest
 
 abbrev pub octet : Char → ℕ
 octet c = code c
+
+abbrev pub space : ℕ
+space = octet " "
+
+abbrev pub tab : ℕ
+tab = octet "\t"
+
+abbrev pub cr : ℕ
+cr = octet "\r"
+
+abbrev pub lf : ℕ
+lf = octet "\n"
+
+-- "spaces and tabs"
+unfoldable pub blank : ℕ → Bool
+blank x = eqb x space || eqb x tab
 
 abbrev pub AllOctets : List ℕ → Type 0
 AllOctets s = (i : ℕ) → getD s i 0 < 256
