@@ -15,7 +15,8 @@ use borrow.Author.Tests.{eqb-true, eq-eqb, ne-eqb, not-true, not-false}
 use lib.Dec.{eqb}
 use lib.ListN.{length, getD, drop}
 use Rattle.octets.proofs.Lists.{drop-one, drop-done}
-use Rattle.base64.specs.Base64.{signOf, without, blank, withoutBlanks}
+use Rattle.octets.specs.Octets.{blank}
+use Rattle.base64.specs.Base64.{signOf, without, withoutBlanks}
 use Rattle.base64.specs.Steps.{NextPlace, NextLetter}
 use Rattle.base64.specs.declared.Sign.the-variants.{Other}
 use Rattle.base64.specs.declared.Letter.the-variants.{End, At}

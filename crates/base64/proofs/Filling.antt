@@ -16,9 +16,10 @@ use borrow.Author.Tests.{le-leb, lt-leb}
 use lib.ListN.{length, drop, set, length-append, length-set}
 use Rattle.octets.specs.Written.{putAt, onto}
 use Rattle.octets.proofs.Lists.{drop-done}
+use Rattle.octets.specs.Octets.{blank}
 use Rattle.base64.proofs.Blanks.{without-none}
 use Rattle.base64.proofs.Putting.{put-long, put-both, over-none, over-one, over-two}
-use Rattle.base64.specs.Base64.{before, decode, blank, withoutBlanks}
+use Rattle.base64.specs.Base64.{before, decode, withoutBlanks}
 use Rattle.base64.specs.Answers.{decodedOf, octetsIn, Decodes}
 use Rattle.base64.specs.Steps.{NextPlace, NextGroup, WholeGroup, Run, NoneFit, Onward, TurnedTo, Turned}
 use Rattle.base64.proofs.Nexts.{nearer-whole, read-whole, read-three, read-two, read-one, read-end, read-broken}

@@ -14,9 +14,10 @@ use native.Mathlib.Omega.{arith}
 use borrow.Author.Needs.{needs}
 use lib.ListN.{length, getD, drop}
 use Rattle.octets.proofs.Lists.{drop-one}
+use Rattle.octets.specs.Octets.{blank}
 use Rattle.base64.proofs.Alphabet.{found-value}
 use Rattle.base64.proofs.Blanks.{without-other, blank-other}
-use Rattle.base64.specs.Base64.{signOf, closed, grouped, groupOf, before, atEnd, follow, decode, blank, withoutBlanks}
+use Rattle.base64.specs.Base64.{signOf, closed, grouped, groupOf, before, atEnd, follow, decode, withoutBlanks}
 use Rattle.base64.specs.Steps.{codeOf, NextLetter, stepOf, NextGroup, WholeGroup}
 use Rattle.base64.specs.declared.Sign.the-variants.{Value}
 use Rattle.base64.specs.declared.Group.{Group}

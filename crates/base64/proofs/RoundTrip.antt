@@ -17,9 +17,9 @@ use mathlib.Core.Logic.{⊎-elim}
 use native.Mathlib.Omega.{arith}
 use borrow.Author.Tests.{eqb-true, le-ltb, ne-eqb}
 use lib.Dec.{eqb}
-use Rattle.octets.specs.Octets.{AllOctets}
+use Rattle.octets.specs.Octets.{AllOctets, blank, space}
 use Rattle.octets.proofs.Lists.{lt-or-le}
-use Rattle.base64.specs.Base64.{letter, signOf, closed, grouped, groupOf, before, atEnd, follow, decode, without, blank, withoutBlanks, encode, space, laid, lines}
+use Rattle.base64.specs.Base64.{letter, signOf, closed, grouped, groupOf, before, atEnd, follow, decode, without, withoutBlanks, encode, laid, lines}
 use Rattle.base64.specs.Joined.{ending, joined, spaced, spread, Free, Alphabetic}
 use Rattle.base64.proofs.Alphabet.{sign-of-letter}
 use Rattle.base64.proofs.Blanks.{either-other, blank-other, without-other}

@@ -5,8 +5,8 @@ use mathlib.Core.Path.{_≡_, refl}
 use mathlib.Core.List.{List, [], _++_}
 use mathlib.Core.Option.{some, none}
 use lib.ListN.{replicate}
-use Rattle.octets.specs.Octets.{ascii}
-use Rattle.base64.specs.Base64.{letter, signOf, closed, grouped, before, atEnd, follow, decode, without, blank, withoutBlanks, encode, laid, lines}
+use Rattle.octets.specs.Octets.{ascii, blank}
+use Rattle.base64.specs.Base64.{letter, signOf, closed, grouped, before, atEnd, follow, decode, without, withoutBlanks, encode, laid, lines}
 
 -- a text and what it stands for, and the octets' own text
 abbrev Vector : List ℕ → List ℕ → Type 0

@@ -8,7 +8,8 @@ use mathlib.Core.Path.{_≡_}
 use mathlib.Core.Bool.{Bool, false, _||_}
 use mathlib.Core.List.{List, [], _∷_}
 use lib.Dec.{eqb}
-use Rattle.base64.specs.Base64.{signOf, without, cr, lf, space}
+use Rattle.octets.specs.Octets.{cr, lf, space}
+use Rattle.base64.specs.Base64.{signOf, without}
 use Rattle.base64.specs.declared.Sign.the-variants.{Other}
 
 unfoldable pub ending : ℕ → Bool

@@ -17,7 +17,8 @@ use mathlib.Core.List.{List, [], _∷_}
 use mathlib.Core.Option.{Option, some, none}
 use lib.ListN.{length, getD, drop}
 use Rattle.octets.specs.Written.{putAt}
-use Rattle.base64.specs.Base64.{letter, signOf, before, decode, blank, withoutBlanks}
+use Rattle.octets.specs.Octets.{blank}
+use Rattle.base64.specs.Base64.{letter, signOf, before, decode, withoutBlanks}
 use Rattle.base64.specs.declared.Sign.{Sign}
 use Rattle.base64.specs.declared.Sign.the-variants.{Value, Pad, Other}
 use Rattle.base64.specs.declared.Group.{Group}

@@ -5,7 +5,8 @@ ghost use mathlib.Core.Path.{_≡_};
 ghost use mathlib.Core.List.{[], _∷_};
 ghost use lib.ListN.{length, drop};
 ghost use Rattle.octets.specs.Written.{putAt};
-ghost use Rattle.base64.specs.Base64.{letter, signOf, closed, groupOf, decode as octetsOf, blank, withoutBlanks};
+ghost use Rattle.octets.specs.Octets.{blank};
+ghost use Rattle.base64.specs.Base64.{letter, signOf, closed, groupOf, decode as octetsOf, withoutBlanks};
 ghost use Rattle.base64.specs.Answers.{decodedOf, Decodes};
 ghost use Rattle.base64.specs.Steps.{Letters, codeOf, Signs, Low, NextPlace, NextLetter, stepOf, NextGroup, WholeGroup, Run, Turned};
 

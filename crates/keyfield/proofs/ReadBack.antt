@@ -16,13 +16,15 @@ use native.Mathlib.Omega.{arith}
 use borrow.Author.Tests.{lt-ltb, eq-eqb, ne-eqb, not-true}
 use lib.Dec.{eqb}
 use lib.ListN.{length, length-append}
-use Rattle.octets.specs.Octets.{ascii, sameOctets}
-use Rattle.tokens.specs.Tokens.{blank, belongs}
-use Rattle.base64.specs.Base64.{without, withoutBlanks, blank as blankIn}
+use Rattle.octets.specs.Octets.{ascii, sameOctets, blank, blank as blankIn}
+use Rattle.octets.specs.Tests.{every}
+use Rattle.octets.proofs.Tests.{and-left}
+use Rattle.octets.proofs.Every.{every-weaker}
+use Rattle.runs.specs.Runs.{belongs}
+use Rattle.base64.specs.Base64.{without, withoutBlanks}
 use Rattle.base64.proofs.Blanks.{without-passing, without-other}
-use Rattle.address.specs.Pieces.{every, pieces, before, behind}
+use Rattle.address.specs.Pieces.{pieces, before, behind}
 use Rattle.address.specs.Address.{plain, canonical, addressOctet}
-use Rattle.address.proofs.Every.{and-left, every-weaker}
 use Rattle.address.proofs.Pieces.{others, before-into, behind-into, pieces-into, pieces-whole}
 use Rattle.address.proofs.Sides.{plain-octets, low-apart}
 use Rattle.keyfield.specs.Field.{trimmedFront, trimmedBack, trimmed, nameOf, addr, preferEncrypt, keydata, attribute, holds, attributeOf, on, last, withAddress, withPreference, step, saidWith, ifLast, saidFrom, saidOf, keyOf, withKey, fieldBy, fieldOf}
@@ -156,7 +158,7 @@ module _ (a text : List ℕ) (p : plain a ≡ true) (t : every (other 59) text �
       (free (λ x. not (blank x)) (λ x e. rw (apart 32 (low-apart 32 (omega arith)) x e, apart 9 (low-apart 9 (omega arith)) x e)))
 
   address-piece : every (other 59) (ascii " addr=" ++ a) ≡ true
-  unfolding every addressOctet belongs
+  unfolding every belongs
   address-piece = free (other 59) (λ x e. rw (apart 59 refl x e))
 
   key-piece : every (other 59) (ascii " keydata=" ++ text) ≡ true

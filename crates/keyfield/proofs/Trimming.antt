@@ -16,9 +16,10 @@ use native.Mathlib.Omega.{arith}
 use borrow.Author.Needs.{needs}
 use borrow.Author.Tests.{not-true, not-false}
 use lib.ListN.{length, getD}
-use Rattle.tokens.specs.Tokens.{blank}
-use Rattle.address.specs.Pieces.{every}
-use Rattle.address.proofs.Every.{and-left, and-right, every-append}
+use Rattle.octets.specs.Octets.{blank}
+use Rattle.octets.specs.Tests.{every}
+use Rattle.octets.proofs.Tests.{and-left, and-right}
+use Rattle.octets.proofs.Every.{every-append}
 use Rattle.keyfield.specs.Field.{trimmedFront, trimmedBack, trimmed}
 use Rattle.keyfield.specs.Answers.{part, Within, TrimmedFrom, TrimmedTo, Trimmed}
 use Rattle.keyfield.proofs.Parts.{part-none, part-first, part-last}

@@ -99,7 +99,7 @@ fn skip_blanks(s: &[u8], from: usize, to: usize) -> usize
 {
     let mut i = from;
     while i < to {
-        if !tokens::is_blank(s[i]) {
+        if !octets::is_blank(s[i]) {
             return i;
         }
         i += 1;
@@ -114,7 +114,7 @@ fn leave_blanks(s: &[u8], from: usize, to: usize) -> usize
 {
     let mut i = to;
     while from < i {
-        if !tokens::is_blank(s[i - 1]) {
+        if !octets::is_blank(s[i - 1]) {
             return i;
         }
         i -= 1;
