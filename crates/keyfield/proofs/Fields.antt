@@ -16,13 +16,13 @@ use native.Mathlib.Omega.{arith}
 use borrow.Author.Tests.{leb-true, le-leb, lt-ltb, ltb-true}
 use lib.Dec.{leb, ltb, eqb}
 use lib.ListN.{length, getD, List·getD-eq-default}
-use Rattle.octets.specs.Octets.{AllOctets, blank}
+use Rattle.octets.specs.Octets.{AllOctets, blank, withoutBlanks}
 use Rattle.octets.proofs.Lists.{lt-or-le}
 use Rattle.octets.specs.Tests.{every, oneTo}
 use Rattle.octets.proofs.Tests.{by-test, and-left, and-right}
 use Rattle.octets.proofs.Every.{every-at}
-use Rattle.base64.specs.Base64.{decode, withoutBlanks}
-use Rattle.base64.proofs.Answered.{decode-octets}
+use Rattle.letters.specs.Base64.{decode}
+use Rattle.letters.proofs.Standing.{decode-octets}
 use Rattle.address.specs.Pieces.{onFirst, pieces, before, behind}
 use Rattle.address.specs.Address.{plain, canonical, isCanonical}
 use Rattle.address.proofs.Pieces.{others, pieces-first}

@@ -20,10 +20,12 @@ use Rattle.octets.proofs.Tests.{and-left, and-right}
 use Rattle.octets.proofs.Every.{every-append, every-weaker}
 use Rattle.runs.specs.Runs.{belongs, runLength, run}
 use Rattle.runs.specs.declared.Class.the-variants.{Name, Blank}
-use Rattle.base64.specs.Base64.{signOf, encode, lines}
-use Rattle.base64.specs.Joined.{ending, spread, Free}
-use Rattle.base64.proofs.Lengths.{length-encode}
-use Rattle.base64.proofs.RoundTrip.{encode-free, ending-other, one-other, spread-free, spread-read-back}
+use Rattle.letters.specs.Base64.{signOf, encode}
+use Rattle.letters.specs.Alphabetic.{Free}
+use Rattle.letters.proofs.Lengths.{length-encode}
+use Rattle.letters.proofs.Alphabetic.{encode-free, one-other}
+use Rattle.lines.specs.Lines.{lines, ending, spread}
+use Rattle.lines.proofs.Joined.{ending-other, spread-free, spread-read-back}
 use Rattle.address.specs.Address.{plain, canonical, addressOctet}
 use Rattle.address.proofs.Sides.{plain-octets, low-apart}
 use Rattle.address.proofs.Spelling.{canonical-twice, plain-canonical}

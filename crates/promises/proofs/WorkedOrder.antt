@@ -24,7 +24,7 @@ use Rattle.octets.proofs.Joined.{replicate-octets}
 use Rattle.octets.specs.Tests as tests
 use Rattle.runs.specs.Runs as runs
 use Rattle.tokens.specs.Tokens as tokens
-use Rattle.base64.specs.Base64 as base64
+use Rattle.letters.specs.Base64 as base64
 use Rattle.header.specs.Header as header
 use Rattle.address.specs.Pieces as pieces
 use Rattle.address.specs.Address as address
@@ -89,7 +89,7 @@ abbrev read : Call → Brought
 read c = broughtBy (c .receipt) (c .outer) (c .payload) (c .setting)
 
 reads : (read older ≡ brings (bringing "foo" 1000)) × (read younger ≡ brings (bringing "bar" 2000))
-unfolding broughtBy processing.withOuter processing.withSender processing.withPayload processing.payloadFields processing.taken delivery.messageBy delivery.directBy bind octets.lower octets.lowered octets.sameName octets.sameOctets octets.startsWith blank tokens.past tokens.kindOf tokens.control runs.belongs runs.run tokens.afterQuote base64.decode base64.follow base64.before base64.atEnd base64.grouped base64.closed base64.signOf base64.without header.fieldsOf header.fields header.fieldsWithin header.inFront header.unfolded header.over header.ofEnding header.opensField header.rawLength header.closes header.isReport tests.every pieces.onFirst pieces.pieces pieces.before pieces.behind address.atom address.localPart address.freeEnds address.label address.domain address.plain address.canonical list.openingOf list.holdsAt list.runToken list.quotedToken list.tokenAt list.firstToken list.afterAddress list.after list.inFront list.listedBy list.listed list.addresses answered.onlyOf date.effectiveDate keyfield.trimmedFront keyfield.trimmedBack keyfield.trimmed keyfield.nameOf keyfield.attribute keyfield.holds keyfield.attributeOf keyfield.withAddress keyfield.withPreference keyfield.step keyfield.saidWith keyfield.ifLast keyfield.saidFrom keyfield.saidOf keyfield.limited keyfield.keyOf keyfield.withKey keyfield.fieldBy keyfield.fieldOf keyfield.naming keyfield.validFields keyfield.onlyOne keyfield.counted fields.readFields fields.fieldsIn fields.isKind fields.valuesOf fields.onlyValue outer-specs.canonicalOf outer-specs.senderBy outer-specs.senderIn outer-specs.anyReport outer-specs.isReported outer-specs.dateBy outer-specs.dateIn keys.countedIn keys.accepted keys.gossipIn
+unfolding broughtBy processing.withOuter processing.withSender processing.withPayload processing.payloadFields processing.taken delivery.messageBy delivery.directBy bind octets.lower octets.lowered octets.sameName octets.sameOctets octets.startsWith blank tokens.past tokens.kindOf tokens.control runs.belongs runs.run tokens.afterQuote base64.decode base64.follow base64.before base64.atEnd base64.grouped base64.closed base64.signOf tests.without header.fieldsOf header.fields header.fieldsWithin header.inFront header.unfolded header.over header.ofEnding header.opensField header.rawLength header.closes header.isReport tests.every pieces.onFirst pieces.pieces pieces.before pieces.behind address.atom address.localPart address.freeEnds address.label address.domain address.plain address.canonical list.openingOf list.holdsAt list.runToken list.quotedToken list.tokenAt list.firstToken list.afterAddress list.after list.inFront list.listedBy list.listed list.addresses answered.onlyOf date.effectiveDate keyfield.trimmedFront keyfield.trimmedBack keyfield.trimmed keyfield.nameOf keyfield.attribute keyfield.holds keyfield.attributeOf keyfield.withAddress keyfield.withPreference keyfield.step keyfield.saidWith keyfield.ifLast keyfield.saidFrom keyfield.saidOf keyfield.limited keyfield.keyOf keyfield.withKey keyfield.fieldBy keyfield.fieldOf keyfield.naming keyfield.validFields keyfield.onlyOne keyfield.counted fields.readFields fields.fieldsIn fields.isKind fields.valuesOf fields.onlyValue outer-specs.canonicalOf outer-specs.senderBy outer-specs.senderIn outer-specs.anyReport outer-specs.isReported outer-specs.dateBy outer-specs.dateIn keys.countedIn keys.accepted keys.gossipIn
 reads = (refl, refl)
 
 free-octets : AllOctets free

@@ -19,7 +19,8 @@ use Rattle.octets.specs.Tests.{every}
 use Rattle.octets.proofs.Tests.{and-left, and-right}
 use Rattle.runs.specs.Runs as runs
 use Rattle.tokens.specs.Tokens as tokens
-use Rattle.base64.specs.Base64 as base64
+use Rattle.letters.specs.Base64 as base64
+use Rattle.lines.specs.Lines as lines
 use Rattle.header.specs.Header as header
 use Rattle.header.specs.Blocks.{isRaw}
 use Rattle.address.specs.Pieces as pieces
@@ -74,7 +75,7 @@ unfolding address.plain address.localPart address.atom address.domain address.la
 writable = record { plainly = refl; octets = tested (ascii "foo") refl; limit = refl }
 
 holding : Holding outer (autocryptField address-given true (ascii "foo"))
-unfolding autocryptField writer.written writer.fieldText writer.preference address.canonical octets.lowered octets.lower base64.encode base64.letter base64.lines base64.laid runs.belongs blank runs.run header.closes header.ofEnding header.unfolded isRaw
+unfolding autocryptField writer.written writer.fieldText writer.preference address.canonical octets.lowered octets.lower base64.encode base64.letter lines.lines lines.laid runs.belongs blank runs.run header.closes header.ofEnding header.unfolded isRaw
 holding =
     record {
       front = front;
