@@ -3,7 +3,7 @@
 --     colon-fits           a colon stands below the end, so that there is a place behind it
 --     Places s at n v e    how the places of a field lie
 --     Held, held           they lie so in each answer
---     name-from .. field-less    the same as a caller asks it of an answer r: of the parts that it lends on, and of a loop's measure
+--     name-from .. field-less    the same as a caller asks it of an answer r: of the name that it lends on, and of a loop's measure
 -- Assumes nothing.
 use Prim.Native.Nat.{ℕ, _+_, _-_, _^_, _<_, _≤_}
 use mathlib.Core.Path.{_≡_, refl, sym, _∙_, subst}
@@ -14,16 +14,17 @@ use native.Mathlib.Omega.{arith}
 use borrow.Author.Needs.{needs}
 use borrow.Author.Tests.{lt-ltb, le-ltb, ltb-true, eq-eqb, ne-eqb, eqb-true}
 use lib.Dec.{ltb, eqb}
-use lib.ListN.{length, getD, take, drop, length-take, length-drop, List·getD-eq-default}
+use lib.ListN.{length, getD, drop, List·getD-eq-default}
 use lib.Seq.{getD-drop}
 use Rattle.octets.specs.Octets.{octet}
 use Rattle.octets.proofs.Lists.{lt-or-le}
-use Rattle.header.specs.Header.{over, runLength, rawLength, opensField}
+use Rattle.octets.proofs.Tests.{and-left, and-right}
+use Rattle.runs.specs.Runs.{runLength}
+use Rattle.runs.specs.declared.Class.the-variants.{Name}
+use Rattle.header.specs.Header.{over, rawLength, opensField}
 use Rattle.header.specs.Answers.{nameEnd, fieldEnd, stepAt}
-use Rattle.header.specs.declared.Class.the-variants.{Name}
 use Rattle.header.specs.declared.Step.{Step}
 use Rattle.header.specs.declared.Step.the-variants.{Over, Broken, Field}
-use Rattle.header.proofs.Telling.{both}
 use Rattle.header.proofs.Counting.{raw-upto}
 
 -- a colon stands below the end
@@ -95,9 +96,9 @@ opened : (s : List ℕ) (at : ℕ) → opensField (drop at s) ≡ true → (at <
 unfolding opensField
 opened s at o =
     let n : ℕ = runLength Name (drop at s) in
-    let p : (ltb 0 n ≡ true) × (eqb (getD (drop at s) n 0) (octet ":") ≡ true) = both (ltb 0 n) (eqb (getD (drop at s) n 0) (octet ":")) o in
-    let c : getD s (nameEnd s at) 0 ≡ octet ":" = sym (getD-drop at s n 0) ∙ eqb-true (getD (drop at s) n 0) (octet ":") (p .1) in
-    (omega (arith, ltb-true 0 n (p .0)), below-end s (nameEnd s at) c)
+    let b : Bool = eqb (getD (drop at s) n 0) (octet ":") in
+    let c : getD s (nameEnd s at) 0 ≡ octet ":" = sym (getD-drop at s n 0) ∙ eqb-true (getD (drop at s) n 0) (octet ":") (and-right (ltb 0 n) b o) in
+    (omega (arith, ltb-true 0 n (and-left (ltb 0 n) b o)), below-end s (nameEnd s at) c)
 
 pub held : (s : List ℕ) (at : ℕ) → Held s at (stepAt s at)
 held s at = go (over (drop at s)) refl (opensField (drop at s)) refl
@@ -121,16 +122,5 @@ module _ (s : List ℕ) (at n v e : ℕ) (r : Step) (t : r ≡ stepAt s at) (q :
   pub name-upto : n ≤ length s
   name-upto = omega (arith, field-places)
 
-  pub value-from : v ≤ e
-  value-from = field-places .behind
-
-  pub value-upto : e ≤ length s
-  value-upto = field-places .upto
-
-  pub value-fits : (room : ℕ) → length s ≤ room → length (take (e - v) (drop v s)) ≤ room
-  value-fits room h = simp (length-take, length-drop) (omega arith)
-
   pub field-less : length s - e < length s - at
   field-less = omega (arith, field-places)
-
-pub ruleset placing = (name-from, name-upto, value-from, value-upto, value-fits, field-less)

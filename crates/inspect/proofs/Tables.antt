@@ -18,7 +18,7 @@ use lib.Dec.{leb, eqb}
 use lib.ListN.{length}
 use mir.Syntax.{w32}
 use mir.Val.{Fits}
-use Rattle.address.proofs.Every.{and-right, by-test}
+use Rattle.octets.proofs.Tests.{and-right, by-test}
 use Rattle.refusals.specs.Rows.{Row, _when_, firstOf, answeredBy, answerOf}
 use Rattle.refusals.specs.declared.Refusal.{Refusal}
 use Rattle.refusals.specs.declared.Refusal.the-variants.{TableLength, BrokenSlot}

@@ -1,3 +1,4 @@
+pub mod Tests
 pub mod Octets
 pub mod Written
 pub mod Numbers

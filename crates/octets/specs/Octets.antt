@@ -1,6 +1,9 @@
--- Runs of octets, as paper 01 speaks of them: texts in ASCII, equality, names without regard to ASCII case, runs of zeros.
+-- Octets and lists of them, as paper 01 speaks of them: texts in ASCII, blanks, equality, names without regard to ASCII case, zeros.
 --     ascii        the octets of a text that is written out
 --     octet        the octet of one character that is written out
+--     space .. lf  octets that have names
+--     blank        a space or a tab
+--     withoutBlanks    "spaces and tabs removed"
 --     AllOctets    each element is an octet
 --     sameOctets   the two lists are equal, as a test
 --     lower        "lower-cases ASCII letters .. and keeps all else", one octet
@@ -11,10 +14,11 @@
 use Prim.Native.Nat.{ℕ, _+_, _<_}
 use Prim.Native.Char.{Char, code}
 use Prim.Native.String.{String, [] as no-more, _∷_ as _then_}
-use mathlib.Core.Bool.{Bool, true, false, cond, _&&_}
+use mathlib.Core.Bool.{Bool, true, false, cond, _&&_, _||_}
 use mathlib.Core.List.{List, [], _∷_, map}
 use lib.Dec.{leb, eqb}
 use lib.ListN.{getD}
+use Rattle.octets.specs.Tests.{without}
 
 abbrev pub ascii : String → List ℕ
 ascii no-more = []
@@ -22,6 +26,25 @@ ascii (c then rest) = code c ∷ ascii rest
 
 abbrev pub octet : Char → ℕ
 octet c = code c
+
+abbrev pub space : ℕ
+space = octet " "
+
+abbrev pub tab : ℕ
+tab = octet "\t"
+
+abbrev pub cr : ℕ
+cr = octet "\r"
+
+abbrev pub lf : ℕ
+lf = octet "\n"
+
+-- "spaces and tabs"
+unfoldable pub blank : ℕ → Bool
+blank x = eqb x space || eqb x tab
+
+abbrev pub withoutBlanks : List ℕ → List ℕ
+withoutBlanks s = without blank s
 
 abbrev pub AllOctets : List ℕ → Type 0
 AllOctets s = (i : ℕ) → getD s i 0 < 256

@@ -1,13 +1,20 @@
-// The common ground: octets compared, searched, copied, lower-cased, tested for zeros, and read and written as
+// The common ground: blanks told; octets compared, searched, copied, lower-cased, tested for zeros, and read and written as
 // little-endian numbers. Each function's meaning is one definition of specs/.
 ghost use Prim.Native.Nat.{_+_, _≤_, _<_, max};
 ghost use mathlib.Core.Path.{_≡_};
 ghost use lib.Dec.{eqb};
 ghost use lib.ListN.{length, take, drop, replicate};
-ghost use Rattle.octets.specs.Octets.{sameOctets, lower as lowerOf, lowered, sameName, startsWith, allZero};
+ghost use Rattle.octets.specs.Octets.{blank, sameOctets, lower as lowerOf, lowered, sameName, startsWith, allZero};
 ghost use Rattle.octets.specs.Finding.{holds, lengthBefore, Skipped};
 ghost use Rattle.octets.specs.Numbers.{number, digits};
 ghost use Rattle.octets.specs.Written.{putAt};
+
+// Is it a space or a tab?
+pub fn is_blank(x: u8) -> bool
+    ensures { λ r. ⌜ r ≡ blank x ⌝ }
+{
+    (x == b' ') | (x == b'\t')
+}
 
 // Are the two runs equal? Lengths first: most runs that differ do so there.
 pub fn same(a: &[u8], b: &[u8]) -> bool

@@ -14,7 +14,7 @@ use mathlib.Core.List.{List, [], _∷_, map, List·Memᴰ, List·Memᴰ·head, L
 use mathlib.Core.Option.{Option, some, none}
 use native.Mathlib.Omega.{arith}
 use Rattle.octets.specs.Octets.{AllOctets}
-use Rattle.address.proofs.Every.{by-test}
+use Rattle.octets.proofs.Tests.{by-test}
 use Rattle.refusals.specs.Rows.{firstOf, answerOf}
 use Rattle.refusals.specs.declared.Refusal.{Refusal}
 use Rattle.refusals.specs.declared.Refusal.the-variants.{NoFreeSlot}

@@ -17,9 +17,9 @@ use mathlib.Core.Option.{Option, some, none}
 use borrow.Author.Tests.{leb-true, not-false}
 use lib.Dec.{leb}
 use Rattle.octets.specs.Octets.{AllOctets}
+use Rattle.octets.proofs.Tests.{by-test}
 use Rattle.header.specs.Header.{FieldText, fieldsOf, readable}
 use Rattle.header.proofs.Octetwise.{ValuesOctets, block-octets}
-use Rattle.address.proofs.Every.{by-test}
 use Rattle.refusals.specs.Rows.{Row, _when_, _unless_, firstOf, answerOf, mentions}
 use Rattle.refusals.specs.declared.Refusal.{Refusal}
 use Rattle.refusals.specs.declared.Refusal.the-variants.{BrokenSlot, ReceiptTime, OuterBlock, Sender, Report, PayloadBlock, NoFreeSlot}

@@ -14,10 +14,10 @@ use borrow.Author.Needs.{needs}
 use borrow.Author.Tests.{le-leb, lt-leb, leb-true, not-true, not-false}
 use lib.Dec.{leb}
 use lib.ListN.{length, take, drop}
+use Rattle.octets.proofs.Tests.{by-test, and-left, and-right}
 use Rattle.header.specs.Header.{isSome, fieldsOf, readable, limit}
 use Rattle.header.proofs.Fields.{fields-empty}
 use Rattle.address.specs.Address.{isCanonical}
-use Rattle.address.proofs.Every.{by-test, and-left, and-right}
 use Rattle.refusals.specs.Rows.{Row, _when_, _unless_, firstOf, answeredBy, answerOf, unlessRefused}
 use Rattle.refusals.specs.declared.Refusal.{Refusal}
 use Rattle.refusals.specs.declared.Refusal.the-variants.{ReceiptTime, OuterBlock, Sender, Report, PayloadBlock, NoFreeSlot}

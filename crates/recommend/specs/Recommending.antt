@@ -9,10 +9,10 @@ use mathlib.Core.Bool.{Bool, false}
 use mathlib.Core.List.{List, [], _∷_, _++_}
 use mathlib.Core.Option.{Option, some, none}
 use lib.ListN.{length, getD}
+use Rattle.octets.specs.Tests.{oneTo}
 use Rattle.refusals.specs.Rows.{Row, _unless_, firstOf, answeredBy, unlessRefused}
 use Rattle.refusals.specs.declared.Refusal.{Refusal}
 use Rattle.refusals.specs.declared.Refusal.the-variants.{Recipients}
-use Rattle.address.specs.Address.{oneTo}
 use Rattle.list.specs.List.{addresses, given}
 use Rattle.inspect.specs.Inspecting.{tableRows}
 use Rattle.advice.specs.Advice.{overall, advised, targets}

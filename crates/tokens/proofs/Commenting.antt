@@ -9,7 +9,7 @@
 -- Assumes nothing.
 use Prim.Native.Nat.{ℕ, suc, zero, _+_, _-_, _<_, _≤_}
 use mathlib.Core.Path.{_≡_, refl, sym, _∙_}
-use mathlib.Core.Bool.{false, not}
+use mathlib.Core.Bool.{false}
 use mathlib.Core.List.{List}
 use mathlib.Core.Option.{none}
 use native.Mathlib.Omega.{arith}
@@ -18,7 +18,8 @@ use borrow.Author.Needs.{needs}
 use borrow.Author.Tests.{ne-eqb, lt-ltb}
 use lib.ListN.{length, getD, drop}
 use Rattle.octets.proofs.Lists.{drop-one, drop-done}
-use Rattle.tokens.specs.Tokens.{blank, past}
+use Rattle.octets.specs.Octets.{blank}
+use Rattle.tokens.specs.Tokens.{past}
 use Rattle.tokens.specs.Answers.{stepIn, opened, Opening, Passing, Passed}
 use Rattle.tokens.proofs.Stepping.{Moved, moved}
 use Rattle.tokens.specs.declared.Step.{Step}

@@ -11,10 +11,9 @@ use native.Mathlib.Omega.{arith}
 use borrow.Author.Tests.{leb-true, leb-false, not-true, not-false}
 use lib.Dec.{leb}
 use lib.ListN.{length}
-use Rattle.base64.specs.Base64.{encode, lines}
-use Rattle.base64.proofs.Lengths.{lines-counted}
-use Rattle.address.specs.Address.{oneTo, plain, canonical}
-use Rattle.address.proofs.Every.{and-right}
+use Rattle.octets.specs.Tests.{oneTo}
+use Rattle.octets.proofs.Tests.{and-right}
+use Rattle.address.specs.Address.{plain, canonical}
 use Rattle.address.proofs.Forming.{form-fits}
 use Rattle.slots.specs.Slot.{keyLimit}
 use Rattle.writer.specs.Writing.{preference, written}
@@ -24,6 +23,9 @@ use Rattle.refusals.specs.Refusals.{numberOf}
 use Rattle.refusals.specs.Rows.{Gives, nothing, here, behind}
 use Rattle.refusals.specs.declared.Refusal.the-variants.{OutputLength}
 use Rattle.refusals.proofs.Rows.{exactly, refused-is}
+use Rattle.letters.specs.Base64.{encode}
+use Rattle.lines.specs.Lines.{lines}
+use Rattle.lines.proofs.Lengths.{lines-counted}
 use Rattle.write.specs.declared.Written.the-variants.{Refused}
 use Rattle.write.proofs.Outcomes.{refused-row}
 

@@ -12,7 +12,8 @@ use borrow.Author.Tests.{leb-true, not-false}
 use lib.Dec.{leb}
 use lib.ListN.{length}
 use Rattle.octets.specs.Written.{onto}
-use Rattle.address.specs.Address.{oneTo, plain}
+use Rattle.octets.specs.Tests.{oneTo}
+use Rattle.address.specs.Address.{plain}
 use Rattle.slots.specs.Slot.{keyLimit}
 use Rattle.writer.specs.Writing.{written}
 use Rattle.refusals.specs.Rows.{Row, _unless_, answeredBy}

@@ -13,7 +13,7 @@ use borrow.Author.Tests.{le-leb, lt-leb}
 use lib.Dec.{leb}
 use lib.ListN.{length}
 use Rattle.octets.specs.Written.{onto}
-use Rattle.address.specs.Address.{oneTo}
+use Rattle.octets.specs.Tests.{oneTo}
 use Rattle.address.specs.Answers.{writtenOf as fittedOf, ontoIfFits}
 use Rattle.address.specs.declared.Written.{Written as Fitted}
 use Rattle.address.specs.declared.Written.the-variants.{Length, NoRoom}

@@ -12,10 +12,11 @@ use lib.Dec.{leb}
 use lib.ListN.{length}
 use Rattle.octets.specs.Octets.{ascii}
 use Rattle.octets.specs.Written.{onto}
+use Rattle.octets.specs.Tests.{oneTo}
 use Rattle.refusals.specs.Rows.{Row, _unless_, firstOf, answeredBy, unlessRefused}
 use Rattle.refusals.specs.declared.Refusal.{Refusal}
 use Rattle.refusals.specs.declared.Refusal.the-variants.{OwnAddress, KeyLength, OutputLength}
-use Rattle.address.specs.Address.{oneTo, plain}
+use Rattle.address.specs.Address.{plain}
 use Rattle.slots.specs.Slot.{keyLimit}
 use Rattle.writer.specs.Writing.{written}
 use Rattle.write.specs.declared.Written.{Written}
