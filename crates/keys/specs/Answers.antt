@@ -3,6 +3,7 @@
 --     validFrom, ValidAs     the Autocrypt fields that are valid, from a place of a block on, and the first of these
 --     AcceptedAs             one gossip field, its address and its key in lent memory
 --     gossipFrom, HeardAs    the accepted gossip from a place of a payload on, and the first of it
+--     gossipOf               .. of a whole payload, by the roll of the recipients
 use Prim.Native.Nat.{ℕ, _<_, _≤_}
 use mathlib.Core.Path.{_≡_}
 use mathlib.Core.Bool.{Bool, true}
@@ -15,7 +16,8 @@ use Rattle.address.specs.Address.{isCanonical}
 use Rattle.slots.specs.Slot.{keyLimit}
 use Rattle.keyfield.specs.Field.{Field, validFields}
 use Rattle.update.specs.Message.{Gossiped}
-use Rattle.fields.specs.Fields.{readFields}
+use Rattle.roll.specs.Roll.{unrolled}
+use Rattle.fields.specs.Fields.{fieldsIn, readFields}
 use Rattle.fields.specs.Answers.{valuesFrom}
 use Rattle.fields.specs.declared.Kind.the-variants.{Autocrypt}
 use Rattle.keys.specs.Keys.{gossipIn}
@@ -69,6 +71,9 @@ AcceptedAs gossip address key NotAccepted = gossip ≡ none
 
 unfoldable pub gossipFrom : List (List ℕ) → List ℕ → ℕ → List Gossiped
 gossipFrom recipients payload at = gossipIn recipients (readFields (fieldsFrom payload at))
+
+abbrev pub gossipOf : List ℕ → List ℕ → List Gossiped
+gossipOf recipients payload = gossipIn (unrolled recipients) (fieldsIn payload)
 
 -- The first accepted gossip has this address, in canonical form, and this key, which open the two lent memories, and the rest stand from e on.
 pub record HeardAt (recipients : List (List ℕ)) (payload : List ℕ) (at : ℕ) (address key : List ℕ) (e n k : ℕ) : Type 0 where

@@ -6,7 +6,7 @@ use Rattle.autocrypt.proofs.deliver.Tie as tie
 
 deliver-requires : tie.Need-deliver-requires
 deliver-requires c κs =
-    (search needs, search needs, search needs, search needs, search needs, search needs, search needs)
+    (record { sound = search needs; in-range = search needs; surveyed = search needs; room = search needs; canonical = search needs }, record { readably = search needs; room = search needs })
 
 same-length : tie.Need-same-length
 same-length c = search delivering

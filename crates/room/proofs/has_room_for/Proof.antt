@@ -1,15 +1,14 @@
--- `delivery::has_room_for` meets its contract: the laws of `Newcomers` answer every need. Assumes nothing.
+-- `room::has_room_for` meets its contract: the laws of `Newcomers` answer every need. Assumes nothing.
 use borrow.Author.Needs.{needs}
 use Prim.Native.Nat.{_-_}
 use mathlib.Core.Path.{_≡_}
 use lib.ListN.{length}
-use Rattle.roll.specs.Roll.{unrolled}
-use Rattle.delivery.proofs.Newcomers.{Counts, count-old, count-new, counting}
-use Rattle.delivery.proofs.has_room_for.Statement.{statement}
-use Rattle.delivery.proofs.has_room_for.Tie as tie
+use Rattle.room.proofs.Newcomers.{Counts, count-known, count-new, counting}
+use Rattle.room.proofs.has_room_for.Statement.{statement}
+use Rattle.room.proofs.has_room_for.Tie as tie
 
 abbrev Inv-loop : tie.InvT-loop
-Inv-loop table payload recipients text₀ known₀ filled many address₀ key₀ end₀ count₀ at₀ text known address key end count at = (Counts table (unrolled recipients) payload known₀ filled many known end count at) × (length text ≡ length text₀) × (length known ≡ length known₀) × (length address ≡ length address₀) × (length key ≡ length key₀)
+Inv-loop table payload recipients text₀ known₀ filled many address₀ key₀ end₀ count₀ at₀ text known address key end count at = (Counts table recipients payload known₀ filled known end count at) × (length text ≡ length text₀) × (length known ≡ length known₀) × (length address ≡ length address₀) × (length key ≡ length key₀)
 
 abbrev μ-loop : tie.MeasureT-loop
 μ-loop table payload recipients text₀ known₀ filled many address₀ key₀ end₀ count₀ at₀ text known address key end count at = length payload - at
@@ -48,7 +47,7 @@ loop-less : tie.Need-loop-less Inv-loop μ-loop
 loop-less c = search counting
 
 loop-again : tie.Need-loop-again Inv-loop μ-loop
-loop-again c = (search (count-old, needs, c .before .before .before .before .before .before .before .before .before .before .before .before .before .before .before .before .before .before .before .loop .inv .0), search needs, search needs, search needs, search needs)
+loop-again c = (search (count-known, needs, c .before .before .before .before .before .before .before .before .before .before .before .before .before .before .before .before .before .before .before .loop .inv .0), search needs, search needs, search needs, search needs)
 
 enum-known-behind : tie.Need-enum-known-behind Inv-loop μ-loop
 enum-known-behind c = search counting

@@ -1,7 +1,7 @@
--- `delivery::is_new` meets its contract: the laws of `Newcomers` answer every need. Assumes nothing.
-use Rattle.delivery.proofs.Newcomers.{telling}
-use Rattle.delivery.proofs.is_new.Statement.{statement}
-use Rattle.delivery.proofs.is_new.Tie as tie
+-- `room::is_new` meets its contract: the laws of `Meeting` answer every need. Assumes nothing.
+use Rattle.room.proofs.Meeting.{telling}
+use Rattle.room.proofs.is_new.Statement.{statement}
+use Rattle.room.proofs.is_new.Tie as tie
 
 find-requires : tie.Need-find-requires
 find-requires c κs = search telling

@@ -1,7 +1,7 @@
--- `delivery::meet` meets its contract: the laws of `Newcomers` answer every need. Assumes nothing.
-use Rattle.delivery.proofs.Newcomers.{meeting}
-use Rattle.delivery.proofs.meet.Statement.{statement}
-use Rattle.delivery.proofs.meet.Tie as tie
+-- `room::meet` meets its contract: the laws of `Meeting` answer every need. Assumes nothing.
+use Rattle.room.proofs.Meeting.{meeting}
+use Rattle.room.proofs.meet.Statement.{statement}
+use Rattle.room.proofs.meet.Tie as tie
 
 sub-is-new : tie.Need-sub-is-new
 sub-is-new c = search meeting

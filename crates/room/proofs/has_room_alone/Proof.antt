@@ -1,7 +1,7 @@
--- `delivery::has_room_alone` meets its contract: the laws of `Newcomers` answer every need. Assumes nothing.
-use Rattle.delivery.proofs.has_room_alone.Statement.{statement}
-use Rattle.delivery.proofs.has_room_alone.Tie as tie
-use Rattle.delivery.proofs.Newcomers.{alone}
+-- `room::has_room_alone` meets its contract: the laws of `Newcomers` answer every need. Assumes nothing.
+use Rattle.room.proofs.has_room_alone.Statement.{statement}
+use Rattle.room.proofs.has_room_alone.Tie as tie
+use Rattle.room.proofs.Newcomers.{alone}
 
 find-requires : tie.Need-find-requires
 find-requires c κs = search alone
