@@ -7,7 +7,7 @@
 --     alone-told .. alone-left   with no payload
 -- Assumes nothing.
 use Prim.Native.Nat.{ℕ, _-_, _≤_}
-use mathlib.Core.Path.{_≡_, refl, sym, ap, _∙_}
+use mathlib.Core.Path.{_≡_, refl, sym, _∙_}
 use mathlib.Core.Bool.{Bool, true, false, not}
 use mathlib.Core.List.{List, [], _∷_}
 use native.Mathlib.Omega.{arith}
@@ -22,12 +22,9 @@ use Rattle.date.specs.Answers.{datedOf, optionOf}
 use Rattle.date.specs.declared.Dated.{Dated}
 use Rattle.date.proofs.Effective.{effective-upto}
 use Rattle.slots.specs.Slot.{timeLimit}
-use Rattle.table.specs.Table.{checked}
-use Rattle.table.specs.declared.Checked.the-variants.{Sound}
-use Rattle.roll.specs.Roll.{rolled, unrolled}
+use Rattle.roll.specs.Roll.{rolled}
 use Rattle.update.specs.Message.{Message, Gossiped, gossipAddresses, addressesOf, hasRoom, heardAll, applied}
 use Rattle.fields.specs.Fields.{fieldsIn, readFields, valuesOf, onlyValue}
-use Rattle.fields.specs.Spans.{SurveyAs}
 use Rattle.fields.specs.declared.Kind.the-variants.{Date}
 use Rattle.fields.specs.declared.Survey.{Survey}
 use Rattle.outer.specs.Outer.{dateBy, dateIn, recipientsIn}
@@ -38,7 +35,7 @@ use Rattle.keys.specs.Answers.{gossipOf}
 use Rattle.room.specs.Room.{gossipedIn, roomBeside}
 use Rattle.room.specs.Counting.{Reads}
 use Rattle.room.proofs.Beside.{beside-message}
-use Rattle.delivery.specs.Delivery.{directBy, senderPut, messageBy, mailOf, delivered}
+use Rattle.delivery.specs.Delivery.{senderPut, messageBy, mailOf, delivered}
 use Rattle.delivery.specs.Sending.{Sends, Carries}
 
 pub block-short : (s : List ℕ) → readable s ≡ true → length s ≤ limit

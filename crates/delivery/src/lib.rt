@@ -13,7 +13,7 @@ ghost use Rattle.room.specs.Counting.{Reads};
 ghost use Rattle.delivery.specs.Delivery.{senderPut, messageBy, mailOf, delivered};
 ghost use Rattle.delivery.specs.Sending.{Sends, Carries};
 use fields::Survey;
-use keys::Counted;
+use keyowner::Own;
 use keys::Heard;
 use slots::Slot;
 
@@ -55,10 +55,10 @@ fn update_sender(
 {
     let mut key = [0u8; Slot::KEY_LIMIT];
     match keys::counted_field(outer, survey, sender, text, &mut key) {
-        Counted::Key { mutual, length } => {
+        Own::Key { mutual, length } => {
             update::update_with_key(table, sender, date, &key[0..length], mutual);
         }
-        Counted::NoKey => update::update_keyless(table, sender, date),
+        Own::NoKey => update::update_keyless(table, sender, date),
     }
 }
 

@@ -23,7 +23,7 @@ slice-aggregate-next-gossip-2 : tie.Need-slice-aggregate-next-gossip-2 Inv-loop 
 slice-aggregate-next-gossip-2 c = search spreading
 
 next-gossip-requires : tie.Need-next-gossip-requires Inv-loop μ-loop
-next-gossip-requires c κs = search spreading
+next-gossip-requires c κs = record { clear = search spreading; room = search needs; address-room = search needs; key-room = search needs }
 
 enum-known-end : tie.Need-enum-known-end Inv-loop μ-loop
 enum-known-end c = search spreading

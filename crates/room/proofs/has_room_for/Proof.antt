@@ -23,7 +23,7 @@ slice-aggregate-next-gossip-2 : tie.Need-slice-aggregate-next-gossip-2 Inv-loop 
 slice-aggregate-next-gossip-2 c = search counting
 
 next-gossip-requires : tie.Need-next-gossip-requires Inv-loop μ-loop
-next-gossip-requires c κs = search counting
+next-gossip-requires c κs = record { clear = search counting; room = search needs; address-room = search needs; key-room = search needs }
 
 enum-known-next : tie.Need-enum-known-next Inv-loop μ-loop
 enum-known-next c = search counting

@@ -28,10 +28,10 @@ use Rattle.keyfield.specs.Answers.{part, Answered, keyIn, leftIn}
 use Rattle.keyfield.specs.declared.Read.{Read}
 use Rattle.keyfield.specs.declared.Read.the-variants.{Valid, Spoiled, NoRoom}
 use Rattle.keyfield.proofs.Told.{told-address, told-spoiled, never-crowded}
-use Rattle.keys.specs.Keys.{acceptedBy}
-use Rattle.keys.specs.Answers.{AcceptedAs}
-use Rattle.keys.specs.declared.Accepted.the-variants.{Gossip, NotAccepted}
-use Rattle.keys.proofs.ReadKeys.{Holds, read-from, read-upto, read-valid}
+use Rattle.keyowner.specs.Owners.{acceptedBy}
+use Rattle.keyowner.specs.Answers.{AcceptedAs}
+use Rattle.keyowner.specs.declared.Accepted.the-variants.{Gossip, NotAccepted}
+use Rattle.keyowner.proofs.ReadKeys.{Holds, read-from, read-upto, read-valid}
 
 module _ (recipients : List (List ℕ)) where
   pub by-none : acceptedBy recipients none ≡ none

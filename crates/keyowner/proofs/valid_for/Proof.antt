@@ -1,7 +1,7 @@
--- `keys::valid_for` meets its contract: the laws of `OwnField` answer every need. Assumes nothing.
-use Rattle.keys.proofs.valid_for.Statement.{statement}
-use Rattle.keys.proofs.valid_for.Tie as tie
-use Rattle.keys.proofs.OwnField.{owning}
+-- `keyowner::valid_for` meets its contract: the laws of `OwnField` answer every need. Assumes nothing.
+use Rattle.keyowner.proofs.valid_for.Statement.{statement}
+use Rattle.keyowner.proofs.valid_for.Tie as tie
+use Rattle.keyowner.proofs.OwnField.{owning}
 
 read-field-requires : tie.Need-read-field-requires
 read-field-requires c κs = search owning

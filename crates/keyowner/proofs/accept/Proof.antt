@@ -1,7 +1,7 @@
--- `keys::accept` meets its contract: the laws of `Accepting` answer every need. Assumes nothing.
-use Rattle.keys.proofs.accept.Statement.{statement}
-use Rattle.keys.proofs.accept.Tie as tie
-use Rattle.keys.proofs.Accepting.{accepting}
+-- `keyowner::accept` meets its contract: the laws of `Accepting` answer every need. Assumes nothing.
+use Rattle.keyowner.proofs.accept.Statement.{statement}
+use Rattle.keyowner.proofs.accept.Tie as tie
+use Rattle.keyowner.proofs.Accepting.{accepting}
 
 read-field-requires : tie.Need-read-field-requires
 read-field-requires c κs = search accepting
