@@ -22,12 +22,11 @@ use Rattle.date.specs.Answers.{datedOf, optionOf}
 use Rattle.date.specs.declared.Dated.{Dated}
 use Rattle.date.proofs.Effective.{effective-upto}
 use Rattle.slots.specs.Slot.{timeLimit}
-use Rattle.roll.specs.Roll.{rolled}
 use Rattle.update.specs.Message.{Message, Gossiped, gossipAddresses, addressesOf, hasRoom, heardAll, applied}
-use Rattle.fields.specs.Fields.{fieldsIn, readFields, valuesOf, onlyValue}
-use Rattle.fields.specs.declared.Kind.the-variants.{Date}
+use Rattle.fields.specs.Fields.{fieldsIn, readFields, valuesOf}
 use Rattle.fields.specs.declared.Survey.{Survey}
-use Rattle.outer.specs.Outer.{dateBy, dateIn, recipientsIn}
+use Rattle.outer.specs.Outer.{saidDate, dateIn, recipientsIn}
+use Rattle.outer.specs.Answers.{rollOf}
 use Rattle.outer.proofs.Dates.{date-effective}
 use Rattle.outer.proofs.RecipientRoll.{gathered, gathered-within}
 use Rattle.keys.specs.Keys.{accepted, gossipIn}
@@ -77,7 +76,7 @@ carries-on t receipt outer survey payload sender recipients text later h l =
 pub carries-begin :
     (t : List ℕ) (receipt : ℕ) (outer : List ℕ) (survey : Survey) (payload sender d roll text later : List ℕ) (n : ℕ)
     → Sends t receipt outer survey sender text → Reads payload text → length later ≡ length text
-    → n ≡ length (rolled (recipientsIn (fieldsIn outer))) → roll ≡ onto (rolled (recipientsIn (fieldsIn outer))) d
+    → n ≡ length (rollOf outer) → roll ≡ onto (rollOf outer) d
     → Carries t receipt outer survey payload sender (take (n - 0) (drop 0 roll)) later
 carries-begin t receipt outer survey payload sender d roll text later n h r l c w =
     record {
@@ -114,7 +113,7 @@ module _ (t : List ℕ) (receipt : ℕ) (sender outer : List ℕ) where
     room-for b e = e ∙ rw g (beside-message t (messageBy receipt sender (fieldsIn outer) payload))
 
     dated :
-        (r : Dated) → r ≡ datedOf (dateBy (onlyValue (valuesOf Date (fieldsIn outer)))) → (date : ℕ) → date ≡ effectiveDate (optionOf r) receipt → (u : List ℕ)
+        (r : Dated) → r ≡ datedOf (saidDate (fieldsIn outer)) → (date : ℕ) → date ≡ effectiveDate (optionOf r) receipt → (u : List ℕ)
         → u ≡ heardAll date gs (senderPut date sender (fieldsIn outer) t) → u ≡ applied t (messageBy receipt sender (fieldsIn outer) payload)
     unfolding applied messageBy senderPut
     dated r h date f u v =
@@ -130,7 +129,7 @@ module _ (t : List ℕ) (receipt : ℕ) (sender outer : List ℕ) where
     room-told = room-for (fieldsIn payload) (gossipOf recipients payload) heard-is
 
     pub put-dated :
-        (r : Dated) → r ≡ datedOf (dateBy (onlyValue (valuesOf Date (fieldsIn outer)))) → (date : ℕ) → date ≡ effectiveDate (optionOf r) receipt
+        (r : Dated) → r ≡ datedOf (saidDate (fieldsIn outer)) → (date : ℕ) → date ≡ effectiveDate (optionOf r) receipt
         → (u v : List ℕ) → u ≡ senderPut date sender (fieldsIn outer) t → v ≡ heardAll date (gossipOf recipients payload) u
         → v ≡ applied t (mailOf receipt sender outer payload)
     put-dated r h date f u v x y = dated (fieldsIn payload) (gossipOf recipients payload) heard-is r h date f v (rw x at y)
@@ -145,7 +144,7 @@ module _ (t : List ℕ) (receipt : ℕ) (sender outer : List ℕ) where
   alone-told = room-for [] [] none-said
 
   pub alone-dated :
-      (r : Dated) → r ≡ datedOf (dateBy (onlyValue (valuesOf Date (fieldsIn outer)))) → (date : ℕ) → date ≡ effectiveDate (optionOf r) receipt → (u : List ℕ)
+      (r : Dated) → r ≡ datedOf (saidDate (fieldsIn outer)) → (date : ℕ) → date ≡ effectiveDate (optionOf r) receipt → (u : List ℕ)
       → u ≡ senderPut date sender (fieldsIn outer) t → u ≡ applied t (messageBy receipt sender (fieldsIn outer) [])
   unfolding heardAll
   alone-dated = dated [] [] none-said

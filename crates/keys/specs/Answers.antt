@@ -48,6 +48,7 @@ ValidAs sender s at key NoMore = validFrom sender s at ≡ []
 unfoldable pub gossipFrom : List (List ℕ) → List ℕ → ℕ → List Gossiped
 gossipFrom recipients payload at = gossipIn recipients (readFields (fieldsFrom payload at))
 
+-- by the roll of the recipients
 abbrev pub gossipOf : List ℕ → List ℕ → List Gossiped
 gossipOf recipients payload = gossipIn (unrolled recipients) (fieldsIn payload)
 
