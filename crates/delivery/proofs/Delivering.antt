@@ -1,18 +1,18 @@
--- A message delivered: the blocks' fields are what the parts of the work have seen, and so the table is the one that the message leaves.
+-- A message, delivered: first it is asked whether there is room, and only then written.
 --     block-short            a readable block is no longer than a block may be
---     recipients-told        the recipients, as they are handed down
+--     date-most              its date is in range
+--     sends-on .. carries-on    what is asked for still holds of the text, of which the length alone counts
 --     room-not .. put-whole  whether there is room, and the table afterwards
 --     room-told, put-dated   the same by what the parts of the work answer
 --     alone-told .. alone-left   with no payload
 -- Assumes nothing.
 use Prim.Native.Nat.{ℕ, _-_, _≤_}
-use mathlib.Core.Path.{_≡_, refl, sym, ap, _∙_}
+use mathlib.Core.Path.{_≡_, refl, sym, _∙_}
 use mathlib.Core.Bool.{Bool, true, false, not}
 use mathlib.Core.List.{List, [], _∷_}
 use native.Mathlib.Omega.{arith}
 use borrow.Author.Needs.{needs}
 use borrow.Author.Tests.{not-true, not-false}
-use lib.Dec.{leb}
 use lib.ListN.{length, take, drop}
 use Rattle.octets.specs.Written.{onto}
 use Rattle.header.specs.Header.{FieldText, readable, limit}
@@ -22,33 +22,72 @@ use Rattle.date.specs.Answers.{datedOf, optionOf}
 use Rattle.date.specs.declared.Dated.{Dated}
 use Rattle.date.proofs.Effective.{effective-upto}
 use Rattle.slots.specs.Slot.{timeLimit}
-use Rattle.table.specs.Table.{freeCount}
-use Rattle.roll.specs.Roll.{rolled, unrolled}
-use Rattle.update.specs.Update.{updated, put}
-use Rattle.update.specs.Message.{Message, Gossiped, gossipAddresses, newcomers, addressesOf, hasRoom, heardAll, applied}
-use Rattle.fields.specs.Fields.{fieldsIn, readFields, valuesOf, onlyValue}
-use Rattle.fields.specs.declared.Kind.the-variants.{Date}
-use Rattle.fields.proofs.Values.{block-begin}
-use Rattle.fields.proofs.Walking.{survey-readable}
-use Rattle.outer.specs.Outer.{dateBy, dateIn, recipientsIn}
+use Rattle.update.specs.Message.{Message, Gossiped, gossipAddresses, addressesOf, hasRoom, heardAll, applied}
+use Rattle.fields.specs.Fields.{fieldsIn, readFields, valuesOf}
+use Rattle.fields.specs.declared.Survey.{Survey}
+use Rattle.outer.specs.Outer.{saidDate, dateIn, recipientsIn}
+use Rattle.outer.specs.Answers.{rollOf}
 use Rattle.outer.proofs.Dates.{date-effective}
 use Rattle.outer.proofs.RecipientRoll.{gathered, gathered-within}
-use Rattle.keys.specs.Keys.{countedIn, accepted, gossipIn}
-use Rattle.keys.specs.Answers.{gossipFrom}
-use Rattle.keys.proofs.GossipFields.{gossip-all}
-use Rattle.delivery.specs.Delivery.{directBy, messageBy, delivered}
+use Rattle.keys.specs.Keys.{accepted, gossipIn}
+use Rattle.keys.specs.Answers.{gossipOf}
+use Rattle.room.specs.Room.{gossipedIn, roomBeside}
+use Rattle.room.specs.Counting.{Reads}
+use Rattle.room.proofs.Beside.{beside-message}
+use Rattle.delivery.specs.Delivery.{senderPut, messageBy, mailOf, delivered}
+use Rattle.delivery.specs.Sending.{Sends, Carries}
 
 pub block-short : (s : List ℕ) → readable s ≡ true → length s ≤ limit
 block-short s h = clear-fits s true (sym h) refl
 
-pub block-rolls : (s roll : List ℕ) → readable s ≡ true → length roll ≡ 65536 → length s ≤ length roll
-block-rolls s roll h l = omega (arith, block-short s h, l)
+pub date-most : (r : Dated) (receipt date : ℕ) → receipt ≤ timeLimit → date ≡ effectiveDate (optionOf r) receipt → date ≤ timeLimit
+date-most r receipt date h e = omega (arith, effective-upto (optionOf r) receipt, e, h)
+
+-- another text of the same length
+pub reads-on : (payload text later : List ℕ) → Reads payload text → length later ≡ length text → Reads payload later
+reads-on payload text later h l = record { readably = h .readably; room = omega (arith, h .room, l) }
+
+module _ (t : List ℕ) (receipt : ℕ) (outer : List ℕ) (survey : Survey) (sender text later : List ℕ) (h : Sends t receipt outer survey sender text) (l : length later ≡ length text) where
+  pub sends-on : Sends t receipt outer survey sender later
+  sends-on = record { sound = h .sound; in-range = h .in-range; surveyed = h .surveyed; room = omega (arith, h .room, l); canonical = h .canonical }
+
+  pub sends-dated : (r : Dated) (date : ℕ) → date ≡ effectiveDate (optionOf r) receipt → Sends t date outer survey sender later
+  sends-dated r date e =
+      record {
+        sound = h .sound;
+        in-range = date-most r receipt date (h .in-range) e;
+        surveyed = h .surveyed;
+        room = omega (arith, h .room, l);
+        canonical = h .canonical;
+      }
+
+pub carries-on :
+    (t : List ℕ) (receipt : ℕ) (outer : List ℕ) (survey : Survey) (payload sender recipients text later : List ℕ)
+    → Carries t receipt outer survey payload sender recipients text → length later ≡ length text
+    → Carries t receipt outer survey payload sender recipients later
+carries-on t receipt outer survey payload sender recipients text later h l =
+    record {
+      sends = sends-on t receipt outer survey sender text later (h .sends) l;
+      reads = reads-on payload text later (h .reads) l;
+      listed = h .listed;
+    }
 
 -- the roll that is handed down holds the recipients
-pub recipients-told :
-    (outer d roll : List ℕ) (n : ℕ) → n ≡ length (rolled (recipientsIn (fieldsIn outer))) → roll ≡ onto (rolled (recipientsIn (fieldsIn outer))) d
-    → unrolled (take (n - 0) (drop 0 roll)) ≡ recipientsIn (fieldsIn outer)
-recipients-told outer d roll n c w = gathered outer d roll n c w
+pub carries-begin :
+    (t : List ℕ) (receipt : ℕ) (outer : List ℕ) (survey : Survey) (payload sender d roll text later : List ℕ) (n : ℕ)
+    → Sends t receipt outer survey sender text → Reads payload text → length later ≡ length text
+    → n ≡ length (rollOf outer) → roll ≡ onto (rollOf outer) d
+    → Carries t receipt outer survey payload sender (take (n - 0) (drop 0 roll)) later
+carries-begin t receipt outer survey payload sender d roll text later n h r l c w =
+    record {
+      sends = sends-on t receipt outer survey sender text later h l;
+      reads = reads-on payload text later r l;
+      listed = gathered outer d roll n c w;
+    }
+
+pub outer-rolls : (t : List ℕ) (receipt : ℕ) (outer : List ℕ) (survey : Survey) (sender text roll : List ℕ) → Sends t receipt outer survey sender text
+    → length roll ≡ 65536 → length outer ≤ length roll
+outer-rolls t receipt outer survey sender text roll h l = omega (arith, block-short outer (h .surveyed .readably), l)
 
 -- a message m, and the answer b whether there is room for it
 module _ (t : List ℕ) (m : Message) (b : Bool) (e : b ≡ hasRoom t m) where
@@ -69,45 +108,44 @@ module _ (t : List ℕ) (m : Message) (b : Bool) (e : b ≡ hasRoom t m) where
 -- the message of the outer block, and the gossip gs that the fields of the payload come to
 module _ (t : List ℕ) (receipt : ℕ) (sender outer : List ℕ) where
   module _ (payload : List FieldText) (gs : List Gossiped) (g : gs ≡ gossipIn (recipientsIn (fieldsIn outer)) payload) where
-    room-for : (b : Bool) → b ≡ leb (length (newcomers t [] (sender ∷ gossipAddresses gs))) (freeCount t)
-        → b ≡ hasRoom t (messageBy receipt sender (fieldsIn outer) payload)
-    unfolding hasRoom addressesOf messageBy
-    room-for b e = rw g at e
+    room-for : (b : Bool) → b ≡ roomBeside t [] (sender ∷ gossipAddresses gs) → b ≡ hasRoom t (messageBy receipt sender (fieldsIn outer) payload)
+    unfolding addressesOf messageBy
+    room-for b e = e ∙ rw g (beside-message t (messageBy receipt sender (fieldsIn outer) payload))
 
-    dated : (r : Dated) → r ≡ datedOf (dateBy (onlyValue (valuesOf Date (fieldsIn outer)))) → (date : ℕ) → date ≡ effectiveDate (optionOf r) receipt → (u : List ℕ)
-        → u ≡ heardAll date gs (put t sender (updated date (directBy date (countedIn (fieldsIn outer) sender))))
-        → u ≡ applied t (messageBy receipt sender (fieldsIn outer) payload)
-    unfolding applied messageBy
+    dated :
+        (r : Dated) → r ≡ datedOf (saidDate (fieldsIn outer)) → (date : ℕ) → date ≡ effectiveDate (optionOf r) receipt → (u : List ℕ)
+        → u ≡ heardAll date gs (senderPut date sender (fieldsIn outer) t) → u ≡ applied t (messageBy receipt sender (fieldsIn outer) payload)
+    unfolding applied messageBy senderPut
     dated r h date f u v =
         let x : date ≡ dateIn (fieldsIn outer) receipt = f ∙ date-effective (fieldsIn outer) receipt r h in
         rw (g, x) at v
 
-  module _ (payload recipients : List ℕ) (p : readable payload ≡ true) (g : unrolled recipients ≡ recipientsIn (fieldsIn outer)) where
-    gossip-is : gossipFrom (unrolled recipients) payload 0 ≡ gossipIn (recipientsIn (fieldsIn outer)) (fieldsIn payload)
-    gossip-is = rw g (gossip-all (recipientsIn (fieldsIn outer)) payload p)
+  module _ (survey : Survey) (payload recipients text : List ℕ) (c : Carries t receipt outer survey payload sender recipients text) where
+    heard-is : gossipOf recipients payload ≡ gossipIn (recipientsIn (fieldsIn outer)) (fieldsIn payload)
+    heard-is = rw (c .listed)
 
-    pub room-told : (b : Bool) → b ≡ leb (length (newcomers t [] (sender ∷ gossipAddresses (gossipFrom (unrolled recipients) payload 0)))) (freeCount t)
-        → b ≡ hasRoom t (messageBy receipt sender (fieldsIn outer) (fieldsIn payload))
-    room-told = room-for (fieldsIn payload) (gossipFrom (unrolled recipients) payload 0) gossip-is
+    pub room-told : (b : Bool) → b ≡ roomBeside t [] (sender ∷ gossipedIn recipients payload) → b ≡ hasRoom t (mailOf receipt sender outer payload)
+    unfolding gossipedIn
+    room-told = room-for (fieldsIn payload) (gossipOf recipients payload) heard-is
 
     pub put-dated :
-        (r : Dated) → r ≡ datedOf (dateBy (onlyValue (valuesOf Date (fieldsIn outer)))) → (date : ℕ) → date ≡ effectiveDate (optionOf r) receipt → (u : List ℕ)
-        → u ≡ heardAll date (gossipFrom (unrolled recipients) payload 0) (put t sender (updated date (directBy date (countedIn (fieldsIn outer) sender))))
-        → u ≡ applied t (messageBy receipt sender (fieldsIn outer) (fieldsIn payload))
-    put-dated = dated (fieldsIn payload) (gossipFrom (unrolled recipients) payload 0) gossip-is
+        (r : Dated) → r ≡ datedOf (saidDate (fieldsIn outer)) → (date : ℕ) → date ≡ effectiveDate (optionOf r) receipt
+        → (u v : List ℕ) → u ≡ senderPut date sender (fieldsIn outer) t → v ≡ heardAll date (gossipOf recipients payload) u
+        → v ≡ applied t (mailOf receipt sender outer payload)
+    put-dated r h date f u v x y = dated (fieldsIn payload) (gossipOf recipients payload) heard-is r h date f v (rw x at y)
 
   -- no payload
   none-said : [] ≡ gossipIn (recipientsIn (fieldsIn outer)) []
   unfolding gossipIn accepted valuesOf
   none-said = refl
 
-  pub alone-told : (b : Bool) → b ≡ leb (length (newcomers t [] (sender ∷ []))) (freeCount t) → b ≡ hasRoom t (messageBy receipt sender (fieldsIn outer) [])
+  pub alone-told : (b : Bool) → b ≡ roomBeside t [] (sender ∷ []) → b ≡ hasRoom t (messageBy receipt sender (fieldsIn outer) [])
   unfolding gossipAddresses
   alone-told = room-for [] [] none-said
 
   pub alone-dated :
-      (r : Dated) → r ≡ datedOf (dateBy (onlyValue (valuesOf Date (fieldsIn outer)))) → (date : ℕ) → date ≡ effectiveDate (optionOf r) receipt → (u : List ℕ)
-      → u ≡ put t sender (updated date (directBy date (countedIn (fieldsIn outer) sender))) → u ≡ applied t (messageBy receipt sender (fieldsIn outer) [])
+      (r : Dated) → r ≡ datedOf (saidDate (fieldsIn outer)) → (date : ℕ) → date ≡ effectiveDate (optionOf r) receipt → (u : List ℕ)
+      → u ≡ senderPut date sender (fieldsIn outer) t → u ≡ applied t (messageBy receipt sender (fieldsIn outer) [])
   unfolding heardAll
   alone-dated = dated [] [] none-said
 
@@ -117,19 +155,16 @@ module _ (t : List ℕ) (receipt : ℕ) (sender outer : List ℕ) where
     no-fields [] q = rw fields-empty
     no-fields (x ∷ s) q = absurd (omega arith)
 
-    pub alone-answer : (b : Bool) → b ≡ hasRoom t (messageBy receipt sender (fieldsIn outer) []) → b ≡ hasRoom t (messageBy receipt sender (fieldsIn outer) (fieldsIn payload))
+    pub alone-answer : (b : Bool) → b ≡ hasRoom t (messageBy receipt sender (fieldsIn outer) []) → b ≡ hasRoom t (mailOf receipt sender outer payload)
     alone-answer b h = rw (← no-fields payload e) h
 
-    pub alone-left : (u : List ℕ) → u ≡ delivered t (messageBy receipt sender (fieldsIn outer) []) → u ≡ delivered t (messageBy receipt sender (fieldsIn outer) (fieldsIn payload))
+    pub alone-left : (u : List ℕ) → u ≡ delivered t (messageBy receipt sender (fieldsIn outer) []) → u ≡ delivered t (mailOf receipt sender outer payload)
     alone-left u h = rw (← no-fields payload e) h
 
-pub date-most : (r : Dated) (receipt date : ℕ) → receipt ≤ timeLimit → date ≡ effectiveDate (optionOf r) receipt → date ≤ timeLimit
-date-most r receipt date h e = omega (arith, effective-upto (optionOf r) receipt, e, h)
+pub ruleset dating = (date-most, sends-dated, put-dated, needs)
 
-pub ruleset dating = (survey-readable, block-begin, date-most, put-dated, needs)
+pub ruleset putting = (carries-on, room-told, room-not, room-is, left-alone, put-whole, needs)
 
-pub ruleset putting = (block-begin, room-told, room-not, room-is, left-alone, put-whole, needs)
+pub ruleset alone = (sends-dated, alone-told, room-not, room-is, left-alone, alone-dated, put-whole, needs)
 
-pub ruleset alone = (date-most, alone-told, room-not, room-is, left-alone, alone-dated, put-whole, needs)
-
-pub ruleset delivering = (alone-answer, alone-left, survey-readable, block-rolls, recipients-told, gathered-within, needs)
+pub ruleset delivering = (alone-answer, alone-left, outer-rolls, carries-begin, gathered-within, needs)

@@ -1,5 +1,5 @@
+pub mod Fronts
 pub mod Spreading
-pub mod Newcomers
 pub mod Updating
 pub mod Delivering
 pub mod Good

@@ -15,7 +15,8 @@ use Rattle.update.specs.Message.{Gossiped}
 use Rattle.fields.specs.Fields.{valuesOf}
 use Rattle.fields.specs.declared.Kind.the-variants.{AutocryptGossip}
 use Rattle.fields.proofs.Values.{values-append}
-use Rattle.keys.specs.Keys.{acceptedBy, accepted, gossipIn}
+use Rattle.keyowner.specs.Owners.{acceptedBy}
+use Rattle.keys.specs.Keys.{accepted, gossipIn}
 
 module _ (recipients : List (List ℕ)) (s : List ℕ) (rest : List (List ℕ)) where
   pub accepted-skip : acceptedBy recipients (fieldOf s) ≡ none → accepted recipients (s ∷ rest) ≡ accepted recipients rest

@@ -20,7 +20,8 @@ use Rattle.update.specs.Message.{Gossiped, GoodGossiped, GoodGossipeds}
 use Rattle.fields.specs.Fields.{isKind, valuesOf}
 use Rattle.fields.specs.declared.Kind.the-variants.{Autocrypt, AutocryptGossip}
 use Rattle.fields.proofs.Values.{values-first, values-other}
-use Rattle.keys.specs.Keys.{countedIn, acceptedBy, accepted, gossipIn}
+use Rattle.keyowner.specs.Owners.{acceptedBy}
+use Rattle.keys.specs.Keys.{countedIn, accepted, gossipIn}
 use Rattle.keys.proofs.AcceptedGossip.{accepted-skip, accepted-next}
 
 field-key : (v : List ℕ) (f : Field) → fieldOf v ≡ some f → GoodKey (f .key)

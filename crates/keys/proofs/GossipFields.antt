@@ -25,10 +25,12 @@ use Rattle.fields.specs.declared.Named.{Named}
 use Rattle.fields.specs.declared.Named.the-variants.{Field, Nothing}
 use Rattle.fields.proofs.Values.{values-all, values-end}
 use Rattle.fields.proofs.Finding.{named-first, named-later, named-upto, named-readable, named-none, finding}
-use Rattle.keys.specs.Keys.{acceptedBy, accepted, gossipIn}
-use Rattle.keys.specs.Answers.{AcceptedAt, AcceptedAs, gossipFrom, HeardAt, HeardAs}
-use Rattle.keys.specs.declared.Accepted.{Accepted}
-use Rattle.keys.specs.declared.Accepted.the-variants.{Gossip, NotAccepted}
+use Rattle.keyowner.specs.Owners.{acceptedBy}
+use Rattle.keyowner.specs.Answers.{AcceptedAt, AcceptedAs}
+use Rattle.keyowner.specs.declared.Accepted.{Accepted}
+use Rattle.keyowner.specs.declared.Accepted.the-variants.{Gossip, NotAccepted}
+use Rattle.keys.specs.Keys.{accepted, gossipIn}
+use Rattle.keys.specs.Answers.{gossipFrom, Hears, HeardAt, HeardAs}
 use Rattle.keys.specs.declared.Heard.{Heard}
 use Rattle.keys.specs.declared.Heard.the-variants.{Next, Over}
 use Rattle.keys.proofs.AcceptedGossip.{accepted-skip, accepted-next}
@@ -39,8 +41,8 @@ pub record Hearing (recipients : List (List ℕ)) (s : List ℕ) (at place : ℕ
   pub behind : at ≤ place
 
 module _ (recipients : List (List ℕ)) (s : List ℕ) (at : ℕ) where
-  pub hear-begin : isSome (fieldsFrom s at) ≡ true → Hearing recipients s at at
-  hear-begin c = record { same = refl; clear = c; behind = omega arith }
+  pub hear-begin : (text address key : List ℕ) → Hears s at text address key → Hearing recipients s at at
+  hear-begin text address key h = record { same = refl; clear = h .clear; behind = omega arith }
 
   pub hear-clear : (place : ℕ) → Hearing recipients s at place → isSome (fieldsFrom s place) ≡ true
   hear-clear place h = h .clear

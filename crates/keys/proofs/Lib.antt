@@ -1,8 +1,5 @@
-pub mod ReadKeys
-pub mod OwnField
 pub mod ValidFields
 pub mod Counting
-pub mod Accepting
 pub mod AcceptedGossip
 pub mod GossipFields
 pub mod GoodKeys

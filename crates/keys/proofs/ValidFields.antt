@@ -21,9 +21,10 @@ use Rattle.fields.specs.declared.Kind.the-variants.{Autocrypt}
 use Rattle.fields.specs.declared.Named.{Named}
 use Rattle.fields.specs.declared.Named.the-variants.{Field as FieldAt, Nothing}
 use Rattle.fields.proofs.Finding.{named-first, named-readable, named-none, finding}
-use Rattle.keys.specs.Answers.{CountedAt, CountedAs, validFrom, ValidAt, ValidAs}
-use Rattle.keys.specs.declared.Counted.{Counted}
-use Rattle.keys.specs.declared.Counted.the-variants.{Key as OwnKey, NoKey}
+use Rattle.keyowner.specs.Answers.{OwnAt, OwnAs}
+use Rattle.keyowner.specs.declared.Own.{Own}
+use Rattle.keyowner.specs.declared.Own.the-variants.{Key as OwnKey, NoKey}
+use Rattle.keys.specs.Answers.{validFrom, Seeks, ValidAt, ValidAs}
 use Rattle.keys.specs.declared.Valid.{Valid}
 use Rattle.keys.specs.declared.Valid.the-variants.{Key, NoMore}
 
@@ -32,8 +33,8 @@ pub record Trying (sender s : List ℕ) (at place : ℕ) : Type 0 where
   pub clear : isSome (fieldsFrom s place) ≡ true
 
 module _ (sender s : List ℕ) (at : ℕ) where
-  pub try-begin : isSome (fieldsFrom s at) ≡ true → Trying sender s at at
-  try-begin c = record { same = refl; clear = c }
+  pub try-begin : (last : ℕ) (text : List ℕ) → Seeks s at last text → Trying sender s at at
+  try-begin last text h = record { same = refl; clear = h .clear }
 
   pub try-clear : (place : ℕ) → Trying sender s at place → isSome (fieldsFrom s place) ≡ true
   try-clear place h = h .clear
@@ -45,16 +46,16 @@ module _ (sender s : List ℕ) (at place : ℕ) (k : Named) (h : Trying sender s
 
   -- the value of the next Autocrypt field was unfolded to the text, and read
   module _ (v e : ℕ) (q : k ≡ FieldAt v e) (text d : List ℕ) (n : ℕ) (c : n ≡ length (valueAt s v e)) (t : text ≡ onto (valueAt s v e) d)
-      (key : List ℕ) (r : Counted) (a : CountedAs sender (validFor sender (take (n - 0) (drop 0 text))) key r) where
+      (key : List ℕ) (r : Own) (a : OwnAs sender (validFor sender (take (n - 0) (drop 0 text))) key r) where
     first : validFrom sender s at ≡ validFields sender (valueAt s v e ∷ valuesFrom Autocrypt s e)
     unfolding validFrom
     first = h .same ∙ ap (validFields sender) (named-first Autocrypt s place k p v e q)
 
-    answered : CountedAs sender (validFor sender (valueAt s v e)) key r
+    answered : OwnAs sender (validFor sender (valueAt s v e)) key r
     answered = rw (value-there-from (valueAt s v e) d text n c t) at a
 
     pub try-next : r ≡ NoKey → Trying sender s at e
-    unfolding CountedAs validFrom
+    unfolding OwnAs validFrom
     try-next y =
         record {
           same = first ∙ valid-skip sender (valueAt s v e) (valuesFrom Autocrypt s e) (rw y at answered);
@@ -62,9 +63,9 @@ module _ (sender s : List ℕ) (at place : ℕ) (k : Named) (h : Trying sender s
         }
 
     pub try-found : (m : Bool) (l : ℕ) → r ≡ OwnKey m l → ValidAs sender s at key (Key m l e)
-    unfolding CountedAs ValidAs validFrom
+    unfolding OwnAs ValidAs validFrom
     try-found m l y =
-        let f : CountedAt sender (validFor sender (valueAt s v e)) key m l = rw y at answered in
+        let f : OwnAt sender (validFor sender (valueAt s v e)) key m l = rw y at answered in
         record {
           first =
               first

@@ -41,7 +41,8 @@ use Rattle.keyfield.specs.Field.{
 }
 use Rattle.update.specs.Message.{Gossiped}
 use Rattle.fields.specs.Fields.{readFields, fieldsIn, isKind, valuesOf}
-use Rattle.keys.specs.Keys.{countedIn, acceptedBy, accepted, gossipIn}
+use Rattle.keyowner.specs.Owners.{acceptedBy}
+use Rattle.keys.specs.Keys.{countedIn, accepted, gossipIn}
 
 abbrev countedOf : String → Option Field
 countedOf s = countedIn (fieldsIn (ascii s)) (ascii "a@b")

@@ -19,13 +19,11 @@ use Rattle.date.specs.declared.Dated.{Dated}
 use Rattle.date.specs.declared.Dated.the-variants.{Unavailable}
 use Rattle.date.proofs.Effective.{option-dated, effective-upto}
 use Rattle.slots.specs.Slot.{timeLimit}
-use Rattle.fields.specs.Fields.{valuesOf, onlyValue}
 use Rattle.fields.specs.Answers.{valueAt, valueIn}
-use Rattle.fields.specs.declared.Kind.the-variants.{Date}
 use Rattle.fields.specs.declared.Only.{Only}
 use Rattle.fields.specs.declared.Only.the-variants.{One, Other}
 use Rattle.fields.proofs.Single.{value-is, value-none, valued}
-use Rattle.outer.specs.Outer.{dateBy, dateIn}
+use Rattle.outer.specs.Outer.{dateBy, saidDate, dateIn}
 
 module _ (s : List ℕ) (k : Only) (o : Option (List ℕ)) (p : valueIn s k ≡ o) where
   pub dated-none : k ≡ Other → Unavailable ≡ datedOf (dateBy o)
@@ -41,12 +39,11 @@ module _ (s : List ℕ) (k : Only) (o : Option (List ℕ)) (p : valueIn s k ≡ 
 pub ruleset dating = (dated-none, dated-by, value-within, valued, needs)
 
 pub date-effective :
-    (fs : List FieldText) (receipt : ℕ) (r : Dated) → r ≡ datedOf (dateBy (onlyValue (valuesOf Date fs))) → effectiveDate (optionOf r) receipt ≡ dateIn fs receipt
+    (fs : List FieldText) (receipt : ℕ) (r : Dated) → r ≡ datedOf (saidDate fs) → effectiveDate (optionOf r) receipt ≡ dateIn fs receipt
 unfolding dateIn
 date-effective fs receipt r h =
-    let o : Option ℕ = dateBy (onlyValue (valuesOf Date fs)) in
-    ap (λ (d : Option ℕ). effectiveDate d receipt) (ap optionOf h ∙ option-dated o)
+    ap (λ (d : Option ℕ). effectiveDate d receipt) (ap optionOf h ∙ option-dated (saidDate fs))
 
 pub date-in-range : (fs : List FieldText) (receipt : ℕ) → receipt ≤ timeLimit → dateIn fs receipt ≤ timeLimit
 unfolding dateIn
-date-in-range fs receipt h = omega (arith, effective-upto (dateBy (onlyValue (valuesOf Date fs))) receipt)
+date-in-range fs receipt h = omega (arith, effective-upto (saidDate fs) receipt)

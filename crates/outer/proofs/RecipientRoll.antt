@@ -32,6 +32,7 @@ use Rattle.fields.specs.declared.Named.{Named}
 use Rattle.fields.specs.declared.Named.the-variants.{Field, Nothing}
 use Rattle.fields.proofs.Finding.{named-first, named-readable, named-none, finding}
 use Rattle.outer.specs.Outer.{addressesIn, recipientsIn}
+use Rattle.outer.specs.Answers.{rollOf}
 
 -- the addresses of the first of some values
 addresses-one : (v : List ℕ) (rest : List (List ℕ)) → addressesIn (v ∷ rest) ≡ listedIn v ++ addressesIn rest
@@ -57,7 +58,7 @@ block-room kind s = go (fieldsOf s) refl
     go (some fs) e = rw e (omega (arith, values-room kind fs, total-block s fs e))
 
 pub record Gathering (s d out : List ℕ) (o at : ℕ) : Type 0 where
-  pub so-far : Wrote (rolled (recipientsIn (fieldsIn s))) d out o (rolled (addressesIn (valuesFrom Recipients s at)))
+  pub so-far : Wrote (rollOf s) d out o (rolled (addressesIn (valuesFrom Recipients s at)))
   pub clear : isSome (fieldsFrom s at) ≡ true
 
 pub gather-begin : (s d : List ℕ) (v : Survey) → SurveyAs s v → length s ≤ length d → Gathering s d d 0 (v .recipients .first)
@@ -78,19 +79,19 @@ module _ (s d out : List ℕ) (o at : ℕ) (h : Gathering s d out o at) where
   gather-clear = h .clear
 
   pub gather-kept : length out ≡ length d
-  gather-kept = kept (rolled (recipientsIn (fieldsIn s))) d out o (rolled (addressesIn (valuesFrom Recipients s at))) (h .so-far)
+  gather-kept = kept (rollOf s) d out o (rolled (addressesIn (valuesFrom Recipients s at))) (h .so-far)
 
   module _ (k : Named) (p : NamedAs Recipients s at k) where
     module _ (q : k ≡ Nothing) where
-      all : Wrote (rolled (recipientsIn (fieldsIn s))) d out o []
+      all : Wrote (rollOf s) d out o []
       unfolding addressesIn
       all = rw (named-none Recipients s at k p q, rolled-none) at (h .so-far)
 
-      pub gather-end : o ≡ length (rolled (recipientsIn (fieldsIn s)))
-      gather-end = omega (arith, counted (rolled (recipientsIn (fieldsIn s))) d out o [] all)
+      pub gather-end : o ≡ length (rollOf s)
+      gather-end = omega (arith, counted (rollOf s) d out o [] all)
 
-      pub gather-written : out ≡ onto (rolled (recipientsIn (fieldsIn s))) d
-      gather-written = done (rolled (recipientsIn (fieldsIn s))) d out o all
+      pub gather-written : out ≡ onto (rollOf s) d
+      gather-written = done (rollOf s) d out o all
 
     -- the value of a field was unfolded to the text
     module _ (v e : ℕ) (q : k ≡ Field v e) (text t₀ : List ℕ) (n : ℕ) (c : n ≡ length (valueAt s v e)) (t : text ≡ onto (valueAt s v e) t₀) where
@@ -106,7 +107,7 @@ module _ (s d out : List ℕ) (o at : ℕ) (h : Gathering s d out o at) where
           rw (named-first Recipients s at k p v e q, addresses-one (valueAt s v e) (valuesFrom Recipients s e), value-there-from (valueAt s v e) t₀ text n c t)
           (rolled-append (listedIn (valueAt s v e)) (addressesIn (valuesFrom Recipients s e)))
 
-      wrote : Wrote (rolled (recipientsIn (fieldsIn s))) d out o (added ++ more)
+      wrote : Wrote (rollOf s) d out o (added ++ more)
       wrote = rw first at (h .so-far)
 
       pub gather-room : o + length (rolled (listedIn (take (n - 0) (drop 0 text)))) ≤ length out
@@ -114,7 +115,7 @@ module _ (s d out : List ℕ) (o at : ℕ) (h : Gathering s d out o at) where
       gather-room =
           omega (
             arith,
-            counted (rolled (recipientsIn (fieldsIn s))) d out o (added ++ more) wrote,
+            counted (rollOf s) d out o (added ++ more) wrote,
             length-append added more,
             gather-kept,
             wrote .room,
@@ -126,16 +127,16 @@ module _ (s d out : List ℕ) (o at : ℕ) (h : Gathering s d out o at) where
       unfolding added more
       gather-on end last y z =
           record {
-            so-far = rw (y, z) (puts (rolled (recipientsIn (fieldsIn s))) d out o added more wrote);
+            so-far = rw (y, z) (puts (rollOf s) d out o added more wrote);
             clear = named-readable Recipients s at k p v e q;
           }
 
 pub ruleset rolling = (gather-begin, gather-last, gather-clear, gather-kept, gather-end, gather-written, gather-room, gather-on, value-within, finding, needs)
 
 -- what a caller reads off the roll: the recipients
-module _ (s d out : List ℕ) (n : ℕ) (c : n ≡ length (rolled (recipientsIn (fieldsIn s)))) (o : out ≡ onto (rolled (recipientsIn (fieldsIn s))) d) where
+module _ (s d out : List ℕ) (n : ℕ) (c : n ≡ length (rollOf s)) (o : out ≡ onto (rollOf s) d) where
   pub gathered-within : n ≤ length out
-  gathered-within = value-within (rolled (recipientsIn (fieldsIn s))) d out n c o
+  gathered-within = value-within (rollOf s) d out n c o
 
   pub gathered : unrolled (take (n - 0) (drop 0 out)) ≡ recipientsIn (fieldsIn s)
-  gathered = rw (value-there-from (rolled (recipientsIn (fieldsIn s))) d out n c o) (unrolled-rolled (recipientsIn (fieldsIn s)))
+  gathered = rw (value-there-from (rollOf s) d out n c o) (unrolled-rolled (recipientsIn (fieldsIn s)))

@@ -1,6 +1,7 @@
 -- What the outer block of a message says besides keys, of paper 01, by its fields.
 --     senderIn         "5: not exactly one From field, or it isn't a readable list of exactly one address", denied
 --     isReported       "6: a Content-Type is multipart/report"
+--     saidDate         the Date, where it is available
 --     dateIn           "The effective date"
 --     recipientsIn     "a readable To, Cc or Reply-To of the outer block"
 use Prim.Native.Nat.{ℕ}
@@ -40,8 +41,11 @@ unfoldable pub dateBy : Option (List ℕ) → Option ℕ
 dateBy none = none
 dateBy (some v) = dateOf v
 
+abbrev pub saidDate : List FieldText → Option ℕ
+saidDate fs = dateBy (onlyValue (valuesOf Date fs))
+
 unfoldable pub dateIn : List FieldText → ℕ → ℕ
-dateIn fs receipt = effectiveDate (dateBy (onlyValue (valuesOf Date fs))) receipt
+dateIn fs receipt = effectiveDate (saidDate fs) receipt
 
 -- the addresses of each value that is a readable list, as they stand there
 unfoldable pub addressesIn : List (List ℕ) → List (List ℕ)

@@ -8,12 +8,10 @@ ghost use lib.ListN.{length};
 ghost use Rattle.octets.specs.Written.{onto};
 ghost use Rattle.slots.specs.Slot.{addressRoom};
 ghost use Rattle.date.specs.Answers.{datedOf};
-ghost use Rattle.roll.specs.Roll.{rolled};
-ghost use Rattle.fields.specs.Fields.{fieldsIn, valuesOf, onlyValue};
-ghost use Rattle.fields.specs.declared.Kind.the-variants.{Date};
+ghost use Rattle.fields.specs.Fields.{fieldsIn};
 ghost use Rattle.fields.specs.Spans.{SurveyAs};
-ghost use Rattle.outer.specs.Outer.{senderIn, isReported, dateBy, recipientsIn};
-ghost use Rattle.outer.specs.Answers.{senderOf, leftBySender};
+ghost use Rattle.outer.specs.Outer.{senderIn, isReported, saidDate};
+ghost use Rattle.outer.specs.Answers.{senderOf, leftBySender, rollOf};
 use date::Dated;
 use fields::Kind;
 use fields::Named;
@@ -72,7 +70,7 @@ pub fn is_report(block: &[u8], survey: Survey, text: &mut [u8]) -> bool
 // The Date, where there is exactly one Date field.
 pub fn date(block: &[u8], survey: Survey, text: &mut [u8]) -> Dated
     requires { ⌜ SurveyAs (now block) survey × (length (now block) ≤ length (now text)) ⌝ }
-    ensures { λ r. ⌜ r ≡ datedOf (dateBy (onlyValue (valuesOf Date (fieldsIn (now (block .entry)))))) ⌝ }
+    ensures { λ r. ⌜ r ≡ datedOf (saidDate (fieldsIn (now (block .entry)))) ⌝ }
 {
     match fields::only_field(block, survey.date, Kind::Date) {
         Only::One { value, end } => {
@@ -86,8 +84,8 @@ pub fn date(block: &[u8], survey: Survey, text: &mut [u8]) -> Dated
 // Writes the roll of all recipients to the front of `roll`, and answers where it ends.
 pub fn recipients(block: &[u8], survey: Survey, text: &mut [u8], roll: &mut [u8]) -> usize
     requires { ⌜ SurveyAs (now block) survey × (length (now block) ≤ length (now text)) × (length (now block) ≤ length (now roll)) ⌝ }
-    ensures { λ r. ⌜ r ≡ length (rolled (recipientsIn (fieldsIn (now (block .entry))))) ⌝ }
-    ensures { λ _. ⌜ now (roll .exit) ≡ onto (rolled (recipientsIn (fieldsIn (now (block .entry))))) (now (roll .entry)) ⌝ }
+    ensures { λ r. ⌜ r ≡ length (rollOf (now (block .entry))) ⌝ }
+    ensures { λ _. ⌜ now (roll .exit) ≡ onto (rollOf (now (block .entry))) (now (roll .entry)) ⌝ }
 {
     let span = survey.recipients;
     let last = span.last;

@@ -32,7 +32,7 @@ part-deliver-to-end : tie.Need-part-deliver-to-end
 part-deliver-to-end c = search delivering
 
 deliver-to-requires : tie.Need-deliver-to-requires
-deliver-to-requires c κs = (search needs, search needs, search needs, search needs, search needs, search needs, search needs, search delivering)
+deliver-to-requires c κs = search delivering
 
 same-length-3 : tie.Need-same-length-3
 same-length-3 c = search delivering

@@ -5,7 +5,7 @@ use Rattle.delivery.proofs.deliver_to.Statement.{statement}
 use Rattle.delivery.proofs.deliver_to.Tie as tie
 
 has-room-requires : tie.Need-has-room-requires
-has-room-requires c κs = (search needs, search needs, search putting, search needs)
+has-room-requires c κs = (search needs, search needs, search needs)
 
 same-length : tie.Need-same-length
 same-length c = search putting

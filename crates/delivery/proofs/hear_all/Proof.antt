@@ -2,14 +2,13 @@
 use Prim.Native.Nat.{_-_}
 use mathlib.Core.Path.{_≡_}
 use lib.ListN.{length}
-use Rattle.roll.specs.Roll.{unrolled}
 use Rattle.delivery.proofs.Spreading.{Spreads, spreading}
 use borrow.Author.Needs.{needs}
 use Rattle.delivery.proofs.hear_all.Statement.{statement}
 use Rattle.delivery.proofs.hear_all.Tie as tie
 
 abbrev Inv-loop : tie.InvT-loop
-Inv-loop table₀ date payload recipients text₀ address₀ key₀ at₀ table text address key at = (Spreads date (unrolled recipients) payload table₀ table at) × (length table ≡ length table₀) × (length text ≡ length text₀) × (length address ≡ length address₀) × (length key ≡ length key₀)
+Inv-loop table₀ date payload recipients text₀ address₀ key₀ at₀ table text address key at = (Spreads date recipients payload table₀ table at) × (length table ≡ length table₀) × (length text ≡ length text₀) × (length address ≡ length address₀) × (length key ≡ length key₀)
 
 abbrev μ-loop : tie.MeasureT-loop
 μ-loop table₀ date payload recipients text₀ address₀ key₀ at₀ table text address key at = length payload - at
@@ -24,7 +23,7 @@ slice-aggregate-next-gossip-2 : tie.Need-slice-aggregate-next-gossip-2 Inv-loop 
 slice-aggregate-next-gossip-2 c = search spreading
 
 next-gossip-requires : tie.Need-next-gossip-requires Inv-loop μ-loop
-next-gossip-requires c κs = search spreading
+next-gossip-requires c κs = record { clear = search spreading; room = search needs; address-room = search needs; key-room = search needs }
 
 enum-known-end : tie.Need-enum-known-end Inv-loop μ-loop
 enum-known-end c = search spreading

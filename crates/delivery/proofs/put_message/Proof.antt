@@ -10,8 +10,11 @@ date-requires c κs = search dating
 effective-date-requires : tie.Need-effective-date-requires
 effective-date-requires c κs = search dating
 
-apply-requires : tie.Need-apply-requires
-apply-requires c κs = (search needs, search needs, search needs, search dating, search needs, search needs, search dating)
+update-sender-requires : tie.Need-update-sender-requires
+update-sender-requires c κs = search dating
+
+hear-all-requires : tie.Need-hear-all-requires
+hear-all-requires c κs = (search needs, search dating, record { readably = search needs; room = search needs })
 
 same-length : tie.Need-same-length
 same-length c = search dating
@@ -28,7 +31,8 @@ put-message-spec =
     (tie.spec
     date-requires
     effective-date-requires
-    apply-requires
+    update-sender-requires
+    hear-all-requires
     same-length
     same-length-2
     returns)

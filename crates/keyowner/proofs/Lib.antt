@@ -1,0 +1,3 @@
+pub mod ReadKeys
+pub mod OwnField
+pub mod Accepting

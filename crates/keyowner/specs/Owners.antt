@@ -1,0 +1,15 @@
+-- Whose key a gossip field brings, of paper 01. Whose an Autocrypt field brings is `validFor` of `keyfield`.
+--     acceptedBy     a gossip field that is accepted
+use Prim.Native.Nat.{ℕ}
+use mathlib.Core.Bool.{true, false}
+use mathlib.Core.List.{List}
+use mathlib.Core.Option.{Option, some, none}
+use Rattle.list.specs.List.{among}
+use Rattle.keyfield.specs.Field.{Field}
+use Rattle.update.specs.Message.{Gossiped}
+
+-- "One is accepted if valid in form and its address occurs in a readable To, Cc or Reply-To of the outer block. .. Its preference is ignored."
+unfoldable pub acceptedBy : List (List ℕ) → Option Field → Option Gossiped
+acceptedBy recipients none = none
+acceptedBy recipients (some f) =
+    elim (among (f .address) recipients) [ true ↦ some (record { address = f .address; key = f .key }) | false ↦ none ]

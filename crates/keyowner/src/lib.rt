@@ -1,0 +1,77 @@
+// Whose key one field brings: that of the sender, in an Autocrypt field, or that of a recipient, in a gossip field. What is
+// right is said by specs/Owners.antt and by the definitions of `keyfield`.
+//
+// What a lent key or address holds behind the length that is answered means nothing.
+ghost use Prim.Native.Nat.{_≤_};
+ghost use mathlib.Core.Path.{_≡_};
+ghost use mathlib.Core.Bool.{true};
+ghost use lib.ListN.{length};
+ghost use Rattle.address.specs.Address.{isCanonical};
+ghost use Rattle.slots.specs.Slot.{addressRoom, keyLimit};
+ghost use Rattle.keyfield.specs.Field.{fieldOf, validFor};
+ghost use Rattle.roll.specs.Roll.{unrolled};
+ghost use Rattle.keyowner.specs.Owners.{acceptedBy};
+ghost use Rattle.keyowner.specs.Answers.{OwnAs, AcceptedAs};
+use keyfield::Read;
+
+// The preference and the length of the key of a field of the sender; or there is none.
+pub enum Own {
+    Key { mutual: bool, length: usize },
+    NoKey,
+}
+
+// The lengths of the address and the key of a gossip field that is accepted; or it is not.
+pub enum Accepted {
+    Gossip { address: usize, key: usize },
+    NotAccepted,
+}
+
+// Is the Autocrypt field with this value valid for the sender? Its key is then written to the front of `key`.
+pub fn valid_for(value: &[u8], sender: &[u8], key: &mut [u8]) -> Own
+    requires { ⌜ (isCanonical (now sender) ≡ true) × (keyLimit ≤ length (now key)) ⌝ }
+    ensures { λ r. ⌜ OwnAs (now (sender .entry)) (validFor (now (sender .entry)) (now (value .entry))) (now (key .exit)) r ⌝ }
+{
+    match keyfield::read_field(value, key) {
+        Read::Valid {
+            from,
+            to,
+            mutual,
+            key: length,
+        } => {
+            if address::same_address(&value[from..to], sender) {
+                return Own::Key { mutual, length };
+            }
+            Own::NoKey
+        }
+        Read::Spoiled => Own::NoKey,
+        Read::NoRoom => Own::NoKey,
+    }
+}
+
+// Is the gossip field with this value accepted? Its address and key are then written to the front of the two.
+pub fn accept(value: &[u8], recipients: &[u8], address: &mut [u8], key: &mut [u8]) -> Accepted
+    requires { ⌜ (addressRoom ≤ length (now address)) × (keyLimit ≤ length (now key)) ⌝ }
+    ensures { λ r. ⌜ AcceptedAs (acceptedBy (unrolled (now (recipients .entry))) (fieldOf (now (value .entry)))) (now (address .exit)) (now (key .exit)) r ⌝ }
+{
+    match keyfield::read_field(value, key) {
+        Read::Valid {
+            from,
+            to,
+            mutual: _,
+            key: length,
+        } => match address::canonical(&value[from..to], address) {
+            address::Written::Length(n) => {
+                if roll::holds(recipients, &address[0..n]) {
+                    return Accepted::Gossip {
+                        address: n,
+                        key: length,
+                    };
+                }
+                Accepted::NotAccepted
+            }
+            address::Written::NoRoom => Accepted::NotAccepted,
+        },
+        Read::Spoiled => Accepted::NotAccepted,
+        Read::NoRoom => Accepted::NotAccepted,
+    }
+}

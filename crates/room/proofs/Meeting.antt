@@ -1,0 +1,127 @@
+-- One address, and the roll of those that are known to be new.
+--     told-found, told-held       whether it is new
+--     rolls-begin                 the roll of none
+--     meet-filled .. meet-added   what comes of it
+--     met-known .. met-rolls      what a caller asks of the answer
+-- Assumes nothing.
+use Prim.Native.Nat.{ℕ, _+_, _-_, _<_, _≤_}
+use mathlib.Core.Path.{_≡_, refl, sym, ap, _∙_}
+use mathlib.Core.Bool.{Bool, true, false, not}
+use mathlib.Core.List.{List, [], _∷_, _++_}
+use native.Mathlib.Omega.{arith}
+use native.Mathlib.Nat.{sub-zero}
+use borrow.Author.Needs.{needs}
+use borrow.Author.Tests.{not-true, not-false}
+use lib.ListN.{length, take, drop, length-append}
+use Rattle.octets.specs.Written.{putAt}
+use Rattle.address.specs.Address.{isCanonical}
+use Rattle.list.specs.List.{among}
+use Rattle.slots.proofs.Entries.{canonical-most}
+use Rattle.table.specs.Table.{found, freeCount, checked}
+use Rattle.table.specs.declared.Checked.the-variants.{Sound}
+use Rattle.table.specs.declared.Found.{Found}
+use Rattle.table.specs.declared.Found.the-variants.{At, Nothing}
+use Rattle.table.proofs.Entries.{slots-most}
+use Rattle.table.proofs.Replaced.{free-most}
+use Rattle.roll.specs.Roll.{entry, rolled, unrolled}
+use Rattle.roll.proofs.Rolls.{entry-length, rolled-none, unrolled-none, unrolled-taken}
+use Rattle.roll.proofs.Growing.{add-rolled}
+use Rattle.room.specs.Room.{inRoll, isNew}
+use Rattle.room.specs.Counting.{Rolls, IsKnown, IsAdded, IsTooMany, MetAs}
+use Rattle.room.specs.declared.Met.{Met}
+use Rattle.room.specs.declared.Met.the-variants.{Known, New, Full}
+
+module _ (t a : List ℕ) (known : List (List ℕ)) (f : Found) (e : f ≡ found t a) where
+  pub told-found : (i : ℕ) → f ≡ At i → false ≡ isNew t known a
+  unfolding isNew
+  told-found i q = rw (← e, q)
+
+  pub told-held : f ≡ Nothing → (b : Bool) → b ≡ among a known → not b ≡ isNew t known a
+  unfolding isNew
+  told-held q b h = rw (← e, q, h)
+
+pub ruleset telling = (told-found, told-held, needs)
+
+pub rolls-begin : (t roll : List ℕ) → checked t ≡ Sound → length roll ≡ 65536 → Rolls t roll 0 0
+rolls-begin t roll s l =
+    record {
+      is = ap rolled unrolled-none ∙ rolled-none;
+      long = ap length unrolled-none;
+      short = omega arith;
+      enough = omega arith;
+      few = omega (arith, free-most t, slots-most t s);
+      wide = l;
+    }
+
+pub meet-enters : (a : List ℕ) → isCanonical a ≡ true → length a < 256
+meet-enters a c = omega (arith, canonical-most a c)
+
+module _ (t roll : List ℕ) (filled many : ℕ) (h : Rolls t roll filled many) where
+  pub meet-filled : filled ≤ length roll
+  meet-filled = omega (arith, h .short, h .enough, h .few, h .wide)
+
+  module _ (a : List ℕ) (b : Bool) (e : b ≡ isNew t (unrolled (take (filled - 0) (drop 0 roll))) a) where
+    told : b ≡ isNew t (inRoll filled roll) a
+    told = rw sub-zero at e
+
+    pub meet-known : not b ≡ true → MetAs t roll filled many a roll Known
+    unfolding MetAs
+    meet-known y = record { known = sym told ∙ not-true b y; same = refl }
+
+    module _ (y : not b ≡ false) (free : ℕ) (f : free ≡ freeCount t) where
+      pub meet-full : (out : List ℕ) → free ≡ many → MetAs t roll filled many a out Full
+      unfolding MetAs
+      meet-full out g = record { new = sym told ∙ not-false b y; full = omega (arith, f, g) }
+
+      module _ (g : free ≡ many → ⊥) (c : isCanonical a ≡ true) where
+        less : many < freeCount t
+        less = omega (arith, h .enough, f, g)
+
+        pub meet-room : filled + length (entry a) ≤ length roll
+        meet-room = omega (arith, canonical-most a c, entry-length a, less, h .short, h .few, h .wide)
+
+        module _ (end : ℕ) (out : List ℕ) (u : end ≡ filled + length (entry a)) (w : out ≡ putAt roll filled (entry a)) where
+          grown : take end out ≡ rolled (inRoll filled roll ++ (a ∷ []))
+          grown = add-rolled roll out filled end meet-filled a u w (inRoll filled roll) (sym (h .is))
+
+          there : inRoll end out ≡ inRoll filled roll ++ (a ∷ [])
+          there = unrolled-taken end out (inRoll filled roll ++ (a ∷ [])) grown
+
+          pub meet-added : length out ≡ length roll → MetAs t roll filled many a out (New end)
+          unfolding MetAs
+          meet-added l =
+              record {
+                new = sym told ∙ not-false b y;
+                added = there;
+                rolls =
+                    record {
+                      is = rw there (sym grown);
+                      long = rw there (simp length-append (omega (arith, h .long)));
+                      short = omega (arith, h .short, u, entry-length a, canonical-most a c);
+                      enough = omega (arith, less);
+                      few = h .few;
+                      wide = omega (arith, l, h .wide);
+                    };
+              }
+
+pub ruleset meeting = (meet-filled, meet-known, meet-full, meet-enters, meet-room, meet-added, needs)
+
+-- as a caller asks it of an answer m
+module _ (t roll : List ℕ) (filled many : ℕ) (a out : List ℕ) (m : Met) (p : MetAs t roll filled many a out m) where
+  pub met-known : m ≡ Known → IsKnown t roll filled a out
+  unfolding MetAs
+  met-known q = rw q at p
+
+  pub met-full : m ≡ Full → IsTooMany t roll filled many a
+  unfolding MetAs
+  met-full q = rw q at p
+
+  pub met-added : (end : ℕ) → m ≡ New end → IsAdded t roll filled many a out end
+  unfolding MetAs
+  met-added end q = rw q at p
+
+  pub met-same : m ≡ Known → Rolls t roll filled many → Rolls t out filled many
+  met-same q h = rw (met-known q .same) h
+
+  pub met-rolls : (end : ℕ) → m ≡ New end → Rolls t out end (many + 1)
+  met-rolls end q = met-added end q .rolls
