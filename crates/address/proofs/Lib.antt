@@ -1,6 +1,4 @@
-pub mod Every
 pub mod Pieces
-pub mod Running
 pub mod Joined
 pub mod Atoms
 pub mod Labels

@@ -15,8 +15,10 @@ use native.Mathlib.Numerals.{add-one}
 use borrow.Author.Tests.{ne-eqb, eqb-true}
 use lib.Dec.{eqb}
 use lib.ListN.{length, drop}
-use Rattle.address.specs.Pieces.{every, onFirst, pieces, before, behind}
-use Rattle.address.proofs.Every.{and-left, and-right, by-test, every-weaker}
+use Rattle.octets.specs.Tests.{every}
+use Rattle.octets.proofs.Tests.{and-left, and-right, by-test}
+use Rattle.octets.proofs.Every.{every-weaker}
+use Rattle.address.specs.Pieces.{onFirst, pieces, before, behind}
 
 -- the pieces are what stands before the first such octet, and the others
 unfoldable pub others : ℕ → List ℕ → List (List ℕ)

@@ -8,21 +8,23 @@
 -- Assumes nothing.
 use Prim.Native.Nat.{ℕ, _+_, _-_, _<_, _≤_}
 use mathlib.Core.Path.{_≡_, refl, sym, _∙_}
-use mathlib.Core.Bool.{Bool, true, and-false}
+use mathlib.Core.Bool.{Bool, true}
 use mathlib.Core.List.{List}
 use native.Mathlib.Omega.{arith}
 use borrow.Author.Tests.{le-leb, lt-leb, ne-eqb}
-use lib.Dec.{leb, eqb}
+use lib.Dec.{eqb}
 use lib.ListN.{length, getD}
 use Rattle.octets.specs.Octets.{AllOctets, sameOctets, lower, lowered}
 use Rattle.octets.proofs.Letters.{by-case, lowered-twice, lowered-octets, length-lowered, getD-lowered}
 use Rattle.octets.proofs.Comparing.{same-refl, same-true}
-use Rattle.tokens.specs.Tokens.{letter, belongs}
-use Rattle.tokens.specs.declared.Class.{Class}
-use Rattle.tokens.specs.declared.Class.the-variants.{Digit, Letter, Atom}
-use Rattle.address.specs.Pieces.{every, pieces, before, behind}
-use Rattle.address.specs.Address.{atom, localPart, labelOctet, freeEnds, label, domain, plain, canonical, isCanonical}
-use Rattle.address.proofs.Every.{and-left, and-right, every-map}
+use Rattle.octets.specs.Tests.{every}
+use Rattle.octets.proofs.Tests.{and-left, and-right}
+use Rattle.octets.proofs.Every.{every-map}
+use Rattle.runs.specs.Runs.{letter, belongs}
+use Rattle.runs.specs.declared.Class.{Class}
+use Rattle.runs.specs.declared.Class.the-variants.{Atom, Label}
+use Rattle.address.specs.Pieces.{pieces, before, behind}
+use Rattle.address.specs.Address.{atom, localPart, freeEnds, label, domain, plain, canonical, isCanonical}
 use Rattle.address.proofs.Pieces.{before-map, behind-map, pieces-map}
 use Rattle.address.proofs.Sides.{plain-most}
 
@@ -44,7 +46,7 @@ lower-sign d l x =
     by-capital (λ y. eqb y d ≡ eqb x d) x refl
     (λ h k. ne-eqb (x + 32) d (λ e. omega arith) ∙ sym (ne-eqb x d (λ e. omega arith)))
 
--- an octet stays in its class
+-- a capital and its small letter are both letters
 module _ (x : ℕ) (h : 65 ≤ x) (k : x ≤ 90) where
   capital-letter : letter x ≡ true
   capital-letter = rw (le-leb 65 x h, le-leb x 90 k)
@@ -53,18 +55,19 @@ module _ (x : ℕ) (h : 65 ≤ x) (k : x ≤ 90) where
   small-letter =
       rw (le-leb 65 (x + 32) (omega arith), lt-leb (x + 32) 90 (omega arith), le-leb 97 (x + 32) (omega arith), le-leb (x + 32) 122 (omega arith))
 
-  capital-class : (class : Class) → belongs class (x + 32) ≡ belongs class x
-  unfolding belongs
-  capital-class Digit = rw (lt-leb x 57 (omega arith), lt-leb (x + 32) 57 (omega arith), and-false (leb 48 (x + 32)), and-false (leb 48 x))
-  capital-class Letter = small-letter ∙ sym capital-letter
-  capital-class Atom = rw (small-letter, capital-letter)
+-- an octet stays in a class to which letters belong
+lower-class : (class : Class) → ((x : ℕ) → letter x ≡ true → belongs class x ≡ true) → (x : ℕ) → belongs class (lower x) ≡ belongs class x
+lower-class class letters x =
+    by-capital (λ y. belongs class y ≡ belongs class x) x refl
+    (λ h k. letters (x + 32) (small-letter x h k) ∙ sym (letters x (capital-letter x h k)))
 
-lower-class : (class : Class) (x : ℕ) → belongs class (lower x) ≡ belongs class x
-lower-class class x = by-capital (λ y. belongs class y ≡ belongs class x) x refl (λ h k. capital-class x h k class)
+lower-atom : (x : ℕ) → belongs Atom (lower x) ≡ belongs Atom x
+unfolding belongs
+lower-atom = lower-class Atom (λ x e. rw e)
 
-lower-label : (x : ℕ) → labelOctet (lower x) ≡ labelOctet x
-unfolding labelOctet
-lower-label x = rw (lower-class Letter x, lower-class Digit x, lower-sign 45 (omega arith) x)
+lower-label : (x : ℕ) → belongs Label (lower x) ≡ belongs Label x
+unfolding belongs
+lower-label = lower-class Label (λ x e. rw e)
 
 -- so each test of a part answers as before
 every-lowered : (q : ℕ → Bool) → ((x : ℕ) → q (lower x) ≡ q x) → (p : List ℕ) → every q (lowered p) ≡ every q p
@@ -73,14 +76,14 @@ every-lowered q keeps p = every-map q lower keeps p
 
 atom-lowered : (p : List ℕ) → atom (lowered p) ≡ atom p
 unfolding atom
-atom-lowered p = rw (length-lowered p, every-lowered (belongs Atom) (lower-class Atom) p)
+atom-lowered p = rw (length-lowered p, every-lowered (belongs Atom) lower-atom p)
 
 label-lowered : (p : List ℕ) → label (lowered p) ≡ label p
 unfolding label freeEnds
 label-lowered p =
     rw (
       length-lowered p,
-      every-lowered labelOctet lower-label p,
+      every-lowered (belongs Label) lower-label p,
       getD-lowered p 0,
       getD-lowered p (length p - 1),
       lower-sign 45 (omega arith) (getD p 0 0),

@@ -6,9 +6,10 @@ use mathlib.Core.Bool.{true, false, not}
 use mathlib.Core.List.{List, [], _∷_, _++_}
 use lib.ListN.{length, replicate}
 use Rattle.octets.specs.Octets.{ascii, octet, lower, lowered, sameOctets}
-use Rattle.tokens.specs.Tokens.{belongs}
-use Rattle.address.specs.Pieces.{every, onFirst, pieces, before, behind}
-use Rattle.address.specs.Address.{atom, localPart, labelOctet, freeEnds, label, domain, plain, canonical, isCanonical, addressOctet}
+use Rattle.octets.specs.Tests.{every}
+use Rattle.runs.specs.Runs.{belongs}
+use Rattle.address.specs.Pieces.{onFirst, pieces, before, behind}
+use Rattle.address.specs.Address.{atom, localPart, freeEnds, label, domain, plain, canonical, isCanonical, addressOctet}
 
 -- an address with a local part of so many octets, one with a label of so many, and one with a last label of so many after 193 octets
 localPartOf : ℕ → List ℕ
@@ -66,11 +67,11 @@ noPlains =
     ∷ []
 
 all-plain : every plain plains ≡ true
-unfolding plains localPartOf labelOf addressOf plain localPart atom domain label labelOctet freeEnds every onFirst pieces before behind belongs
+unfolding plains localPartOf labelOf addressOf plain localPart atom domain label belongs freeEnds every onFirst pieces before behind
 all-plain = refl
 
 none-plain : every (λ s. not (plain s)) noPlains ≡ true
-unfolding noPlains localPartOf labelOf addressOf plain localPart atom domain label labelOctet freeEnds every onFirst pieces before behind belongs
+unfolding noPlains localPartOf labelOf addressOf plain localPart atom domain label belongs freeEnds every onFirst pieces before behind
 none-plain = refl
 
 -- 254 octets and 255
@@ -88,14 +89,14 @@ unfolding canonical lowered lower
 form-kept = refl
 
 capital : isCanonical (ascii "a@B.example") ≡ false
-unfolding isCanonical canonical lowered lower sameOctets plain localPart atom domain label labelOctet freeEnds every onFirst pieces before behind belongs
+unfolding isCanonical canonical lowered lower sameOctets plain localPart atom domain label belongs freeEnds every onFirst pieces before behind
 capital = refl
 
 small : isCanonical (ascii "a@b.example") ≡ true
-unfolding isCanonical canonical lowered lower sameOctets plain localPart atom domain label labelOctet freeEnds every onFirst pieces before behind belongs
+unfolding isCanonical canonical lowered lower sameOctets plain localPart atom domain label belongs freeEnds every onFirst pieces before behind
 small = refl
 
 -- what else stands in no plain address, beside all below 33: what lists and fields put between addresses
 apart : every (λ x. not (addressOctet x)) (127 ∷ ascii ",:;<>\"()[]\\") ≡ true
-unfolding every addressOctet belongs
+unfolding every belongs
 apart = refl

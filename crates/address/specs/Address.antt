@@ -1,19 +1,20 @@
 -- "A plain address", and "the canonical form", of paper 01.
 --     longest, longestLocal, longestLabel    the limits
 --     atom, localPart                        what stands before the "@"
---     labelOctet, label, domain              what stands behind it
+--     label, domain                          what stands behind it
 --     plain                                  a plain address
 --     canonical, isCanonical                 its canonical form; a plain address that is its own
 --     addressOctet                           what octets can stand in a plain address at all
 use Prim.Native.Nat.{ℕ, _-_}
-use mathlib.Core.Bool.{Bool, not, _&&_, _||_}
+use mathlib.Core.Bool.{Bool, not, _&&_}
 use mathlib.Core.List.{List}
 use lib.Dec.{leb, eqb}
 use lib.ListN.{length, getD}
 use Rattle.octets.specs.Octets.{octet, sameOctets, lowered}
-use Rattle.tokens.specs.Tokens.{belongs}
-use Rattle.tokens.specs.declared.Class.the-variants.{Digit, Letter, Atom}
-use Rattle.address.specs.Pieces.{every, pieces, before, behind}
+use Rattle.octets.specs.Tests.{every, oneTo}
+use Rattle.runs.specs.Runs.{belongs}
+use Rattle.runs.specs.declared.Class.the-variants.{Atom, Label, Address}
+use Rattle.address.specs.Pieces.{pieces, before, behind}
 
 -- "A plain address has at most 254 octets."
 abbrev pub longest : ℕ
@@ -27,10 +28,6 @@ longestLocal = 64
 abbrev pub longestLabel : ℕ
 longestLabel = 63
 
--- "1 to .."
-abbrev pub oneTo : ℕ → ℕ → Bool
-oneTo most n = leb 1 n && leb n most
-
 -- ".. nonempty RFC 5322 atoms .., octets of 128 and above allowed."
 unfoldable pub atom : List ℕ → Bool
 atom s = leb 1 (length s) && every (belongs Atom) s
@@ -39,17 +36,13 @@ atom s = leb 1 (length s) && every (belongs Atom) s
 unfoldable pub localPart : List ℕ → Bool
 localPart s = oneTo longestLocal (length s) && every atom (pieces (octet ".") s)
 
--- ".. ASCII letters, digits and hyphens .."
-unfoldable pub labelOctet : ℕ → Bool
-labelOctet x = belongs Letter x || belongs Digit x || eqb x (octet "-")
-
 -- ".. no hyphen at either end."
 unfoldable pub freeEnds : List ℕ → Bool
 freeEnds s = not (eqb (getD s 0 0) (octet "-")) && not (eqb (getD s (length s - 1) 0) (octet "-"))
 
 -- ".. labels .. of 1 to 63 ASCII letters, digits and hyphens, no hyphen at either end."
 unfoldable pub label : List ℕ → Bool
-label s = oneTo longestLabel (length s) && every labelOctet s && freeEnds s
+label s = oneTo longestLabel (length s) && every (belongs Label) s && freeEnds s
 
 -- "The domain is one or more labels, joined by dots .."
 unfoldable pub domain : List ℕ → Bool
@@ -68,5 +61,5 @@ unfoldable pub isCanonical : List ℕ → Bool
 isCanonical s = plain s && sameOctets (canonical s) s
 
 -- what both sides and the "@" between them are made of
-unfoldable pub addressOctet : ℕ → Bool
-addressOctet x = belongs Atom x || eqb x (octet ".") || eqb x (octet "@")
+abbrev pub addressOctet : ℕ → Bool
+addressOctet x = belongs Address x

@@ -1,13 +1,11 @@
 // Plain addresses and their canonical form. A test of an address passes over it once, atom by atom and label by label.
-ghost use Prim.Native.Nat.{_+_};
 ghost use mathlib.Core.Path.{_≡_};
 ghost use lib.Dec.{eqb};
 ghost use lib.ListN.{length, drop};
 ghost use Rattle.octets.specs.Octets.{sameOctets, lower as lowerOf, lowered};
-ghost use Rattle.address.specs.Pieces.{run};
-ghost use Rattle.address.specs.Address.{labelOctet, domain, plain, canonical as canonicalOf, isCanonical};
+ghost use Rattle.address.specs.Address.{domain, plain, canonical as canonicalOf, isCanonical};
 ghost use Rattle.address.specs.Answers.{localOf, labelShape, writtenOf, ontoIfFits};
-use tokens::Class;
+use runs::Class;
 
 // "A plain address has at most 254 octets."
 const LONGEST: usize = 254;
@@ -36,7 +34,7 @@ fn local_part(s: &[u8]) -> Local
 {
     let mut i = 0;
     while i < s.len() {
-        let end = tokens::run_end(s, i, Class::Atom);
+        let end = runs::run_end(s, i, Class::Atom);
         if s.len() <= end {
             return Local::NoPart;
         }
@@ -55,30 +53,6 @@ fn local_part(s: &[u8]) -> Local
         i = end + 1;
     }
     Local::NoPart
-}
-
-// Small letters, the most of what stands in labels, are known by the first test.
-fn label_octet(x: u8) -> bool
-    ensures { λ r. ⌜ r ≡ labelOctet x ⌝ }
-{
-    if (b'a' <= x) & (x <= b'z') {
-        return true;
-    }
-    ((b'A' <= x) & (x <= b'Z')) | ((b'0' <= x) & (x <= b'9')) | (x == b'-')
-}
-
-// The end of the run of letters, digits and hyphens that begins at the place `at`.
-fn label_end(s: &[u8], at: usize) -> usize
-    ensures { λ r. ⌜ r ≡ at + run labelOctet (drop at (now (s .entry))) ⌝ }
-{
-    let mut i = at;
-    while i < s.len() {
-        if !label_octet(s[i]) {
-            return i;
-        }
-        i += 1;
-    }
-    i
 }
 
 // Has a run of letters, digits and hyphens the length and the ends of a label?
@@ -101,7 +75,7 @@ fn is_domain(s: &[u8], at: usize) -> bool
 {
     let mut i = at;
     while i < s.len() {
-        let end = label_end(s, i);
+        let end = runs::run_end(s, i, Class::Label);
         if !shaped(&s[i..end]) {
             return false;
         }

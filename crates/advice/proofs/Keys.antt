@@ -10,8 +10,8 @@ use mathlib.Core.Bool.{true}
 use mathlib.Core.List.{List, [], _∷_}
 use native.Mathlib.Omega.{arith}
 use lib.ListN.{length, getD}
+use Rattle.octets.proofs.Tests.{by-test}
 use Rattle.address.specs.Address.{canonical}
-use Rattle.address.proofs.Every.{by-test}
 use Rattle.slots.specs.Slot.{hasDirect, hasGossip, numbersOf, directKeyOf, gossipKeyOf, sound}
 use Rattle.slots.specs.Entry.{entryOf}
 use Rattle.slots.specs.Facts.{Sound}

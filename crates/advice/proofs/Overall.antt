@@ -12,7 +12,7 @@ use mathlib.Core.Bool.{Bool, true, false, false≢true}
 use mathlib.Core.List.{List, [], _∷_}
 use mathlib.Core.Option.{Option, some, none}
 use borrow.Author.Needs.{needs}
-use Rattle.address.proofs.Every.{by-test}
+use Rattle.octets.proofs.Tests.{by-test}
 use Rattle.list.specs.List.{inFront, addresses, given, isGiven}
 use Rattle.list.specs.Answers.{between, beginning, left, Hands}
 use Rattle.list.specs.declared.Cursor.{Cursor}

@@ -12,7 +12,7 @@ use mathlib.Core.List.{List}
 use mathlib.Core.Option.{some, none}
 use borrow.Author.Needs.{needs}
 use borrow.Author.Tests.{lt-ltb, le-ltb}
-use Rattle.address.proofs.Every.{by-test}
+use Rattle.octets.proofs.Tests.{by-test}
 use Rattle.slots.specs.declared.Slot.{Slot}
 use Rattle.slots.specs.Slot.{hasLastSeen, hasDirect, hasGossip, isMutual, lastSeen, timestamp, gossipTimestamp, directKeyOf, gossipKeyOf, numbersOf, sound}
 use Rattle.slots.specs.Entry.{entryOf, orElse}

@@ -12,8 +12,9 @@ use native.Mathlib.Omega.{arith}
 use lib.ListN.{length}
 use Rattle.octets.specs.Written.{onto}
 use Rattle.octets.proofs.Lists.{lt-or-le}
-use Rattle.address.specs.Address.{oneTo, plain}
-use Rattle.address.proofs.Every.{by-test}
+use Rattle.octets.specs.Tests.{oneTo}
+use Rattle.octets.proofs.Tests.{by-test}
+use Rattle.address.specs.Address.{plain}
 use Rattle.autocrypt.specs.Refusals.{numberOf}
 use Rattle.slots.specs.Slot.{keyLimit}
 use Rattle.autocrypt.specs.Writing.{refusedWriting, writtenOf, leftByWriting, numberIn, Row, nine, eleven, twelve, nought}

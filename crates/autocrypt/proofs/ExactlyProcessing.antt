@@ -15,7 +15,7 @@ use mathlib.Core.List.{List, []}
 use mathlib.Core.Option.{Option, some, none}
 use Rattle.octets.specs.Octets.{AllOctets}
 use Rattle.octets.proofs.Lists.{lt-or-le}
-use Rattle.address.proofs.Every.{by-test}
+use Rattle.octets.proofs.Tests.{by-test}
 use Rattle.header.specs.Header.{FieldText, fieldsOf}
 use Rattle.header.proofs.Octetwise.{ValuesOctets, block-octets}
 use Rattle.slots.specs.Slot.{timeLimit}

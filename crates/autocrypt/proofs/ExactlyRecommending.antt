@@ -10,7 +10,7 @@ use mathlib.Core.Bool.{Bool, true, false}
 use mathlib.Core.List.{List}
 use mathlib.Core.Option.{some, none}
 use native.Mathlib.Omega.{arith}
-use Rattle.address.proofs.Every.{by-test}
+use Rattle.octets.proofs.Tests.{by-test}
 use Rattle.list.specs.List.{addresses, given}
 use Rattle.table.specs.Table.{whole, checked}
 use Rattle.table.specs.Slotwise.{SoundTable, Broken}

@@ -12,10 +12,12 @@ use borrow.Author.Tests.{leb-true}
 use lib.Dec.{leb}
 use lib.ListN.{length}
 use Rattle.octets.specs.Octets.{ascii}
-use Rattle.base64.specs.Base64.{encode, lines}
-use Rattle.base64.proofs.Lengths.{lines-counted}
-use Rattle.address.specs.Address.{oneTo, plain, canonical}
-use Rattle.address.proofs.Every.{and-right}
+use Rattle.octets.specs.Tests.{oneTo}
+use Rattle.octets.proofs.Tests.{and-right}
+use Rattle.letters.specs.Base64.{encode}
+use Rattle.lines.specs.Lines.{lines}
+use Rattle.lines.proofs.Lengths.{lines-counted}
+use Rattle.address.specs.Address.{plain, canonical}
 use Rattle.address.proofs.Forming.{form-fits}
 use Rattle.slots.specs.Slot.{keyLimit}
 use Rattle.writer.specs.Writing.{preference, written}

@@ -15,10 +15,10 @@ use borrow.Author.Needs.{needs}
 use borrow.Author.Tests.{le-leb, lt-leb, leb-true, not-true, not-false}
 use lib.Dec.{leb}
 use lib.ListN.{length, take, drop}
+use Rattle.octets.proofs.Tests.{and-left, and-right}
 use Rattle.header.specs.Header.{FieldText, isSome, fieldsOf, readable, limit}
 use Rattle.header.proofs.Fields.{fields-empty, unclear}
 use Rattle.address.specs.Address.{isCanonical}
-use Rattle.address.proofs.Every.{and-left, and-right}
 use Rattle.slots.specs.Slot.{timeLimit}
 use Rattle.table.specs.Table.{checked}
 use Rattle.table.specs.declared.Checked.{Checked as OfTable}

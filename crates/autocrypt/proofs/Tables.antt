@@ -13,7 +13,7 @@ use lib.Dec.{leb, eqb}
 use lib.ListN.{length}
 use mir.Syntax.{w32}
 use mir.Val.{Fits}
-use Rattle.address.proofs.Every.{and-right, by-test}
+use Rattle.octets.proofs.Tests.{and-right, by-test}
 use Rattle.table.specs.Table.{slots, right, whole, judged, checked}
 use Rattle.table.specs.declared.Checked.{Checked}
 use Rattle.table.specs.declared.Checked.the-variants.{Sound, Length, Slot}

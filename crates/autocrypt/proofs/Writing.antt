@@ -15,7 +15,8 @@ use borrow.Author.Needs.{needs}
 use borrow.Author.Tests.{le-leb, lt-leb, not-true, not-false}
 use lib.ListN.{length}
 use Rattle.octets.specs.Written.{onto}
-use Rattle.address.specs.Address.{oneTo, plain}
+use Rattle.octets.specs.Tests.{oneTo}
+use Rattle.address.specs.Address.{plain}
 use Rattle.address.specs.Answers.{writtenOf as fittedOf, ontoIfFits}
 use Rattle.address.specs.declared.Written.{Written as Fitted}
 use Rattle.address.specs.declared.Written.the-variants.{Length, NoRoom}

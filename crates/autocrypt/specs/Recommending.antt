@@ -12,7 +12,7 @@ use mathlib.Core.Bool.{Bool, true, false}
 use mathlib.Core.List.{List, []}
 use mathlib.Core.Option.{Option, some, none}
 use lib.ListN.{length, getD}
-use Rattle.address.specs.Address.{oneTo}
+use Rattle.octets.specs.Tests.{oneTo}
 use Rattle.list.specs.List.{addresses, given}
 use Rattle.table.specs.Table.{whole, checked}
 use Rattle.table.specs.Slotwise.{SoundTable, Broken}

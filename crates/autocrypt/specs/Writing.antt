@@ -14,7 +14,8 @@ use lib.Dec.{leb}
 use lib.ListN.{length}
 use Rattle.octets.specs.Octets.{ascii}
 use Rattle.octets.specs.Written.{onto}
-use Rattle.address.specs.Address.{oneTo, plain}
+use Rattle.octets.specs.Tests.{oneTo}
+use Rattle.address.specs.Address.{plain}
 use Rattle.slots.specs.Slot.{keyLimit}
 use Rattle.writer.specs.Writing.{written}
 use Rattle.autocrypt.specs.declared.Refusal.{Refusal}

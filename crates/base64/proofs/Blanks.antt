@@ -1,86 +1,59 @@
 -- Blanks, and the text without them from a place on.
---     is-space, is-tab    the test for a blank
---     either-other, blank-other    two characters, and blanks, that stand for nothing
---     without-passing, without-other    one character of the text that goes, and one that stays
---     Skipped s at i      from the place `at` to the place i of s there are only blanks
---     the rulesets        skipping, for `is_blank` and `skip_blanks`; lettered, for `next_letter`
+--     NextPlace s at r    r is the place of the next character of s from the place `at` on that is no blank, or there are only blanks up to it
+--     next-place          so it is where the run of blanks ends
+--     the ruleset         lettered, for `next_letter`
 -- Assumes nothing.
 use Prim.Native.Nat.{ℕ, _+_, _<_, _≤_}
 use mathlib.Core.Path.{_≡_, refl, sym, _∙_}
-use mathlib.Core.Bool.{Bool, true, false, _||_}
+use mathlib.Core.Bool.{Bool, true, false}
 use mathlib.Core.List.{List, [], _∷_}
 use native.Mathlib.Omega.{arith}
 use borrow.Author.Needs.{needs}
-use borrow.Author.Tests.{eqb-true, eq-eqb, ne-eqb, not-true, not-false}
-use lib.Dec.{eqb}
 use lib.ListN.{length, getD, drop}
+use lib.Seq.{drop-drop}
+use Rattle.octets.specs.Octets.{blank, withoutBlanks}
+use Rattle.octets.specs.Tests.{without}
 use Rattle.octets.proofs.Lists.{drop-one, drop-done}
-use Rattle.base64.specs.Base64.{signOf, without, blank, withoutBlanks}
-use Rattle.base64.specs.Steps.{NextPlace, NextLetter}
-use Rattle.base64.specs.declared.Sign.the-variants.{Other}
+use Rattle.octets.proofs.Tests.{by-test}
+use Rattle.octets.proofs.Without.{without-none, without-passing, without-other}
+use Rattle.runs.specs.Runs.{belongs, run, runLength}
+use Rattle.runs.specs.declared.Class.the-variants.{Blank}
+use Rattle.runs.proofs.Running.{run-in, run-out, run-upto, run-stop, run-zero}
+use Rattle.base64.specs.Steps.{NextLetter}
 use Rattle.base64.specs.declared.Letter.the-variants.{End, At}
 
-pub is-space : (x : ℕ) → x ≡ 32 → true ≡ blank x
-unfolding blank
-is-space x e = rw (eq-eqb x 32 e)
+-- a run goes where it is of what goes
+without-run : (test : ℕ → Bool) (s : List ℕ) → without test s ≡ without test (drop (run test s) s)
+unfolding run without
+without-run test [] = refl
+without-run test (x ∷ s) =
+    by-test (test x)
+    (λ e. rw (run-in test x s e) (without-passing test x s e ∙ without-run test s))
+    (λ e. rw (run-out test x s e))
 
-pub is-tab : (x : ℕ) → (x ≡ 32 → ⊥) → eqb x 9 ≡ blank x
-unfolding blank
-is-tab x e = rw (ne-eqb x 32 e)
+pub record NextPlace (s : List ℕ) (at r : ℕ) : Type 0 where
+  pub same : withoutBlanks (drop at s) ≡ withoutBlanks (drop r s)
+  pub behind : at ≤ r
+  pub upto : at ≤ length s → r ≤ length s
+  pub stops : r < length s → blank (getD s r 0) ≡ false
 
--- two characters that stand for nothing
-pub either-other : (a b : ℕ) → signOf a ≡ Other → signOf b ≡ Other → (x : ℕ) → (eqb x a || eqb x b) ≡ true → signOf x ≡ Other
-either-other a b h k x e = go (eqb x a) refl e
-  where
-    go : (t : Bool) → eqb x a ≡ t → (t || eqb x b) ≡ true → signOf x ≡ Other
-    go true q r = rw (eqb-true x a q) h
-    go false q r = rw (eqb-true x b r) k
-
-pub blank-other : (x : ℕ) → blank x ≡ true → signOf x ≡ Other
-unfolding blank signOf
-blank-other x e = either-other 32 9 refl refl x e
-
-module _ (test : ℕ → Bool) where
-  pub without-none : without test [] ≡ []
-  unfolding without
-  without-none = refl
-
-  module _ (x : ℕ) (s : List ℕ) where
-    pub without-passing : test x ≡ true → without test (x ∷ s) ≡ without test s
-    unfolding without
-    without-passing e = rw (without, e)
-
-    pub without-other : test x ≡ false → without test (x ∷ s) ≡ x ∷ without test s
-    unfolding without
-    without-other e = rw (without, e)
-
-pub record Skipped (s : List ℕ) (at i : ℕ) : Type 0 where
-  pub same : withoutBlanks (drop at s) ≡ withoutBlanks (drop i s)
-  pub behind : at ≤ i
-  pub upto : at ≤ length s → i ≤ length s
-
-pub skipped-none : (s : List ℕ) (at : ℕ) → Skipped s at at
-skipped-none s at = record { same = refl; behind = omega arith; upto = λ h. h }
-
-module _ (s : List ℕ) (at i : ℕ) (h : Skipped s at i) where
-  module _ (l : i < length s) (b : Bool) (e : b ≡ blank (getD s i 0)) where
-    pub skipped-more : b ≡ true → Skipped s at (i + 1)
-    skipped-more t = record {
-      same = h .same ∙ rw (drop-one s i l) (without-passing blank _ _ (sym e ∙ t));
-      behind = omega (arith, h .behind);
-      upto = λ _. omega arith;
+pub next-place : (s : List ℕ) (at r : ℕ) → r ≡ at + runLength Blank (drop at s) → NextPlace s at r
+unfolding belongs
+next-place s at r e =
+    let b : drop r s ≡ drop (run blank (drop at s)) (drop at s) = rw (e, drop-drop) in
+    let z : run blank (drop r s) ≡ 0 = rw b (run-stop blank (drop at s)) in
+    record {
+      same = rw b (without-run blank (drop at s));
+      behind = omega arith;
+      upto = λ l. rw e (run-upto blank s at l);
+      stops = λ l. run-zero blank (getD s r 0) (drop (r + 1) s) (rw (drop-one s r l) at z);
     }
 
-    pub place-found : b ≡ false → NextPlace s at i
-    place-found t = record { same = h .same; behind = h .behind; upto = h .upto; stops = λ _. sym e ∙ t }
-
-  pub place-end : length s ≤ i → NextPlace s at i
-  place-end l = record { same = h .same; behind = h .behind; upto = h .upto; stops = λ k. absurd (omega arith) }
-
-pub ruleset skipping = (is-space, is-tab, skipped-none, skipped-more, place-found, place-end, not-true, not-false, needs)
-
 -- `next_letter`
-module _ (s : List ℕ) (at i : ℕ) (h : NextPlace s at i) where
+module _ (s : List ℕ) (at i : ℕ) (r : i ≡ at + runLength Blank (drop at s)) where
+  h : NextPlace s at i
+  h = next-place s at i r
+
   pub stays : i < length s → NextLetter s at (At (getD s i 0) (i + 1))
   unfolding NextLetter
   stays l = (h .same ∙ rw (drop-one s i l) (without-other blank _ _ (h .stops l)), omega (arith, h .behind), omega arith)

@@ -1,5 +1,4 @@
 -- Writing the octets of a text while it is read, and what decoding then answers and leaves.
---     behind-three        what a text stands for behind its first octets
 --     run-blanks, run-then, run-last    what is read and written: blanks, one run behind another, the last octets
 --     decoded, decodes    what is answered where all is written, and what the memory then holds
 --     none-decoded        and what is answered where it had no room, or stands for nothing
@@ -16,11 +15,16 @@ use borrow.Author.Tests.{le-leb, lt-leb}
 use lib.ListN.{length, drop, set, length-append, length-set}
 use Rattle.octets.specs.Written.{putAt, onto}
 use Rattle.octets.proofs.Lists.{drop-done}
-use Rattle.base64.proofs.Blanks.{without-none}
-use Rattle.base64.proofs.Putting.{put-long, put-both, over-none, over-one, over-two}
-use Rattle.base64.specs.Base64.{before, decode, blank, withoutBlanks}
-use Rattle.base64.specs.Answers.{decodedOf, octetsIn, Decodes}
-use Rattle.base64.specs.Steps.{NextPlace, NextGroup, WholeGroup, Run, NoneFit, Onward, TurnedTo, Turned}
+use Rattle.octets.specs.Octets.{blank, withoutBlanks}
+use Rattle.octets.proofs.Without.{without-none}
+use Rattle.runs.specs.Runs.{runLength}
+use Rattle.runs.specs.declared.Class.the-variants.{Blank}
+use Rattle.base64.proofs.Blanks.{NextPlace, next-place}
+use Rattle.octets.proofs.Putting.{put-long, put-both, over-none, over-one, over-two}
+use Rattle.letters.specs.Base64.{before, decode, octetsIn}
+use Rattle.letters.proofs.Standing.{behind-three}
+use Rattle.base64.specs.Answers.{decodedOf, Decodes}
+use Rattle.base64.specs.Steps.{NextGroup, WholeGroup, Run, NoneFit, Onward, TurnedTo, Turned}
 use Rattle.base64.proofs.Nexts.{nearer-whole, read-whole, read-three, read-two, read-one, read-end, read-broken}
 use Rattle.base64.specs.declared.Next.{Next}
 use Rattle.base64.specs.declared.Next.the-variants.{Three, Two, One, End, Broken}
@@ -29,12 +33,6 @@ use Rattle.base64.specs.declared.Whole.the-variants.{Three as WThree}
 use Rattle.base64.specs.declared.Turn.{Turn}
 use Rattle.base64.specs.declared.Turn.the-variants.{On, Last, Refused as TRefused}
 use Rattle.base64.specs.declared.Decoded.the-variants.{Octets, Refused}
-
--- what a text stands for, where it goes on with three octets
-pub behind-three : (w v : List ℕ) (o : Option (List ℕ)) → before w o ≡ some v → (o ≡ some (octetsIn o)) × (v ≡ w ++ octetsIn o)
-unfolding before octetsIn
-behind-three w v none e = let z : _≡_ {A = ℕ} 0 1 = cc in absurd (omega arith)
-behind-three w v (some u) e = (refl, cc)
 
 before-none : (o : Option (List ℕ)) → o ≡ before [] o
 unfolding before
@@ -47,8 +45,9 @@ before-all u v none = refl
 before-all u v (some w) = ap some (sym (append-assoc u v w))
 
 -- blanks are read
-pub run-blanks : (s : List ℕ) (at : ℕ) (d : List ℕ) (to i : ℕ) → at ≤ length s → to ≤ length d → NextPlace s at i → Run s at d to d i to
-run-blanks s at d to i l k h =
+pub run-blanks : (s : List ℕ) (at : ℕ) (d : List ℕ) (to i : ℕ) → at ≤ length s → to ≤ length d → i ≡ at + runLength Blank (drop at s) → Run s at d to d i to
+run-blanks s at d to i l k e =
+    let h : NextPlace s at i = next-place s at i e in
     record {
       octets = [];
       reads = ap decode (h .same) ∙ before-none _;

@@ -1,10 +1,4 @@
-pub mod Alphabet
-pub mod Groups
 pub mod Blanks
 pub mod Nexts
-pub mod Putting
 pub mod Filling
-pub mod Lengths
-pub mod RoundTrip
 pub mod Answered
-pub mod Worked

@@ -13,14 +13,17 @@ use mathlib.Core.Option.{some, none}
 use native.Mathlib.Omega.{arith}
 use borrow.Author.Needs.{needs}
 use lib.ListN.{length, getD, drop}
+use Rattle.octets.specs.Octets.{blank, withoutBlanks}
 use Rattle.octets.proofs.Lists.{drop-one}
-use Rattle.base64.proofs.Alphabet.{found-value}
-use Rattle.base64.proofs.Blanks.{without-other, blank-other}
-use Rattle.base64.specs.Base64.{signOf, closed, grouped, groupOf, before, atEnd, follow, decode, blank, withoutBlanks}
-use Rattle.base64.specs.Steps.{codeOf, NextLetter, stepOf, NextGroup, WholeGroup}
-use Rattle.base64.specs.declared.Sign.the-variants.{Value}
-use Rattle.base64.specs.declared.Group.{Group}
-use Rattle.base64.specs.declared.Group.the-variants.{Three as GThree, Two as GTwo, One as GOne, Broken as GBroken}
+use Rattle.octets.proofs.Without.{without-other}
+use Rattle.letters.specs.Base64.{signOf, closed, grouped, groupOf, before, atEnd, follow, decode}
+use Rattle.letters.specs.Tables.{codeOf}
+use Rattle.letters.proofs.Alphabet.{found-value}
+use Rattle.letters.proofs.Alphabetic.{blank-other}
+use Rattle.base64.specs.Steps.{NextLetter, stepOf, NextGroup, WholeGroup}
+use Rattle.letters.specs.declared.Sign.the-variants.{Value}
+use Rattle.letters.specs.declared.Group.{Group}
+use Rattle.letters.specs.declared.Group.the-variants.{Three as GThree, Two as GTwo, One as GOne, Broken as GBroken}
 use Rattle.base64.specs.declared.Whole.{Whole}
 use Rattle.base64.specs.declared.Whole.the-variants.{Three as WThree, Other as WOther}
 use Rattle.base64.specs.declared.Letter.{Letter}

@@ -1,25 +1,21 @@
 -- From what the rule gives to what the code answers and leaves in lent memory.
 --     decodedOf    the answer for a text that stands for these octets, or for none, with so much room
---     octetsIn     the octets, where there are some
 --     Decodes      what the lent memory holds after it: the octets over its beginning; after a refusal nothing is said
 use Prim.Native.Nat.{ℕ}
 use mathlib.Core.Path.{_≡_}
 use mathlib.Core.Bool.{cond}
-use mathlib.Core.List.{List, []}
+use mathlib.Core.List.{List}
 use mathlib.Core.Option.{Option, some, none}
 use lib.Dec.{leb}
 use lib.ListN.{length}
 use Rattle.octets.specs.Written.{onto}
+use Rattle.letters.specs.Base64.{octetsIn}
 use Rattle.base64.specs.declared.Decoded.{Decoded}
 use Rattle.base64.specs.declared.Decoded.the-variants.{Octets, Refused}
 
 unfoldable pub decodedOf : Option (List ℕ) → ℕ → Decoded
 decodedOf none room = Refused
 decodedOf (some w) room = cond (leb (length w) room) (Octets (length w)) Refused
-
-unfoldable pub octetsIn : Option (List ℕ) → List ℕ
-octetsIn none = []
-octetsIn (some w) = w
 
 unfoldable pub Decodes : Option (List ℕ) → List ℕ → List ℕ → Decoded → Type 0
 Decodes o d out (Octets n) = out ≡ onto (octetsIn o) d

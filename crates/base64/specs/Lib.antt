@@ -1,4 +1,2 @@
-pub mod Base64
-pub mod Joined
 pub mod Answers
 pub mod Steps

@@ -1,8 +1,4 @@
--- What the private functions answer: the steps between the rule of `Base64` and the code's places.
---     Letters          a table that has the letter of each value
---     codeOf, Signs    a sign as a number, and a table that has the number of each octet's sign
---     Low              a sign whose value, if it has one, is below 64
---     NextPlace        what `skip_blanks` answers
+-- What the private functions answer: the steps between the rule and the code's places.
 --     NextLetter       what `next_letter` answers
 --     stepOf           what a text goes on with whose next four characters are a group
 --     NextGroup        what `next_group` answers
@@ -12,16 +8,14 @@
 --     Turned           what `write_next` answers
 use Prim.Native.Nat.{ℕ, _+_, _-_, _<_, _≤_}
 use mathlib.Core.Path.{_≡_}
-use mathlib.Core.Bool.{false}
 use mathlib.Core.List.{List, [], _∷_}
 use mathlib.Core.Option.{Option, some, none}
-use lib.ListN.{length, getD, drop}
+use lib.ListN.{length, drop}
+use Rattle.octets.specs.Octets.{withoutBlanks}
 use Rattle.octets.specs.Written.{putAt}
-use Rattle.base64.specs.Base64.{letter, signOf, before, decode, blank, withoutBlanks}
-use Rattle.base64.specs.declared.Sign.{Sign}
-use Rattle.base64.specs.declared.Sign.the-variants.{Value, Pad, Other}
-use Rattle.base64.specs.declared.Group.{Group}
-use Rattle.base64.specs.declared.Group.the-variants.{Three as GThree, Two as GTwo, One as GOne, Broken as GBroken}
+use Rattle.letters.specs.Base64.{before, decode}
+use Rattle.letters.specs.declared.Group.{Group}
+use Rattle.letters.specs.declared.Group.the-variants.{Three as GThree, Two as GTwo, One as GOne, Broken as GBroken}
 use Rattle.base64.specs.declared.Letter.{Letter}
 use Rattle.base64.specs.declared.Letter.the-variants.{End as Over, At}
 use Rattle.base64.specs.declared.Next.{Next}
@@ -30,31 +24,6 @@ use Rattle.base64.specs.declared.Whole.{Whole}
 use Rattle.base64.specs.declared.Whole.the-variants.{Three as WThree, Other as WOther}
 use Rattle.base64.specs.declared.Turn.{Turn}
 use Rattle.base64.specs.declared.Turn.the-variants.{On, Last, Refused}
-
-pub record Letters (table : List ℕ) : Type 0 where
-  pub at : (v : ℕ) → v < 64 → getD table v 0 ≡ letter v
-
--- the value, or 64 for a pad and 65 for all else
-unfoldable pub codeOf : Sign → ℕ
-codeOf (Value v) = v
-codeOf Pad = 64
-codeOf Other = 65
-
-pub record Signs (table : List ℕ) : Type 0 where
-  pub at : (x : ℕ) → x < 256 → getD table x 0 ≡ codeOf (signOf x)
-
--- a value is below 64
-abbrev pub Low : Sign → Type 0
-Low (Value v) = v < 64
-Low Pad = Unit
-Low Other = Unit
-
--- r is the place of the next character of s from the place `at` on that is no blank, or there are only blanks up to it
-pub record NextPlace (s : List ℕ) (at r : ℕ) : Type 0 where
-  pub same : withoutBlanks (drop at s) ≡ withoutBlanks (drop r s)
-  pub behind : at ≤ r
-  pub upto : at ≤ length s → r ≤ length s
-  pub stops : r < length s → blank (getD s r 0) ≡ false
 
 -- x is the next character of s from the place `at` on that is no blank, and n the place behind it; or there are only blanks
 unfoldable pub NextLetter : List ℕ → ℕ → Letter → Type 0

@@ -1,28 +1,17 @@
-// Base64 as key data has it: a text is decoded with its blanks left out. What is right is said by
-// specs/Base64.antt. Octets are written as the lines of a field by the crate `lines`.
+// Base64 as key data has it: a text is decoded with its blanks left out. What is right is said by `decode` of
+// letters/specs/Base64.antt. Octets are written as the lines of a field by the crate `lines`.
 ghost use Prim.Native.Nat.{_+_, _*_, _≤_, _<_};
 ghost use mathlib.Core.Path.{_≡_};
 ghost use mathlib.Core.List.{[], _∷_};
 ghost use lib.ListN.{length, drop};
+ghost use Rattle.octets.specs.Octets.{withoutBlanks};
 ghost use Rattle.octets.specs.Written.{putAt};
-ghost use Rattle.base64.specs.Base64.{letter, signOf, closed, groupOf, decode as octetsOf, blank, withoutBlanks};
+ghost use Rattle.letters.specs.Base64.{decode as octetsOf};
+ghost use Rattle.letters.specs.Tables.{Signs};
 ghost use Rattle.base64.specs.Answers.{decodedOf, Decodes};
-ghost use Rattle.base64.specs.Steps.{Letters, codeOf, Signs, Low, NextPlace, NextLetter, stepOf, NextGroup, WholeGroup, Run, Turned};
-
-// What a character stands for.
-pub enum Sign {
-    Value(u8),
-    Pad,
-    Other,
-}
-
-// What four characters stand for.
-pub enum Group {
-    Three(u8, u8, u8),
-    Two(u8, u8),
-    One(u8),
-    Broken,
-}
+ghost use Rattle.base64.specs.Steps.{NextLetter, stepOf, NextGroup, WholeGroup, Run, Turned};
+use letters::Group;
+use runs::Class;
 
 // What decoding answers: how many octets it wrote, or that the text is no Base64 or stands for more than there is room for.
 pub enum Decoded {
@@ -66,160 +55,11 @@ enum Turn {
     Refused,
 }
 
-// The letter of each value. Looking letters up, where the values are as good as random, takes about a tenth of the time of
-// choosing them by tests.
-pub fn letters() -> [u8; 64]
-    ensures { λ r. ⌜ Letters r ⌝ }
-{
-    *b"ABCDEFGHIJKLMNOPQRSTUVWXYZabcdefghijklmnopqrstuvwxyz0123456789+/"
-}
-
-// The letter of a value.
-pub fn letter_of(letters: &[u8; 64], value: u8) -> u8
-    requires { ⌜ Letters (now letters) × (value < 64) ⌝ }
-    ensures { λ r. ⌜ r ≡ letter value ⌝ }
-{
-    let at = value as usize;
-    letters[at]
-}
-
-// For each octet what it stands for as a character: a value, 64 for the pad, 65 for nothing. It is made
-// once a text: looking characters up in it takes about a fifth of the time of comparing them.
-fn signs() -> [u8; 256]
-    ensures { λ r. ⌜ Signs r ⌝ }
-{
-    let letters = letters();
-    let mut table = [65u8; 256];
-    let mut value: u8 = 0;
-    while value < 64 {
-        let at = letter_of(&letters, value) as usize;
-        table[at] = value;
-        value += 1;
-    }
-    table[61] = 64;
-    table
-}
-
-// What a character stands for, as the number that the table has.
-fn code_of(table: &[u8; 256], x: u8) -> u8
-    requires { ⌜ Signs (now table) ⌝ }
-    ensures { λ r. ⌜ r ≡ codeOf (signOf x) ⌝ }
-{
-    let at = x as usize;
-    table[at]
-}
-
-// What a character stands for.
-fn sign_of(table: &[u8; 256], x: u8) -> Sign
-    requires { ⌜ Signs (now table) ⌝ }
-    ensures { λ r. ⌜ (r ≡ signOf x) × Low r ⌝ }
-{
-    let value = code_of(table, x);
-    if value < 64 {
-        return Sign::Value(value);
-    }
-    if value == 64 {
-        return Sign::Pad;
-    }
-    Sign::Other
-}
-
-// The three octets of four values.
-fn three(p: u8, q: u8, r: u8, s: u8) -> Group
-    requires { ⌜ (p < 64) × (q < 64) × (r < 64) × (s < 64) ⌝ }
-    ensures { λ g. ⌜ g ≡ closed p q (Sign.Value r) (Sign.Value s) ⌝ }
-{
-    Group::Three(p * 4 + q / 16, q % 16 * 16 + r / 4, r % 4 * 64 + s)
-}
-
-// The two octets of three values, where the last two bits are zero.
-fn two(p: u8, q: u8, r: u8) -> Group
-    requires { ⌜ (p < 64) × (q < 64) × (r < 64) ⌝ }
-    ensures { λ g. ⌜ g ≡ closed p q (Sign.Value r) Sign.Pad ⌝ }
-{
-    if r % 4 == 0 {
-        Group::Two(p * 4 + q / 16, q % 16 * 16 + r / 4)
-    } else {
-        Group::Broken
-    }
-}
-
-// The octet of two values, where the last four bits are zero.
-fn one(p: u8, q: u8) -> Group
-    requires { ⌜ (p < 64) × (q < 64) ⌝ }
-    ensures { λ g. ⌜ g ≡ closed p q Sign.Pad Sign.Pad ⌝ }
-{
-    if q % 16 == 0 {
-        Group::One(p * 4 + q / 16)
-    } else {
-        Group::Broken
-    }
-}
-
-// Two values and two characters more.
-fn closed_group(table: &[u8; 256], p: u8, q: u8, c: u8, d: u8) -> Group
-    requires { ⌜ Signs (now table) × (p < 64) × (q < 64) ⌝ }
-    ensures { λ g. ⌜ g ≡ closed p q (signOf c) (signOf d) ⌝ }
-{
-    match sign_of(table, c) {
-        Sign::Value(r) => match sign_of(table, d) {
-            Sign::Value(s) => three(p, q, r, s),
-            Sign::Pad => two(p, q, r),
-            Sign::Other => Group::Broken,
-        },
-        Sign::Pad => match sign_of(table, d) {
-            Sign::Value(_) => Group::Broken,
-            Sign::Pad => one(p, q),
-            Sign::Other => Group::Broken,
-        },
-        Sign::Other => Group::Broken,
-    }
-}
-
-// What four characters stand for.
-fn group_of(table: &[u8; 256], a: u8, b: u8, c: u8, d: u8) -> Group
-    requires { ⌜ Signs (now table) ⌝ }
-    ensures { λ r. ⌜ r ≡ groupOf a b c d ⌝ }
-{
-    match sign_of(table, a) {
-        Sign::Value(p) => match sign_of(table, b) {
-            Sign::Value(q) => closed_group(table, p, q, c, d),
-            Sign::Pad => Group::Broken,
-            Sign::Other => Group::Broken,
-        },
-        Sign::Pad => Group::Broken,
-        Sign::Other => Group::Broken,
-    }
-}
-
-fn is_blank(x: u8) -> bool
-    ensures { λ r. ⌜ r ≡ blank x ⌝ }
-{
-    if x == b' ' {
-        return true;
-    }
-    x == b'\t'
-}
-
-// The place of the next character from the place `at` on that is no blank.
-fn skip_blanks(src: &[u8], at: usize) -> usize
-    ensures { λ r. ⌜ NextPlace (now (src .entry)) at r ⌝ }
-{
-    let mut i = at;
-    while i < src.len() {
-        if !is_blank(src[i]) {
-            return i;
-        }
-        i += 1;
-    }
-    i
-}
-
 // The next character from the place `at` on that is no blank.
 fn next_letter(src: &[u8], at: usize) -> Letter
     ensures { λ r. ⌜ NextLetter (now (src .entry)) at r ⌝ }
 {
-    let i = skip_blanks(src, at);
+    let i = runs::run_end(src, at, Class::Blank);
     if i < src.len() {
         return Letter::At(src[i], i + 1);
     }
@@ -262,7 +102,7 @@ fn next_group(table: &[u8; 256], src: &[u8], at: usize) -> Next
     let Letter::At(d, n) = next_letter(src, k) else {
         return Next::Broken;
     };
-    step(src, group_of(table, a, b, c, d), n)
+    step(src, letters::group_of(table, a, b, c, d), n)
 }
 
 // The 24 bits of four values.
@@ -283,10 +123,10 @@ fn whole_group(table: &[u8; 256], src: &[u8], at: usize) -> Whole
     if src.len() - at < 4 {
         return Whole::Other;
     }
-    let p = code_of(table, src[at]);
-    let q = code_of(table, src[at + 1]);
-    let r = code_of(table, src[at + 2]);
-    let s = code_of(table, src[at + 3]);
+    let p = letters::code_of(table, src[at]);
+    let q = letters::code_of(table, src[at + 1]);
+    let r = letters::code_of(table, src[at + 2]);
+    let s = letters::code_of(table, src[at + 3]);
     if 64 <= p {
         return Whole::Other;
     }
@@ -319,7 +159,7 @@ fn write_groups(table: &[u8; 256], src: &[u8], at: usize, out: &mut [u8], to: us
     requires { ⌜ Signs (now table) × (at ≤ length (now src)) × (to ≤ length (now out)) ⌝ }
     ensures { λ r. ⌜ Run (now (src .entry)) at (now (out .entry)) to (now (out .exit)) (r .read) (r .wrote) ⌝ }
 {
-    let mut i = skip_blanks(src, at);
+    let mut i = runs::run_end(src, at, Class::Blank);
     let mut o = to;
     while 3 <= out.len() - o {
         match whole_group(table, src, i) {
@@ -401,6 +241,6 @@ pub fn decode(src: &[u8], out: &mut [u8]) -> Decoded
     ensures { λ r. ⌜ r ≡ decodedOf (octetsOf (withoutBlanks (now (src .entry)))) (length (now (out .entry))) ⌝ }
     ensures { λ r. ⌜ Decodes (octetsOf (withoutBlanks (now (src .entry)))) (now (out .entry)) (now (out .exit)) r ⌝ }
 {
-    let table = signs();
+    let table = letters::signs();
     write(&table, src, out)
 }

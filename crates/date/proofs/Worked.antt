@@ -5,8 +5,9 @@ use Prim.Native.String.{String}
 use mathlib.Core.Path.{_≡_, refl}
 use mathlib.Core.List.{List, [], _∷_, map}
 use mathlib.Core.Option.{Option, some, none, bind}
-use Rattle.octets.specs.Octets.{ascii, lower, lowered, sameName, sameOctets}
-use Rattle.tokens.specs.Tokens.{blank, past, kindOf, control, belongs, runLength}
+use Rattle.octets.specs.Octets.{ascii, lower, lowered, sameName, sameOctets, blank}
+use Rattle.runs.specs.Runs.{belongs, run}
+use Rattle.tokens.specs.Tokens.{past, kindOf, control}
 use Rattle.calendar.specs.Calendar.{leap, leapDay, monthLength, yearDays, monthDays, dayCount}
 use Rattle.datewords.specs.Words.{openingOf, further, tokenAt, firstToken, onlyIf, digitOf, valueFrom, numberOf, hereOr, placeFrom, markOf, dayOf, monthOf, yearBy, yearOf, twoDigits, offsetBy, offsetOf, hoursWest, eastBy, westBy, meant}
 use Rattle.date.specs.Date.{readOf, andThen, next, optional, existing, calendarDay, timeOfDay, localTime, zoned, ended, dateOf}
@@ -59,5 +60,5 @@ examples =
     ∷ []
 
 worked : map read examples ≡ map expected examples
-unfolding examples read expected lower lowered sameName sameOctets blank past kindOf control belongs runLength bind leap leapDay monthLength yearDays monthDays dayCount openingOf further tokenAt firstToken onlyIf digitOf valueFrom numberOf hereOr placeFrom markOf dayOf monthOf yearBy yearOf twoDigits offsetBy offsetOf hoursWest eastBy westBy meant readOf andThen next optional existing calendarDay timeOfDay localTime zoned ended dateOf
+unfolding examples read expected lower lowered sameName sameOctets blank past kindOf control belongs run bind leap leapDay monthLength yearDays monthDays dayCount openingOf further tokenAt firstToken onlyIf digitOf valueFrom numberOf hereOr placeFrom markOf dayOf monthOf yearBy yearOf twoDigits offsetBy offsetOf hoursWest eastBy westBy meant readOf andThen next optional existing calendarDay timeOfDay localTime zoned ended dateOf
 worked = refl

@@ -20,8 +20,8 @@ use borrow.Author.Tests.{leb-true, le-leb, lt-leb}
 use lib.Dec.{leb}
 use lib.ListN.{length, getD, drop}
 use Rattle.octets.proofs.Lists.{drop-one, drop-done}
-use Rattle.tokens.specs.Tokens.{belongs}
-use Rattle.tokens.specs.declared.Class.the-variants.{Digit}
+use Rattle.runs.specs.Runs.{belongs}
+use Rattle.runs.specs.declared.Class.the-variants.{Digit}
 use Rattle.datewords.specs.Words.{onlyIf, digitOf, valueFrom, numberOf}
 use Rattle.datewords.specs.Answers.{meaning}
 use Rattle.datewords.specs.declared.meaning.Meaning.{Meaning}

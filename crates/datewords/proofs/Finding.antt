@@ -13,13 +13,14 @@ use borrow.Author.Needs.{needs}
 use lib.ListN.{length, getD, drop, length-drop}
 use lib.Seq.{drop-drop}
 use Rattle.octets.proofs.Lists.{lt-or-le, drop-one, drop-done}
+use Rattle.runs.specs.Runs.{belongs}
+use Rattle.runs.specs.declared.Class.the-variants.{Digit, Letter}
+use Rattle.runs.proofs.Running.{run-short}
 use Rattle.tokens.specs.Tokens.{skipped}
 use Rattle.tokens.specs.Answers.{reached}
-use Rattle.tokens.specs.declared.Class.the-variants.{Digit, Letter}
 use Rattle.tokens.specs.declared.Reached.{Reached}
 use Rattle.tokens.specs.declared.Reached.the-variants.{To, Unreadable as Stuck}
 use Rattle.tokens.proofs.Skipping.{skip-left, skip-unreadable}
-use Rattle.tokens.proofs.Running.{run-length}
 use Rattle.datewords.specs.Words.{openingOf, further, tokenAt, firstToken}
 use Rattle.datewords.specs.Answers.{tokenIn}
 use Rattle.datewords.specs.declared.token.Opening.{Opening}
@@ -29,10 +30,10 @@ use Rattle.datewords.proofs.Opened.{endOf}
 
 further-short : (k : Opening) (s : List ℕ) → further k s ≤ length s
 unfolding further
-further-short Number s = run-length Digit s
-further-short Word s = run-length Letter s
-further-short Plus s = run-length Digit s
-further-short Minus s = run-length Digit s
+further-short Number s = run-short (belongs Digit) s
+further-short Word s = run-short (belongs Letter) s
+further-short Plus s = run-short (belongs Digit) s
+further-short Minus s = run-short (belongs Digit) s
 further-short Mark s = omega arith
 
 module _ (s : List ℕ) (at : ℕ) (r : Reached) (e : r ≡ reached s (skipped (drop at s))) where

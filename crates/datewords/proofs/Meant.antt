@@ -15,7 +15,6 @@ use borrow.Author.Needs.{needs}
 use borrow.Author.Tests.{eq-eqb, ne-eqb, le-leb, lt-leb}
 use lib.ListN.{length, getD, take, drop, length-drop}
 use lib.Seq.{take-all}
-use Rattle.tokens.specs.Tokens.{belongs}
 use Rattle.octets.specs.Octets.{sameOctets}
 use Rattle.datewords.specs.Words.{openingOf, numberOf, monthNames, zoneNames, zoneHours, placeIn, markOf, dayOf, monthOf, yearBy, yearOf, onlyIf, twoDigits, offsetBy, offsetOf, hoursWest, opensWith, eastBy, westBy, meant}
 use Rattle.datewords.specs.Answers.{meaning}
@@ -24,6 +23,7 @@ use Rattle.datewords.specs.declared.meaning.Place.{Place}
 use Rattle.datewords.specs.declared.meaning.Meaning.{Meaning}
 use Rattle.datewords.specs.declared.meaning.Meaning.the-variants.{Value, Nothing}
 use Rattle.octets.proofs.Lists.{at-most}
+use Rattle.runs.specs.Runs.{belongs}
 use Rattle.datewords.proofs.Digits.{value-is, nothing-is, number-small}
 use Rattle.datewords.proofs.Naming.{place-below}
 

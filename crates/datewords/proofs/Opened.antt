@@ -10,8 +10,8 @@ use native.Mathlib.Nat.{add-zero}
 use borrow.Author.Needs.{needs}
 use borrow.Author.Tests.{eq-eqb, ne-eqb}
 use lib.ListN.{getD, drop}
-use Rattle.tokens.specs.Tokens.{belongs, runLength}
-use Rattle.tokens.specs.declared.Class.the-variants.{Digit, Letter}
+use Rattle.runs.specs.Runs.{belongs, runLength}
+use Rattle.runs.specs.declared.Class.the-variants.{Digit, Letter}
 use Rattle.datewords.specs.Words.{openingOf, further}
 use Rattle.datewords.specs.declared.token.Opening.{Opening}
 use Rattle.datewords.specs.declared.token.Opening.the-variants.{Number, Word, Plus, Minus, Mark}

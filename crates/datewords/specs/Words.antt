@@ -9,8 +9,9 @@ use mathlib.Core.Option.{Option, some, none, bind}
 use lib.Dec.{leb, eqb}
 use lib.ListN.{length, getD, take, drop}
 use Rattle.octets.specs.Octets.{ascii, octet, sameOctets, sameName}
-use Rattle.tokens.specs.Tokens.{skipped, belongs, runLength}
-use Rattle.tokens.specs.declared.Class.the-variants.{Digit, Letter}
+use Rattle.runs.specs.Runs.{belongs, runLength}
+use Rattle.runs.specs.declared.Class.the-variants.{Digit, Letter}
+use Rattle.tokens.specs.Tokens.{skipped}
 use Rattle.datewords.specs.declared.token.Opening.{Opening}
 use Rattle.datewords.specs.declared.token.Opening.the-variants.{Number, Word, Plus, Minus, Mark}
 use Rattle.datewords.specs.declared.meaning.Place.{Place}

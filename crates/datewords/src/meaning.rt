@@ -1,7 +1,7 @@
 // What a token means at each place of a date: numbers of few digits, names of three letters, marks and zones.
 use crate::token;
 use crate::token::Opening;
-use tokens::Class;
+use runs::Class;
 ghost use Prim.Native.Nat.{_≤_, _<_};
 ghost use mathlib.Core.Path.{_≡_};
 ghost use Rattle.datewords.specs.Words.{digitOf, numberOf, placeIn, markOf, dayOf, monthOf, yearBy, yearOf, twoDigits, offsetBy, offsetOf, hoursWest, opensWith, eastBy, westBy, meant as meantOf};
@@ -39,7 +39,7 @@ fn wide(x: u8) -> u64
 fn digit(x: u8) -> Meaning
     ensures { λ r. ⌜ r ≡ meaningOf (digitOf x) ⌝ }
 {
-    if tokens::within(Class::Digit, x) {
+    if runs::within(Class::Digit, x) {
         return Meaning::Value(wide(x) - 48);
     }
     Meaning::Nothing

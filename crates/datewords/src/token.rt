@@ -1,6 +1,6 @@
 // The tokens of a date: "whole runs of digits or letters, a sign with its digits, comma and colon", with spaces, tabs
 // and comments between them. A long run costs its length.
-use tokens::Class;
+use runs::Class;
 use tokens::Reached;
 ghost use Prim.Native.Nat.{_+_, _<_};
 ghost use mathlib.Core.Path.{_≡_};
@@ -28,10 +28,10 @@ pub enum Found {
 pub fn opened_by(x: u8) -> Opening
     ensures { λ r. ⌜ r ≡ openingOf x ⌝ }
 {
-    if tokens::within(Class::Digit, x) {
+    if runs::within(Class::Digit, x) {
         return Opening::Number;
     }
-    if tokens::within(Class::Letter, x) {
+    if runs::within(Class::Letter, x) {
         return Opening::Word;
     }
     if x == b'+' {
@@ -49,10 +49,10 @@ fn token_end(s: &[u8], at: usize) -> usize
     ensures { λ r. ⌜ r ≡ (at + 1) + further (openingOf (getD (now (s .entry)) at 0)) (drop (at + 1) (now (s .entry))) ⌝ }
 {
     match opened_by(s[at]) {
-        Opening::Number => tokens::run_end(s, at + 1, Class::Digit),
-        Opening::Word => tokens::run_end(s, at + 1, Class::Letter),
-        Opening::Plus => tokens::run_end(s, at + 1, Class::Digit),
-        Opening::Minus => tokens::run_end(s, at + 1, Class::Digit),
+        Opening::Number => runs::run_end(s, at + 1, Class::Digit),
+        Opening::Word => runs::run_end(s, at + 1, Class::Letter),
+        Opening::Plus => runs::run_end(s, at + 1, Class::Digit),
+        Opening::Minus => runs::run_end(s, at + 1, Class::Digit),
         Opening::Mark => at + 1,
     }
 }

@@ -11,7 +11,7 @@ use native.Mathlib.Omega.{arith}
 use borrow.Author.Tests.{eqb-true, eqb-false}
 use lib.Dec.{eqb, ltb}
 use lib.ListN.{length, getD, take, drop, replicate}
-use Rattle.address.proofs.Every.{by-test}
+use Rattle.octets.proofs.Tests.{by-test}
 use Rattle.slots.specs.declared.Slot.{Slot}
 use Rattle.slots.specs.Slot.{slotLength, bits, directLength, gossipLength, addressOf, directKeyOf, gossipKeyOf, numbersOf, marked, free}
 use Rattle.slots.specs.Entry.{entryOf, numbersFor, bitsOf, orElse, noDirect, noGossip}

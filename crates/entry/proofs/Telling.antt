@@ -19,7 +19,7 @@ use mir.Syntax.{w64}
 use mir.Val.{Fits}
 use Rattle.octets.specs.Written.{putAt, onto}
 use Rattle.octets.proofs.Writing.{begin-at, put, done-at}
-use Rattle.address.proofs.Every.{and-left}
+use Rattle.octets.proofs.Tests.{and-left}
 use Rattle.slots.specs.declared.Slot.{Slot}
 use Rattle.slots.specs.Slot.{slotLength, emptyNumbers, numbersOf, marked}
 use Rattle.slots.specs.Entry.{bitsOf}

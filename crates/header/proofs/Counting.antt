@@ -1,12 +1,11 @@
--- Loops that count the octets of a run, of a line, or of the rest of a field.
+-- Loops that count the octets of a line, or of the rest of a field.
 --     Going f s at i            what f counts from the place `at` on ends where what it counts from i on does
---     run-in .. raw-last        one step of what is counted
+--     raw-on, raw-last          one step of what is counted
 --     begin                     where each loop begins
---     run-next .. run-end       the loop's steps for a run of one class
 --     raw-line                  the rest of a field is that of its first line and what follows
 --     raw-begin .. raw-end      the loop's steps for the rest of a field, from LF to LF
---     run-short, raw-short      neither counts more than there is
---     run-upto, raw-upto        so that they end no later than the text
+--     raw-short                 it counts no more than there is
+--     raw-upto                  so that it ends no later than the text
 -- Assumes nothing.
 use Prim.Native.Nat.{ℕ, suc, _+_, _-_, _<_, _≤_, zero-le, suc-le-suc}
 use mathlib.Core.Path.{_≡_, refl, sym, _∙_}
@@ -21,9 +20,9 @@ use lib.Seq.{drop-drop}
 use Rattle.octets.specs.Finding.{lengthBefore}
 use Rattle.octets.proofs.Lists.{drop-one, drop-done}
 use Rattle.octets.proofs.Finding.{By, none, one, other, by, before-on}
-use Rattle.header.specs.Header.{lf, belongs, runLength, closes, rawLength}
+use Rattle.octets.specs.Octets.{lf}
+use Rattle.header.specs.Header.{closes, rawLength}
 use Rattle.header.specs.Lines.{lineLength}
-use Rattle.header.specs.declared.Class.{Class}
 use Rattle.header.proofs.Telling.{next-octet, closes-other}
 
 pub record Going (f : List ℕ → ℕ) (s : List ℕ) (at i : ℕ) : Type 0 where
@@ -47,14 +46,6 @@ module _ (f : List ℕ → ℕ) (s : List ℕ) (at : ℕ) where
 
 -- one step of each definition
 module _ (x : ℕ) (s : List ℕ) where
-  pub run-in : (class : Class) → belongs class x ≡ true → runLength class (x ∷ s) ≡ suc (runLength class s)
-  unfolding runLength
-  run-in class e = rw (runLength, e)
-
-  pub run-out : (class : Class) → belongs class x ≡ false → runLength class (x ∷ s) ≡ 0
-  unfolding runLength
-  run-out class e = rw (runLength, e)
-
   pub raw-on : closes x (getD s 0 0) ≡ false → rawLength (x ∷ s) ≡ suc (rawLength s)
   unfolding rawLength
   raw-on e = rw (rawLength, e)
@@ -65,38 +56,16 @@ module _ (x : ℕ) (s : List ℕ) where
 
 -- the same at a place
 module _ (s : List ℕ) (i : ℕ) where
-  run-past : (class : Class) → length s ≤ i → runLength class (drop i s) ≡ 0
-  unfolding runLength
-  run-past class h = rw (drop-done s i h)
-
   raw-past : length s ≤ i → rawLength (drop i s) ≡ 0
   unfolding rawLength
   raw-past h = rw (drop-done s i h)
 
   module _ (h : i < length s) where
-    run-more : (class : Class) → belongs class (getD s i 0) ≡ true → runLength class (drop i s) ≡ suc (runLength class (drop (i + 1) s))
-    run-more class e = rw (drop-one s i h) (run-in (getD s i 0) (drop (i + 1) s) class e)
-
-    run-over : (class : Class) → belongs class (getD s i 0) ≡ false → runLength class (drop i s) ≡ 0
-    run-over class e = rw (drop-one s i h) (run-out (getD s i 0) (drop (i + 1) s) class e)
-
     raw-more : closes (getD s i 0) (getD s (i + 1) 0) ≡ false → rawLength (drop i s) ≡ suc (rawLength (drop (i + 1) s))
     raw-more e = rw (drop-one s i h) (raw-on (getD s i 0) (drop (i + 1) s) (rw (next-octet s (i + 1)) e))
 
     raw-over : closes (getD s i 0) (getD s (i + 1) 0) ≡ true → rawLength (drop i s) ≡ 1
     raw-over e = rw (drop-one s i h) (raw-last (getD s i 0) (drop (i + 1) s) (rw (next-octet s (i + 1)) e))
-
-module _ (class : Class) (s : List ℕ) (at i : ℕ) (h : Going (runLength class) s at i) where
-  pub run-next : (b : Bool) → i < length s → b ≡ belongs class (getD s i 0) → b ≡ true → Going (runLength class) s at (i + 1)
-  run-next b l t e = next (runLength class) s at i h (run-more s i l class (sym t ∙ e))
-
-  pub run-stop : (b : Bool) → i < length s → b ≡ belongs class (getD s i 0) → b ≡ false → i ≡ at + runLength class (drop at s)
-  run-stop b l t e = done (runLength class) s at i h (run-over s i l class (sym t ∙ e))
-
-  pub run-end : length s ≤ i → i ≡ at + runLength class (drop at s)
-  run-end l = done (runLength class) s at i h (run-past s i class l)
-
-pub ruleset running = (begin, run-next, run-stop, run-end, needs)
 
 raw-line : {s : List ℕ} → By lf s → rawLength s ≡ lineLength s + rawLength (drop (lineLength s) s)
 unfolding lengthBefore rawLength
@@ -127,15 +96,6 @@ module _ (s : List ℕ) (at i : ℕ) (h : Going rawLength s at i) where
 
 pub ruleset closing = (raw-begin, raw-next, raw-stop, raw-end, needs)
 
-pub run-short : (class : Class) (s : List ℕ) → runLength class s ≤ length s
-unfolding runLength
-run-short class [] = zero-le
-run-short class (x ∷ s) = go (run-short class s) (belongs class x)
-  where
-    go : runLength class s ≤ length s → (b : Bool) → elim b [ true ↦ suc (runLength class s) | false ↦ 0 ] ≤ suc (length s)
-    go ih true = suc-le-suc ih
-    go ih false = zero-le
-
 pub raw-short : (s : List ℕ) → rawLength s ≤ length s
 unfolding rawLength
 raw-short [] = zero-le
@@ -144,9 +104,6 @@ raw-short (x ∷ s) = go (raw-short s) (closes x (getD s 0 0))
     go : rawLength s ≤ length s → (b : Bool) → elim b [ true ↦ 1 | false ↦ suc (rawLength s) ] ≤ suc (length s)
     go ih true = suc-le-suc zero-le
     go ih false = suc-le-suc ih
-
-pub run-upto : (class : Class) (s : List ℕ) (at : ℕ) → at ≤ length s → at + runLength class (drop at s) ≤ length s
-run-upto class s at l = upto (runLength class) s at (run-short class (drop at s)) l
 
 pub raw-upto : (s : List ℕ) (at : ℕ) → at ≤ length s → at + rawLength (drop at s) ≤ length s
 raw-upto s at l = upto rawLength s at (raw-short (drop at s)) l

@@ -19,9 +19,10 @@ use borrow.Author.Tests.{le-leb, lt-leb}
 use lib.ListN.{length, take, drop, length-drop}
 use lib.Seq.{drop-drop}
 use Rattle.octets.proofs.Lists.{lt-or-le}
-use Rattle.header.specs.Header.{FieldText, limit, over, runLength, rawLength, opensField, nameOf, rawOf, restOf, unfolded, inFront, fieldsWithin, fields, fieldsOf, isSome}
+use Rattle.runs.specs.Runs.{runLength}
+use Rattle.runs.specs.declared.Class.the-variants.{Name}
+use Rattle.header.specs.Header.{FieldText, limit, over, rawLength, opensField, nameOf, rawOf, restOf, unfolded, inFront, fieldsWithin, fields, fieldsOf, isSome}
 use Rattle.header.specs.Answers.{fieldsFrom, stepAt, nameEnd, fieldEnd, fieldAt}
-use Rattle.header.specs.declared.Class.the-variants.{Name}
 use Rattle.header.specs.declared.Step.{Step}
 use Rattle.header.specs.declared.Step.the-variants.{Over, Broken, Field}
 use Rattle.header.proofs.Stepping.{is-over, is-broken, is-field, field-less}

@@ -12,13 +12,16 @@ use borrow.Author.Tests.{eqb-true, lt-ltb, leb-true, not-true}
 use lib.Dec.{leb, eqb}
 use lib.ListN.{length, getD}
 use lib.Seq.{take-append-seam, drop-append-seam, drop-append-add, getD-append-seam}
-use Rattle.octets.specs.Octets.{octet}
-use Rattle.header.specs.Header.{lf, ofEnding, over, belongs, runLength, closes, rawLength, opensField, nameOf, afterColon, rawOf, restOf, unfolded, inFront, fields}
+use Rattle.octets.specs.Octets.{octet, lf}
+use Rattle.octets.proofs.Tests.{and-left, and-right}
+use Rattle.runs.specs.Runs.{belongs, runLength}
+use Rattle.runs.specs.declared.Class.{Class}
+use Rattle.runs.specs.declared.Class.the-variants.{Name, Blank}
+use Rattle.runs.proofs.Running.{run-in, run-out}
+use Rattle.header.specs.Header.{ofEnding, over, closes, rawLength, opensField, nameOf, afterColon, rawOf, restOf, unfolded, inFront, fields}
 use Rattle.header.specs.Blocks.{isRaw}
-use Rattle.header.specs.declared.Class.{Class}
-use Rattle.header.specs.declared.Class.the-variants.{Name, Blank}
-use Rattle.header.proofs.Telling.{both, ends-other, closes-other, closes-lf}
-use Rattle.header.proofs.Counting.{run-in, run-out, raw-on, raw-last}
+use Rattle.header.proofs.Telling.{ends-other, closes-other, closes-lf}
+use Rattle.header.proofs.Counting.{raw-on, raw-last}
 use Rattle.header.proofs.Unfolding.{NoLf}
 use Rattle.header.proofs.Fields.{fields-one}
 
@@ -40,28 +43,29 @@ run-all : (class : Class) (x : ℕ) (s : List ℕ) → runLength class (x ∷ s)
 run-all class x s h = go (belongs class x) refl
   where
     go : (b : Bool) → belongs class x ≡ b → (belongs class x ≡ true) × (runLength class s ≡ length s)
-    go true e = (e, omega (arith, run-in x s class e))
-    go false e = absurd (omega (arith, run-out x s class e))
+    go true e = (e, omega (arith, run-in (belongs class) x s e))
+    go false e = absurd (omega (arith, run-out (belongs class) x s e))
 
 pub run-append : (class : Class) (s t : List ℕ) → runLength class s ≡ length s → runLength class t ≡ 0 → runLength class (s ++ t) ≡ length s
 run-append class [] t h o = o
 run-append class (x ∷ s) t h o =
     let p : (belongs class x ≡ true) × (runLength class s ≡ length s) = run-all class x s h in
-    run-in x (s ++ t) class (p .0) ∙ ap suc (run-append class s t (p .1) o)
+    run-in (belongs class) x (s ++ t) (p .0) ∙ ap suc (run-append class s t (p .1) o)
 
 pub raw-append : (s t : List ℕ) → isRaw s ≡ true → belongs Blank (getD t 0 0) ≡ false → rawLength (s ++ t) ≡ length s
 unfolding isRaw
 raw-append [] t h o = absurd (false≢true h)
 raw-append (x ∷ []) t h o = raw-last x t (sym (closes-lf x (getD t 0 0) (getD t 0 0) false (eqb-true x lf h) refl (sym o)))
 raw-append (x ∷ y ∷ s) t h o =
-    let p : (not (closes x y) ≡ true) × (isRaw (y ∷ s) ≡ true) = both (not (closes x y)) (isRaw (y ∷ s)) h in
-    raw-on x (y ∷ s ++ t) (not-true (closes x y) (p .0)) ∙ ap suc (raw-append (y ∷ s) t (p .1) o)
+    let c : not (closes x y) ≡ true = and-left (not (closes x y)) (isRaw (y ∷ s)) h in
+    let r : isRaw (y ∷ s) ≡ true = and-right (not (closes x y)) (isRaw (y ∷ s)) h in
+    raw-on x (y ∷ s ++ t) (not-true (closes x y) c) ∙ ap suc (raw-append (y ∷ s) t r o)
 
 -- an octet of a name is of no line ending
 name-no-ending : (x y : ℕ) → belongs Name x ≡ true → ofEnding x y ≡ false
 unfolding belongs
 name-no-ending x y h =
-    let l : 33 ≤ x = leb-true 33 x (both (leb 33 x) (leb x 126) (both (leb 33 x && leb x 126) (not (eqb x (octet ":"))) h .0) .0) in
+    let l : 33 ≤ x = leb-true 33 x (and-left (leb 33 x) (leb x 126) (and-left (leb 33 x && leb x 126) (not (eqb x (octet ":"))) h)) in
     sym (ends-other x y (λ e. omega arith) (λ e. omega arith))
 
 module _ (name raw rest : List ℕ) (named : runLength Name name ≡ length name) (some-name : 0 < length name)
@@ -71,7 +75,7 @@ module _ (name raw rest : List ℕ) (named : runLength Name name ≡ length name
 
   name-ends : runLength Name whole ≡ length name
   unfolding whole belongs
-  name-ends = run-append Name name (octet ":" ∷ (raw ++ rest)) named (run-out (octet ":") (raw ++ rest) Name refl)
+  name-ends = run-append Name name (octet ":" ∷ (raw ++ rest)) named (run-out (belongs Name) (octet ":") (raw ++ rest) refl)
 
   goes-on : over whole ≡ false
   unfolding whole over

@@ -22,9 +22,10 @@ use Rattle.octets.specs.Finding.{lengthBefore}
 use Rattle.octets.proofs.Lists.{drop-done}
 use Rattle.octets.proofs.Finding.{By, none, one, other, by, before-on, before-short, before-none}
 use Rattle.octets.proofs.Writing.{Wrote, begin, kept, counted, puts, done}
-use Rattle.header.specs.Header.{cr, lf, ofEnding, unfolded}
+use Rattle.octets.specs.Octets.{cr, lf}
+use Rattle.octets.proofs.Tests.{and-right}
+use Rattle.header.specs.Header.{ofEnding, unfolded}
 use Rattle.header.specs.Lines.{lineLength, textLength}
-use Rattle.header.proofs.Telling.{both}
 use Rattle.header.proofs.Unfolding.{plain-octet, unfolded-short, unfolded-out, unfolded-in, unfolded-lf}
 
 module _ (x : ℕ) (s : List ℕ) where
@@ -91,7 +92,7 @@ pub ruleset texts = (text-empty, text-room, text-cr, text-lf, needs)
 -- an octet of a line ending that is no LF stands before one
 before-lf : (x y : ℕ) → eqb x lf ≡ false → ofEnding x y ≡ true → y ≡ lf
 unfolding ofEnding
-before-lf x y e t = eqb-true y lf (both (eqb x cr) (eqb y lf) (rw e at t) .1)
+before-lf x y e t = eqb-true y lf (and-right (eqb x cr) (eqb y lf) (rw e at t))
 
 unfolded-line : {s : List ℕ} → By lf s → unfolded s ≡ take (textLength s) s ++ unfolded (drop (suc (lineLength s)) s)
 unfolding unfolded textLength lengthBefore ofEnding

@@ -11,12 +11,15 @@ use borrow.Author.Tests.{eqb-true, eqb-false}
 use lib.Dec.{ltb, eqb}
 use lib.ListN.{length, getD, take, drop}
 use lib.Seq.{take-at, drop-at, drop-drop, length-take-le}
-use Rattle.octets.specs.Octets.{octet}
-use Rattle.header.specs.Header.{cr, lf, ofEnding, over, belongs, runLength, closes, rawLength, opensField, nameOf, afterColon, rawOf, restOf, unfolded, fields}
+use Rattle.octets.specs.Octets.{octet, cr, lf, blank}
+use Rattle.octets.proofs.Tests.{and-right}
+use Rattle.runs.specs.Runs.{belongs, runLength, run}
+use Rattle.runs.specs.declared.Class.the-variants.{Name, Blank}
+use Rattle.runs.proofs.Running.{run-in, run-out, run-short}
+use Rattle.header.specs.Header.{ofEnding, over, closes, rawLength, opensField, nameOf, afterColon, rawOf, restOf, unfolded, fields}
 use Rattle.header.specs.Blocks.{withCrLf, LfAlone}
-use Rattle.header.specs.declared.Class.the-variants.{Name, Blank}
-use Rattle.header.proofs.Telling.{both, next-octet, ends-lf, closes-other}
-use Rattle.header.proofs.Counting.{run-in, run-out, run-short, raw-on, raw-last}
+use Rattle.header.proofs.Telling.{next-octet, ends-lf, closes-other}
+use Rattle.header.proofs.Counting.{raw-on, raw-last}
 use Rattle.header.proofs.Unfolding.{plain-octet, unfolded-out, unfolded-in, unfolded-crlf}
 use Rattle.header.proofs.Fields.{fields-over, fields-broken, fields-one, rest-short}
 
@@ -90,25 +93,25 @@ run-kept (x ∷ s) = go (run-kept s) (eqb x lf) refl (belongs Name x) refl
   where
     go : runLength Name (withCrLf s) ≡ runLength Name s → (b : Bool) → eqb x lf ≡ b → (d : Bool) → belongs Name x ≡ d
         → runLength Name (withCrLf (x ∷ s)) ≡ runLength Name (x ∷ s)
-    go ih true e d m = rw (with-lf x s e, eqb-true x lf e) (run-out cr (lf ∷ withCrLf s) Name refl ∙ sym (run-out lf s Name refl))
-    go ih false e true m = rw (with-other x s e) (run-in x (withCrLf s) Name m ∙ ap suc ih ∙ sym (run-in x s Name m))
-    go ih false e false m = rw (with-other x s e) (run-out x (withCrLf s) Name m ∙ sym (run-out x s Name m))
+    go ih true e d m = rw (with-lf x s e, eqb-true x lf e) (run-out (belongs Name) cr (lf ∷ withCrLf s) refl ∙ sym (run-out (belongs Name) lf s refl))
+    go ih false e true m = rw (with-other x s e) (run-in (belongs Name) x (withCrLf s) m ∙ ap suc ih ∙ sym (run-in (belongs Name) x s m))
+    go ih false e false m = rw (with-other x s e) (run-out (belongs Name) x (withCrLf s) m ∙ sym (run-out (belongs Name) x s m))
 
 -- a name stays as it is
 name-stays : (s : List ℕ) → withCrLf s ≡ nameOf s ++ withCrLf (drop (runLength Name s) s)
-unfolding withCrLf runLength belongs
+unfolding withCrLf run belongs
 name-stays [] = refl
 name-stays (x ∷ s) = go (name-stays s) (belongs Name x) refl (eqb x lf) refl
   where
     go : withCrLf s ≡ nameOf s ++ withCrLf (drop (runLength Name s) s) → (d : Bool) → belongs Name x ≡ d → (b : Bool) → eqb x lf ≡ b
         → withCrLf (x ∷ s) ≡ nameOf (x ∷ s) ++ withCrLf (drop (runLength Name (x ∷ s)) (x ∷ s))
-    go ih false m b e = rw (run-out x s Name m)
+    go ih false m b e = rw (run-out (belongs Name) x s m)
     go ih true m true e = absurd (let z : belongs Name lf ≡ true = rw (eqb-true x lf e) at m in false≢true z)
-    go ih true m false e = rw (run-in x s Name m, with-other x s e) (ap (λ (l : List ℕ). x ∷ l) ih)
+    go ih true m false e = rw (run-in (belongs Name) x s m, with-other x s e) (ap (λ (l : List ℕ). x ∷ l) ih)
 
 module _ (s : List ℕ) where
   long : length (nameOf s) ≡ runLength Name s
-  long = length-take-le (runLength Name s) s (run-short Name s)
+  long = length-take-le (runLength Name s) s (run-short (belongs Name) s)
 
   name-kept : nameOf (withCrLf s) ≡ nameOf s
   name-kept = rw (run-kept s, name-stays s) (take-at (nameOf s) (withCrLf (drop (runLength Name s) s)) (runLength Name s) long)
@@ -136,7 +139,7 @@ after-kept : (s : List ℕ) → opensField s ≡ true → afterColon (withCrLf s
 unfolding opensField
 after-kept s o =
     let n : ℕ = runLength Name s in
-    let c : getD (drop n s) 0 0 ≡ octet ":" = next-octet s n ∙ eqb-true (getD s n 0) (octet ":") (both (ltb 0 n) (eqb (getD s n 0) (octet ":")) o .1) in
+    let c : getD (drop n s) 0 0 ≡ octet ":" = next-octet s n ∙ eqb-true (getD s n 0) (octet ":") (and-right (ltb 0 n) (eqb (getD s n 0) (octet ":")) o) in
     rw (run-kept s) (sym (drop-drop 1 n (withCrLf s)) ∙ ap (drop 1) (behind-kept s) ∙ one-off (drop n s) c ∙ ap withCrLf (drop-drop 1 n s))
 
 -- a value as it stands, and what follows it
@@ -145,7 +148,7 @@ record Cut (t : List ℕ) : Type 0 where
   rest : drop (rawLength (withCrLf t)) (withCrLf t) ≡ withCrLf (drop (rawLength t) t)
 
 closes-kept : (x : ℕ) (s : List ℕ) → eqb x lf ≡ true → closes lf (getD (withCrLf s) 0 0) ≡ closes x (getD s 0 0)
-unfolding closes belongs
+unfolding closes belongs blank
 closes-kept x s e = rw (eqb-true x lf e) (ap not (first-alike (belongs Blank) refl s))
 
 cut-none : Cut []

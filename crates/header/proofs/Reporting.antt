@@ -13,13 +13,14 @@ use lib.ListN.{length, take, drop, length-take, length-drop}
 use lib.Seq.{drop-drop}
 use Rattle.octets.specs.Octets.{sameName}
 use Rattle.octets.proofs.Comparing.{name-long}
-use Rattle.header.specs.Header.{report, runLength, mayFollow, opensReport, isReport}
-use Rattle.header.specs.declared.Class.the-variants.{Blank}
-use Rattle.header.proofs.Counting.{run-upto}
+use Rattle.runs.specs.Runs.{belongs, runLength}
+use Rattle.runs.specs.declared.Class.the-variants.{Blank}
+use Rattle.runs.proofs.Running.{run-upto}
+use Rattle.header.specs.Header.{report, mayFollow, opensReport, isReport}
 
 module _ (s : List ℕ) (at : ℕ) (t : at ≡ 0 + runLength Blank (drop 0 s)) where
   pub report-from : at ≤ length s
-  report-from = rw t (run-upto Blank s 0 (omega arith))
+  report-from = rw t (run-upto (belongs Blank) s 0 (omega arith))
 
   -- the answer, from where the blanks end
   here : isReport s ≡ (sameName (take 16 (drop at s)) report && mayFollow (drop (at + 16) s))

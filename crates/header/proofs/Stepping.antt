@@ -18,12 +18,13 @@ use lib.ListN.{length, getD, take, drop, length-take, length-drop, List·getD-eq
 use lib.Seq.{getD-drop}
 use Rattle.octets.specs.Octets.{octet}
 use Rattle.octets.proofs.Lists.{lt-or-le}
-use Rattle.header.specs.Header.{over, runLength, rawLength, opensField}
+use Rattle.octets.proofs.Tests.{and-left, and-right}
+use Rattle.runs.specs.Runs.{runLength}
+use Rattle.runs.specs.declared.Class.the-variants.{Name}
+use Rattle.header.specs.Header.{over, rawLength, opensField}
 use Rattle.header.specs.Answers.{nameEnd, fieldEnd, stepAt}
-use Rattle.header.specs.declared.Class.the-variants.{Name}
 use Rattle.header.specs.declared.Step.{Step}
 use Rattle.header.specs.declared.Step.the-variants.{Over, Broken, Field}
-use Rattle.header.proofs.Telling.{both}
 use Rattle.header.proofs.Counting.{raw-upto}
 
 -- a colon stands below the end
@@ -95,9 +96,9 @@ opened : (s : List ℕ) (at : ℕ) → opensField (drop at s) ≡ true → (at <
 unfolding opensField
 opened s at o =
     let n : ℕ = runLength Name (drop at s) in
-    let p : (ltb 0 n ≡ true) × (eqb (getD (drop at s) n 0) (octet ":") ≡ true) = both (ltb 0 n) (eqb (getD (drop at s) n 0) (octet ":")) o in
-    let c : getD s (nameEnd s at) 0 ≡ octet ":" = sym (getD-drop at s n 0) ∙ eqb-true (getD (drop at s) n 0) (octet ":") (p .1) in
-    (omega (arith, ltb-true 0 n (p .0)), below-end s (nameEnd s at) c)
+    let b : Bool = eqb (getD (drop at s) n 0) (octet ":") in
+    let c : getD s (nameEnd s at) 0 ≡ octet ":" = sym (getD-drop at s n 0) ∙ eqb-true (getD (drop at s) n 0) (octet ":") (and-right (ltb 0 n) b o) in
+    (omega (arith, ltb-true 0 n (and-left (ltb 0 n) b o)), below-end s (nameEnd s at) c)
 
 pub held : (s : List ℕ) (at : ℕ) → Held s at (stepAt s at)
 held s at = go (over (drop at s)) refl (opensField (drop at s)) refl

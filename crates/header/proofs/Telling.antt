@@ -1,47 +1,32 @@
 -- What the octets at one place are: the laws behind the functions that have no loop.
 --     peek-past                   past the end stands no octet
 --     next-octet                  the octet at a place, as the definitions have it
---     both                        where `a && b` is true both are
---     is-name, is-blank           the tests of each class are the class's own
 --     ends-lf, ends-cr, ends-other    octets of a line ending
 --     closes-lf, closes-other     the last octet of a field
 --     over-past, over-here        the end of a block
 --     follow-past, follow-here    what may follow the name of a type
 -- Assumes nothing.
 use Prim.Native.Nat.{ℕ, _+_, _<_, _≤_}
-use mathlib.Core.Path.{_≡_, refl, sym, ap, _∙_}
-use mathlib.Core.Bool.{Bool, true, false, not, _&&_, _||_, false≢true}
+use mathlib.Core.Path.{_≡_, sym, ap, _∙_}
+use mathlib.Core.Bool.{Bool, true, false, not, _||_}
 use mathlib.Core.List.{List}
 use native.Mathlib.Nat.{add-zero}
 use borrow.Author.Needs.{needs}
 use borrow.Author.Tests.{eq-eqb, ne-eqb}
-use lib.Dec.{leb, eqb}
+use lib.Dec.{eqb}
 use lib.ListN.{length, getD, drop, List·getD-eq-default}
 use lib.Seq.{getD-drop}
-use Rattle.octets.specs.Octets.{octet}
+use Rattle.octets.specs.Octets.{octet, cr, lf}
 use Rattle.octets.proofs.Lists.{drop-one, drop-done}
-use Rattle.header.specs.Header.{cr, lf, ofEnding, over, belongs, closes, mayFollow}
-use Rattle.header.specs.declared.Class.{Class}
-use Rattle.header.specs.declared.Class.the-variants.{Name, Blank}
+use Rattle.runs.specs.Runs.{belongs}
+use Rattle.runs.specs.declared.Class.the-variants.{Blank}
+use Rattle.header.specs.Header.{ofEnding, over, closes, mayFollow}
 
 pub peek-past : (s : List ℕ) (at : ℕ) → length s ≤ at → 0 ≡ getD s at 0
 peek-past s at h = sym (List·getD-eq-default s 0 {n = at} h)
 
 pub next-octet : (s : List ℕ) (at : ℕ) → getD (drop at s) 0 0 ≡ getD s at 0
 next-octet s at = getD-drop at s 0 0 ∙ ap (λ (i : ℕ). getD s i 0) (add-zero at)
-
-pub both : (a b : Bool) → (a && b) ≡ true → (a ≡ true) × (b ≡ true)
-both true b e = (refl, e)
-both false b e = absurd (false≢true e)
-
-module _ (class : Class) (x : ℕ) where
-  pub is-name : class ≡ Name → ((leb 33 x && leb x 126) && not (eqb x (octet ":"))) ≡ belongs class x
-  unfolding belongs
-  is-name q = rw q
-
-  pub is-blank : class ≡ Blank → (eqb x (octet " ") || eqb x (octet "\t")) ≡ belongs class x
-  unfolding belongs
-  is-blank q = rw q
 
 module _ (x y : ℕ) where
   pub ends-lf : x ≡ lf → true ≡ ofEnding x y
@@ -81,4 +66,4 @@ module _ (s : List ℕ) (at : ℕ) where
   unfolding mayFollow
   follow-here b h e = rw (drop-one s at h, e)
 
-pub ruleset telling = (peek-past, is-name, is-blank, ends-lf, ends-cr, ends-other, closes-lf, closes-other, over-past, over-here, follow-past, follow-here, needs)
+pub ruleset telling = (peek-past, ends-lf, ends-cr, ends-other, closes-lf, closes-other, over-past, over-here, follow-past, follow-here, needs)

@@ -17,7 +17,8 @@ use lib.Dec.{eqb}
 use lib.ListN.{length, getD, take, drop, length-append}
 use lib.Seq.{take-append-seam}
 use Rattle.octets.specs.Written.{onto}
-use Rattle.header.specs.Header.{cr, lf, ofEnding, unfolded}
+use Rattle.octets.specs.Octets.{cr, lf}
+use Rattle.header.specs.Header.{ofEnding, unfolded}
 use Rattle.header.proofs.Telling.{ends-lf}
 
 pub unfolded-short : (s : List ℕ) → length (unfolded s) ≤ length s

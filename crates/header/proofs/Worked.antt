@@ -10,25 +10,9 @@ use mathlib.Core.Bool.{true, false}
 use mathlib.Core.List.{List, [], _∷_, map}
 use mathlib.Core.Option.{some, none}
 use lib.ListN.{replicate}
-use Rattle.octets.specs.Octets.{ascii, octet, sameName, sameOctets, lowered, lower}
-use Rattle.header.specs.Header.{
-  FieldText,
-  fields,
-  fieldsOf,
-  fieldsWithin,
-  inFront,
-  unfolded,
-  over,
-  ofEnding,
-  opensField,
-  runLength,
-  rawLength,
-  belongs,
-  closes,
-  isReport,
-  opensReport,
-  mayFollow,
-}
+use Rattle.octets.specs.Octets.{ascii, octet, blank, sameName, sameOctets, lowered, lower}
+use Rattle.runs.specs.Runs.{run, belongs}
+use Rattle.header.specs.Header.{FieldText, fields, fieldsOf, fieldsWithin, inFront, unfolded, over, ofEnding, opensField, rawLength, closes, isReport, opensReport, mayFollow}
 
 field : List ℕ → List ℕ → FieldText
 field n v = record { name = n; value = v }
@@ -54,7 +38,7 @@ blocks :
     ∷ some []
     ∷ some []
     ∷ []
-unfolding field fieldsOf fields fieldsWithin inFront unfolded over ofEnding opensField runLength rawLength belongs closes
+unfolding field fieldsOf fields fieldsWithin inFront unfolded over ofEnding opensField run rawLength belongs blank closes
 blocks = refl
 
 -- A continuation with no field above; a lone CR at the end, which is a line and no field; a blank between name and colon; no name; no colon; an
@@ -70,13 +54,13 @@ broken :
     ∷ ascii "From a@b Mon Jan 1"
     ∷ [])
     ≡ replicate 7 none
-unfolding fieldsOf fields fieldsWithin inFront unfolded over ofEnding opensField runLength rawLength belongs closes
+unfolding fieldsOf fields fieldsWithin inFront unfolded over ofEnding opensField run rawLength belongs blank closes
 broken = refl
 
 reports :
     map isReport (ascii "multipart/report" ∷ ascii " \t Multipart/REPORT; report-type=x" ∷ ascii "multipart/report(c)" ∷ ascii "multipart/report\t" ∷ [])
     ≡ replicate 4 true
-unfolding isReport opensReport mayFollow runLength belongs sameName sameOctets lowered lower
+unfolding isReport opensReport mayFollow run belongs blank sameName sameOctets lowered lower
 reports = refl
 
 -- a comment before the type, a blank in it, another type, a bare CR behind it, half of it
@@ -84,5 +68,5 @@ others :
     map isReport
     (ascii "(c) multipart/report" ∷ ascii "multipart /report" ∷ ascii "multipart/reports" ∷ ascii "multipart/report\r" ∷ ascii "multipart" ∷ [])
     ≡ replicate 5 false
-unfolding isReport opensReport mayFollow runLength belongs sameName sameOctets lowered lower
+unfolding isReport opensReport mayFollow run belongs blank sameName sameOctets lowered lower
 others = refl

@@ -6,8 +6,9 @@ use mathlib.Core.Bool.{true, false}
 use mathlib.Core.List.{List}
 use mathlib.Core.Option.{Option}
 use lib.ListN.{take, drop}
-use Rattle.header.specs.Header.{over, runLength, rawLength, opensField, unfolded, FieldText, fields}
-use Rattle.header.specs.declared.Class.the-variants.{Name}
+use Rattle.runs.specs.Runs.{runLength}
+use Rattle.runs.specs.declared.Class.the-variants.{Name}
+use Rattle.header.specs.Header.{over, rawLength, opensField, unfolded, FieldText, fields}
 use Rattle.header.specs.declared.Step.{Step}
 use Rattle.header.specs.declared.Step.the-variants.{Over, Broken, Field}
 

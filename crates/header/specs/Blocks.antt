@@ -8,7 +8,8 @@ use mathlib.Core.Bool.{Bool, true, false, not, _&&_}
 use mathlib.Core.List.{List, [], _∷_}
 use lib.Dec.{eqb}
 use lib.ListN.{getD}
-use Rattle.header.specs.Header.{cr, lf, closes}
+use Rattle.octets.specs.Octets.{cr, lf}
+use Rattle.header.specs.Header.{closes}
 
 -- "A line opening with space or tab continues the field above"
 unfoldable pub isRaw : List ℕ → Bool

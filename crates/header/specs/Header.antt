@@ -2,33 +2,27 @@
 -- 0 stands for none, which is no line ending, no blank and no colon.
 --     limit                     how long a block may be
 --     ofEnding, over            line endings; the end of a block
---     belongs, runLength        octets of a name, blanks, and how many of them open a text
 --     closes, rawLength         the end of a field, its continuations included
 --     opensField, nameOf ..     a field at the beginning of a text
 --     unfolded                  a value without its line endings
 --     FieldText, fields         the fields of a block, its length aside
 --     fieldsOf, readable        the fields of a block, or none where it is unreadable
 --     isReport                  "Multipart/report"
--- "Names compare without regard to ASCII case": that is `sameName` of the crate octets.
+-- "Names compare without regard to ASCII case": that is `sameName` of the crate octets. What names are made of, and blanks, are classes of
+-- the crate runs.
 use Prim.Native.Nat.{ℕ, zero, suc, _+_}
 use mathlib.Core.Bool.{Bool, true, false, not, _&&_, _||_}
 use mathlib.Core.List.{List, [], _∷_}
 use mathlib.Core.Option.{Option, some, none}
 use lib.Dec.{leb, ltb, eqb}
 use lib.ListN.{length, getD, take, drop}
-use Rattle.octets.specs.Octets.{ascii, octet, sameName}
-use Rattle.header.specs.declared.Class.{Class}
-use Rattle.header.specs.declared.Class.the-variants.{Name, Blank}
+use Rattle.octets.specs.Octets.{ascii, octet, cr, lf, sameName}
+use Rattle.runs.specs.Runs.{belongs, runLength}
+use Rattle.runs.specs.declared.Class.the-variants.{Name, Blank}
 
 -- "A block over 65,536 octets is unreadable."
 abbrev pub limit : ℕ
 limit = 65536
-
-abbrev pub cr : ℕ
-cr = octet "\r"
-
-abbrev pub lf : ℕ
-lf = octet "\n"
 
 -- "Lines end in CRLF or LF": x, with y behind it, is an octet of a line ending. A CR is one only directly before an LF.
 unfoldable pub ofEnding : ℕ → ℕ → Bool
@@ -38,16 +32,6 @@ ofEnding x y = eqb x lf || (eqb x cr && eqb y lf)
 unfoldable pub over : List ℕ → Bool
 over [] = true
 over (x ∷ s) = ofEnding x (getD s 0 0)
-
--- "octets 33 to 126 without colon"; "space or tab"
-unfoldable pub belongs : Class → ℕ → Bool
-belongs Name x = leb 33 x && leb x 126 && not (eqb x (octet ":"))
-belongs Blank x = eqb x (octet " ") || eqb x (octet "\t")
-
--- how many octets of the class open the text
-unfoldable pub runLength : Class → List ℕ → ℕ
-runLength class [] = 0
-runLength class (x ∷ s) = elim (belongs class x) [ true ↦ suc (runLength class s) | false ↦ 0 ]
 
 -- "A line opening with space or tab continues the field above": a field closes with an LF that neither follows.
 unfoldable pub closes : ℕ → ℕ → Bool

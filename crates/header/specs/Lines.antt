@@ -6,7 +6,8 @@ use mathlib.Core.Bool.{true, false}
 use mathlib.Core.List.{List, [], _∷_}
 use lib.ListN.{getD}
 use Rattle.octets.specs.Finding.{lengthBefore}
-use Rattle.header.specs.Header.{lf, ofEnding}
+use Rattle.octets.specs.Octets.{lf}
+use Rattle.header.specs.Header.{ofEnding}
 
 abbrev pub lineLength : List ℕ → ℕ
 lineLength s = lengthBefore lf s

@@ -4,9 +4,10 @@ ghost use Prim.Native.Nat.{_+_, _≤_, _<_};
 ghost use mathlib.Core.Path.{_≡_};
 ghost use lib.ListN.{length, getD, drop};
 ghost use Rattle.octets.specs.Written.{onto};
-ghost use Rattle.header.specs.Header.{ofEnding, over, belongs, runLength, closes, rawLength, unfolded, readable as readableOf, mayFollow, isReport};
+ghost use Rattle.header.specs.Header.{ofEnding, over, closes, rawLength, unfolded, readable as readableOf, mayFollow, isReport};
 ghost use Rattle.header.specs.Lines.{lineLength, textLength};
 ghost use Rattle.header.specs.Answers.{stepAt};
+use runs::Class;
 
 // How long a block may be.
 pub const LIMIT: usize = 65536;
@@ -23,41 +24,11 @@ pub enum Step {
     },
 }
 
-// The classes of octets that make runs.
-pub enum Class {
-    Name,
-    Blank,
-}
-
 // The octet at the place `at`, and 0 past the end.
 fn peek(s: &[u8], at: usize) -> u8
     ensures { λ r. ⌜ r ≡ getD (now (s .entry)) at 0 ⌝ }
 {
     if at < s.len() { s[at] } else { 0 }
-}
-
-fn within(x: u8, class: Class) -> bool
-    ensures { λ r. ⌜ r ≡ belongs class x ⌝ }
-{
-    match class {
-        Class::Name => (33 <= x) & (x <= 126) & (x != b':'),
-        Class::Blank => (x == b' ') | (x == b'\t'),
-    }
-}
-
-// The end of the run of octets of the class that begins at the place `at`.
-fn run_end(s: &[u8], at: usize, class: Class) -> usize
-    ensures { λ r. ⌜ r ≡ at + runLength class (drop at (now (s .entry))) ⌝ }
-{
-    let mut i = at;
-    while i < s.len() {
-        if within(s[i], class) {
-            i += 1;
-        } else {
-            return i;
-        }
-    }
-    i
 }
 
 // Is the octet at the place `at` one of a line ending: an LF, or a CR directly before one?
@@ -82,7 +53,7 @@ fn closes_at(s: &[u8], at: usize) -> bool
     if s[at] != b'\n' {
         return false;
     }
-    !within(peek(s, at + 1), Class::Blank)
+    !runs::within(Class::Blank, peek(s, at + 1))
 }
 
 // The end of the field whose value begins at the place `at`.
@@ -117,7 +88,7 @@ pub fn field_at(block: &[u8], at: usize) -> Step
     if over_at(block, at) {
         return Step::Over;
     }
-    let name_end = run_end(block, at, Class::Name);
+    let name_end = runs::run_end(block, at, Class::Name);
     if name_end == at {
         return Step::Broken;
     }
@@ -207,14 +178,14 @@ fn may_follow(s: &[u8], at: usize) -> bool
         return true;
     }
     let x = s[at];
-    within(x, Class::Blank) | (x == b';') | (x == b'(')
+    runs::within(Class::Blank, x) | (x == b';') | (x == b'(')
 }
 
 // Is the value of a Content-Type multipart/report, which has 16 octets?
 pub fn is_report(value: &[u8]) -> bool
     ensures { λ r. ⌜ r ≡ isReport (now (value .entry)) ⌝ }
 {
-    let at = run_end(value, 0, Class::Blank);
+    let at = runs::run_end(value, 0, Class::Blank);
     if value.len() - at < 16 {
         return false;
     }

@@ -14,7 +14,7 @@ use mathlib.Core.Option.{Option, some, none}
 use native.Mathlib.Omega.{arith}
 use Rattle.octets.specs.Octets.{sameOctets}
 use Rattle.octets.proofs.Comparing.{same-true, same-refl}
-use Rattle.address.proofs.Every.{by-test}
+use Rattle.octets.proofs.Tests.{by-test}
 use Rattle.keyfield.specs.Field.{Field, fieldOf, naming, validFor, validFields, onlyOne, counted}
 
 module _ (sender s : List ℕ) where

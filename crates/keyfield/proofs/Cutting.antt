@@ -11,8 +11,8 @@ use native.Mathlib.Omega.{arith}
 use borrow.Author.Tests.{lt-ltb, le-ltb}
 use lib.Dec.{eqb}
 use lib.ListN.{length, take}
+use Rattle.octets.proofs.Tests.{by-test}
 use Rattle.address.specs.Pieces.{pieces, before, behind}
-use Rattle.address.proofs.Every.{by-test}
 use Rattle.address.proofs.Pieces.{others, pieces-first, pieces-sides, behind-drop}
 use Rattle.keyfield.specs.Field.{holds}
 use Rattle.keyfield.specs.Answers.{part, Within, FirstAt}

@@ -16,14 +16,15 @@ use native.Mathlib.Omega.{arith}
 use borrow.Author.Tests.{leb-true, le-leb, lt-ltb, ltb-true}
 use lib.Dec.{leb, ltb, eqb}
 use lib.ListN.{length, getD, List·getD-eq-default}
-use Rattle.octets.specs.Octets.{AllOctets}
+use Rattle.octets.specs.Octets.{AllOctets, blank, withoutBlanks}
 use Rattle.octets.proofs.Lists.{lt-or-le}
-use Rattle.tokens.specs.Tokens.{blank}
-use Rattle.base64.specs.Base64.{decode, withoutBlanks}
-use Rattle.base64.proofs.Answered.{decode-octets}
-use Rattle.address.specs.Pieces.{every, onFirst, pieces, before, behind}
-use Rattle.address.specs.Address.{oneTo, plain, canonical, isCanonical}
-use Rattle.address.proofs.Every.{by-test, and-left, and-right, every-at}
+use Rattle.octets.specs.Tests.{every, oneTo}
+use Rattle.octets.proofs.Tests.{by-test, and-left, and-right}
+use Rattle.octets.proofs.Every.{every-at}
+use Rattle.letters.specs.Base64.{decode}
+use Rattle.letters.proofs.Standing.{decode-octets}
+use Rattle.address.specs.Pieces.{onFirst, pieces, before, behind}
+use Rattle.address.specs.Address.{plain, canonical, isCanonical}
 use Rattle.address.proofs.Pieces.{others, pieces-first}
 use Rattle.address.proofs.Spelling.{plain-is-canonical, canonical-octets}
 use Rattle.keyfield.specs.Field.{trimmedFront, trimmedBack, trimmed, nameOf, attribute, holds, Attribute, addr, preferEncrypt, keydata, ignored, spoiling, attributeOf, Step, on, last, spoils, withAddress, withPreference, step, Said, saidWith, ifLast, saidFrom, saidOf, limited, keyOf, Field, withKey, fieldBy, fieldOf}

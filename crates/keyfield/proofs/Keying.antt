@@ -16,8 +16,9 @@ use borrow.Author.Tests.{le-leb, lt-leb}
 use lib.ListN.{length, take, drop}
 use lib.Seq.{take-at}
 use Rattle.octets.specs.Written.{putAt, onto}
-use Rattle.base64.specs.Base64.{decode, withoutBlanks}
-use Rattle.base64.specs.Answers.{decodedOf, octetsIn, Decodes}
+use Rattle.octets.specs.Octets.{withoutBlanks}
+use Rattle.letters.specs.Base64.{decode, octetsIn}
+use Rattle.base64.specs.Answers.{decodedOf, Decodes}
 use Rattle.base64.specs.Steps.{NoneFit}
 use Rattle.base64.proofs.Answered.{octets-answered, refused-answered, octets-held}
 use Rattle.base64.specs.declared.Decoded.{Decoded}

@@ -16,13 +16,14 @@ use native.Mathlib.Omega.{arith}
 use borrow.Author.Tests.{lt-ltb, eq-eqb, ne-eqb, not-true}
 use lib.Dec.{eqb}
 use lib.ListN.{length, length-append}
-use Rattle.octets.specs.Octets.{ascii, sameOctets}
-use Rattle.tokens.specs.Tokens.{blank, belongs}
-use Rattle.base64.specs.Base64.{without, withoutBlanks, blank as blankIn}
-use Rattle.base64.proofs.Blanks.{without-passing, without-other}
-use Rattle.address.specs.Pieces.{every, pieces, before, behind}
+use Rattle.octets.specs.Octets.{ascii, sameOctets, blank, withoutBlanks}
+use Rattle.octets.specs.Tests.{every, without}
+use Rattle.octets.proofs.Tests.{and-left}
+use Rattle.octets.proofs.Every.{every-weaker}
+use Rattle.octets.proofs.Without.{without-passing, without-other}
+use Rattle.runs.specs.Runs.{belongs}
+use Rattle.address.specs.Pieces.{pieces, before, behind}
 use Rattle.address.specs.Address.{plain, canonical, addressOctet}
-use Rattle.address.proofs.Every.{and-left, every-weaker}
 use Rattle.address.proofs.Pieces.{others, before-into, behind-into, pieces-into, pieces-whole}
 use Rattle.address.proofs.Sides.{plain-octets, low-apart}
 use Rattle.keyfield.specs.Field.{trimmedFront, trimmedBack, trimmed, nameOf, addr, preferEncrypt, keydata, attribute, holds, attributeOf, on, last, withAddress, withPreference, step, saidWith, ifLast, saidFrom, saidOf, keyOf, withKey, fieldBy, fieldOf}
@@ -75,11 +76,6 @@ unfolding trimmed trimmedBack unblank
 trimmed-same s e =
     rw (front-same s e, front-same (reverse s) (every-reverse unblank s e)) (reverse-reverse s)
 
--- the two names for a blank
-same-blank : (x : ℕ) → blankIn x ≡ blank x
-unfolding blank blankIn
-same-blank x = refl
-
 -- blanks go out of key data anyway
 without-front : (s : List ℕ) → withoutBlanks (trimmedFront s) ≡ withoutBlanks s
 unfolding trimmedFront
@@ -87,27 +83,27 @@ without-front [] = refl
 without-front (x ∷ s) = go (without-front s) (blank x) refl
   where
     go : withoutBlanks (trimmedFront s) ≡ withoutBlanks s → (b : Bool) → blank x ≡ b → withoutBlanks (trimmedFront (x ∷ s)) ≡ withoutBlanks (x ∷ s)
-    go h true e = rw (front-blank x s e, h) (sym (without-passing blankIn x s (same-blank x ∙ e)))
+    go h true e = rw (front-blank x s e, h) (sym (without-passing blank x s e))
     go h false e = rw (front-other x s e)
 
 without-append : (s t : List ℕ) → withoutBlanks (s ++ t) ≡ withoutBlanks s ++ withoutBlanks t
 unfolding without
 without-append [] t = refl
-without-append (x ∷ s) t = go (without-append s t) (blankIn x) refl
+without-append (x ∷ s) t = go (without-append s t) (blank x) refl
   where
-    go : withoutBlanks (s ++ t) ≡ withoutBlanks s ++ withoutBlanks t → (b : Bool) → blankIn x ≡ b
+    go : withoutBlanks (s ++ t) ≡ withoutBlanks s ++ withoutBlanks t → (b : Bool) → blank x ≡ b
         → withoutBlanks (x ∷ (s ++ t)) ≡ withoutBlanks (x ∷ s) ++ withoutBlanks t
-    go h true e = rw (without-passing blankIn x (s ++ t) e, without-passing blankIn x s e) h
-    go h false e = rw (without-other blankIn x (s ++ t) e, without-other blankIn x s e, h)
+    go h true e = rw (without-passing blank x (s ++ t) e, without-passing blank x s e) h
+    go h false e = rw (without-other blank x (s ++ t) e, without-other blank x s e, h)
 
 without-reverse : (s : List ℕ) → withoutBlanks (reverse s) ≡ reverse (withoutBlanks s)
 unfolding without
 without-reverse [] = refl
-without-reverse (x ∷ s) = go (without-reverse s) (blankIn x) refl
+without-reverse (x ∷ s) = go (without-reverse s) (blank x) refl
   where
-    go : withoutBlanks (reverse s) ≡ reverse (withoutBlanks s) → (b : Bool) → blankIn x ≡ b → withoutBlanks (reverse (x ∷ s)) ≡ reverse (withoutBlanks (x ∷ s))
-    go h true e = rw (reverse-cons x s, without-append (reverse s) (x ∷ []), without-passing blankIn x [] e, without-passing blankIn x s e, h) (append-nil (reverse (withoutBlanks s)))
-    go h false e = rw (reverse-cons x s, without-append (reverse s) (x ∷ []), without-other blankIn x [] e, without-other blankIn x s e, h) (sym (reverse-cons x (withoutBlanks s)))
+    go : withoutBlanks (reverse s) ≡ reverse (withoutBlanks s) → (b : Bool) → blank x ≡ b → withoutBlanks (reverse (x ∷ s)) ≡ reverse (withoutBlanks (x ∷ s))
+    go h true e = rw (reverse-cons x s, without-append (reverse s) (x ∷ []), without-passing blank x [] e, without-passing blank x s e, h) (append-nil (reverse (withoutBlanks s)))
+    go h false e = rw (reverse-cons x s, without-append (reverse s) (x ∷ []), without-other blank x [] e, without-other blank x s e, h) (sym (reverse-cons x (withoutBlanks s)))
 
 without-trimmed : (s : List ℕ) → withoutBlanks (trimmed s) ≡ withoutBlanks s
 unfolding trimmed trimmedBack
@@ -156,7 +152,7 @@ module _ (a text : List ℕ) (p : plain a ≡ true) (t : every (other 59) text �
       (free (λ x. not (blank x)) (λ x e. rw (apart 32 (low-apart 32 (omega arith)) x e, apart 9 (low-apart 9 (omega arith)) x e)))
 
   address-piece : every (other 59) (ascii " addr=" ++ a) ≡ true
-  unfolding every addressOctet belongs
+  unfolding every belongs
   address-piece = free (other 59) (λ x e. rw (apart 59 refl x e))
 
   key-piece : every (other 59) (ascii " keydata=" ++ text) ≡ true

@@ -11,8 +11,8 @@ use mathlib.Core.Option.{Option, some, none}
 use borrow.Author.Needs.{needs}
 use lib.Dec.{leb}
 use lib.ListN.{length, take, drop}
+use Rattle.octets.proofs.Tests.{by-test}
 use Rattle.address.specs.Address.{canonical}
-use Rattle.address.proofs.Every.{by-test}
 use Rattle.keyfield.specs.Field.{keyOf, withKey, fieldBy, fieldOf}
 use Rattle.keyfield.specs.Answers.{part, saidAt, WholeWithin, Scans, keyAnswer, Outcome, valid, spoiled, crowded, outcomeOf, shown, AddressWithin, Answered, keyIn, leftIn}
 use Rattle.keyfield.specs.declared.Scanned.{Scanned}

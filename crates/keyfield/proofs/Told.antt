@@ -16,8 +16,8 @@ use borrow.Author.Tests.{leb-true, leb-false, le-leb}
 use lib.Dec.{leb}
 use lib.ListN.{length}
 use Rattle.octets.specs.Written.{onto}
+use Rattle.octets.proofs.Tests.{by-test}
 use Rattle.address.specs.Address.{canonical}
-use Rattle.address.proofs.Every.{by-test}
 use Rattle.keyfield.specs.Field.{Field, fieldOf}
 use Rattle.keyfield.specs.Answers.{part, PlainAt, valid, spoiled, crowded, outcomeOf, shown, AddressWithin, Answered, keyIn, leftIn}
 use Rattle.keyfield.specs.declared.Read.{Read}

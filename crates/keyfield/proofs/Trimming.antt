@@ -1,27 +1,32 @@
 -- Blanks left out at the ends of a part.
 --     front-blank, front-other      the first octet of a text that is trimmed in front
 --     back-blank, back-other        the last octet of a text that is trimmed behind
---     Front s from to i             trimmed in front, the part from `from` on is the part from i on
---     front-begin .. front-end      the steps of a loop that looks for the place
+--     front-trimmed                 the place where the run of blanks ends that opens a part
 --     Back s from to i              trimmed behind, the part up to `to` is the part up to i
 --     back-begin .. back-end        the steps of a loop that looks for that place
 --     trim-both                     both ends together
 --     every-reverse                 a list turned round has the same elements
 -- Assumes nothing.
-use Prim.Native.Nat.{ℕ, _+_, _-_, _<_, _≤_}
+use Prim.Native.Nat.{ℕ, _+_, _-_, _*_, _^_, _<_, _≤_}
 use mathlib.Core.Path.{_≡_, refl, sym, ap, _∙_}
 use mathlib.Core.Bool.{Bool, true, false, not}
 use mathlib.Core.List.{List, [], _∷_, _++_, reverse, reverse-cons, reverse-append, reverse-reverse}
 use native.Mathlib.Omega.{arith}
 use borrow.Author.Needs.{needs}
 use borrow.Author.Tests.{not-true, not-false}
-use lib.ListN.{length, getD}
-use Rattle.tokens.specs.Tokens.{blank}
-use Rattle.address.specs.Pieces.{every}
-use Rattle.address.proofs.Every.{and-left, and-right, every-append}
+use lib.ListN.{length, getD, take, drop, length-take}
+use mir.Syntax.{w64}
+use mir.Val.{Fits}
+use Rattle.octets.specs.Octets.{blank}
+use Rattle.octets.specs.Tests.{every}
+use Rattle.octets.proofs.Tests.{and-left, and-right, by-test}
+use Rattle.octets.proofs.Every.{every-append}
+use Rattle.runs.specs.Runs.{belongs, run, runLength}
+use Rattle.runs.specs.declared.Class.the-variants.{Blank}
+use Rattle.runs.proofs.Running.{run-in, run-out, run-short}
 use Rattle.keyfield.specs.Field.{trimmedFront, trimmedBack, trimmed}
 use Rattle.keyfield.specs.Answers.{part, Within, TrimmedFrom, TrimmedTo, Trimmed}
-use Rattle.keyfield.proofs.Parts.{part-none, part-first, part-last}
+use Rattle.keyfield.proofs.Parts.{part-none, part-last, part-back}
 
 module _ (x : ℕ) (s : List ℕ) where
   pub front-blank : blank x ≡ true → trimmedFront (x ∷ s) ≡ trimmedFront s
@@ -40,46 +45,33 @@ module _ (x : ℕ) (s : List ℕ) where
   unfolding trimmedBack trimmedFront
   back-other e = rw (reverse-append s (x ∷ []), trimmedFront, e, ← reverse-append s (x ∷ [])) (reverse-reverse (s ++ (x ∷ [])))
 
-pub record Front (s : List ℕ) (from to i : ℕ) : Type 0 where
-  pub low : from ≤ i
-  pub upto : i ≤ to
-  pub inside : to ≤ length s
-  pub so-far : trimmedFront (part s from to) ≡ trimmedFront (part s i to)
+-- what is trimmed in front is a run of blanks
+trimmed-run : (s : List ℕ) → trimmedFront s ≡ drop (run blank s) s
+unfolding trimmedFront run
+trimmed-run [] = refl
+trimmed-run (x ∷ s) =
+    by-test (blank x)
+    (λ e. rw (front-blank x s e, run-in blank x s e) (trimmed-run s))
+    (λ e. rw (front-other x s e, run-out blank x s e))
 
-module _ (s : List ℕ) (from to : ℕ) where
-  pub front-begin : Within s from to → Front s from to from
-  front-begin h = record { low = omega arith; upto = h .order; inside = h .upto; so-far = refl }
+module _ (s : List ℕ) (from to n : ℕ) (w : Within s from to) (e : n ≡ 0 + runLength Blank (take (to - from) (drop from s))) where
+  front-upto : from + n ≤ to
+  front-upto = omega (arith, run-short (belongs Blank) (take (to - from) (drop from s)), length-take (to - from) (drop from s), w .order)
 
-  module _ (i : ℕ) (h : Front s from to i) where
-    pub front-read : i < to → i < length s
-    front-read l = omega arith
+  pub front-trimmed : TrimmedFrom s from to (from + n)
+  unfolding part belongs
+  front-trimmed =
+      let m : n ≡ run blank (part s from to) = omega arith in
+      record {
+        is = part-back s from to n front-upto (w .upto) ∙ rw m (sym (trimmed-run (part s from to)));
+        low = omega arith;
+        high = front-upto;
+      }
 
-    pub front-end : to ≤ i → TrimmedFrom s from to i
-    unfolding trimmedFront
-    front-end l =
-        let e : i ≡ to = omega (arith, h .upto) in
-        let z : part s i to ≡ [] = rw e (part-none s to) in
-        record { is = sym (h .so-far ∙ rw z); low = h .low; high = h .upto }
+  pub front-sum : length s * 1 < 2 ^ 63 → Fits w64 (from + n)
+  front-sum l = record { fits = omega (arith, front-upto, w .upto) }
 
-    module _ (b : Bool) (l : i < to) (e : b ≡ blank (getD s i 0)) where
-      pub front-next : not b ≡ false → Front s from to (i + 1)
-      front-next n =
-          record {
-            low = omega arith;
-            upto = omega arith;
-            inside = h .inside;
-            so-far = h .so-far ∙ rw (part-first s i to l (h .inside)) (front-blank (getD s i 0) (part s (i + 1) to) (sym e ∙ not-false b n));
-          }
-
-      pub front-stop : not b ≡ true → TrimmedFrom s from to i
-      front-stop n =
-          record {
-            is = sym (h .so-far ∙ rw (part-first s i to l (h .inside)) (front-other (getD s i 0) (part s (i + 1) to) (sym e ∙ not-true b n)));
-            low = h .low;
-            high = h .upto;
-          }
-
-pub ruleset trimming-front = (front-begin, front-read, front-next, front-stop, front-end, needs)
+pub ruleset trimming-front = (front-trimmed, front-sum, needs)
 
 pub record Back (s : List ℕ) (from to i : ℕ) : Type 0 where
   pub low : from ≤ i

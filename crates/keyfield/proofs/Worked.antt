@@ -5,11 +5,12 @@ use mathlib.Core.Path.{_≡_, refl}
 use mathlib.Core.Bool.{Bool, true, false}
 use mathlib.Core.List.{List, [], _∷_}
 use mathlib.Core.Option.{Option, some, none}
-use Rattle.octets.specs.Octets.{ascii, lower, lowered, sameOctets, startsWith}
-use Rattle.tokens.specs.Tokens.{blank, belongs}
-use Rattle.base64.specs.Base64 as base64
-use Rattle.address.specs.Pieces.{every, onFirst, pieces, before, behind}
-use Rattle.address.specs.Address.{atom, localPart, labelOctet, freeEnds, label, domain, plain, canonical}
+use Rattle.octets.specs.Octets.{ascii, lower, lowered, sameOctets, startsWith, blank}
+use Rattle.octets.specs.Tests.{every, without}
+use Rattle.runs.specs.Runs.{belongs}
+use Rattle.letters.specs.Base64 as base64
+use Rattle.address.specs.Pieces.{onFirst, pieces, before, behind}
+use Rattle.address.specs.Address.{atom, localPart, freeEnds, label, domain, plain, canonical}
 use Rattle.keyfield.specs.Field.{trimmedFront, trimmedBack, trimmed, nameOf, attribute, holds, attributeOf, withAddress, withPreference, step, saidWith, ifLast, saidFrom, saidOf, limited, keyOf, Field, withKey, fieldBy, fieldOf, naming, validFields, onlyOne, counted}
 
 -- the field of a@b.example with the key `foo`, and those of a@b with the key `f`
@@ -79,7 +80,7 @@ isSpoiled none = true
 isSpoiled (some f) = false
 
 worked : WhatCounts × KeyData × GoodOnes × (every (λ s. isSpoiled (fieldOf s)) spoiledOnes ≡ true)
-unfolding spoiledOnes isSpoiled counted onlyOne validFields naming fieldOf fieldBy withKey keyOf limited saidOf saidFrom ifLast saidWith step withAddress withPreference attributeOf holds attribute nameOf trimmed trimmedBack trimmedFront blank every onFirst pieces before behind plain localPart atom domain label labelOctet freeEnds belongs canonical lowered lower sameOctets startsWith base64.decode base64.follow base64.before base64.atEnd base64.grouped base64.closed base64.signOf base64.without base64.blank
+unfolding spoiledOnes isSpoiled counted onlyOne validFields naming fieldOf fieldBy withKey keyOf limited saidOf saidFrom ifLast saidWith step withAddress withPreference attributeOf holds attribute nameOf trimmed trimmedBack trimmedFront blank every onFirst pieces before behind plain localPart atom domain label belongs freeEnds canonical lowered lower sameOctets startsWith base64.decode base64.follow base64.before base64.atEnd base64.grouped base64.closed base64.signOf without
 worked = ((refl, refl, refl, refl, refl, refl), (refl, refl, refl), (refl, refl, refl, refl), refl)
 
 pub counts : WhatCounts

@@ -13,11 +13,11 @@ use mathlib.Core.List.{List, [], _∷_, reverse}
 use mathlib.Core.Option.{Option, some, none}
 use lib.Dec.{ltb}
 use lib.ListN.{length}
-use Rattle.octets.specs.Octets.{ascii, octet, sameOctets, startsWith}
-use Rattle.tokens.specs.Tokens.{blank}
-use Rattle.base64.specs.Base64.{decode, withoutBlanks}
+use Rattle.octets.specs.Octets.{ascii, octet, sameOctets, startsWith, blank, withoutBlanks}
+use Rattle.octets.specs.Tests.{oneTo}
+use Rattle.letters.specs.Base64.{decode}
 use Rattle.address.specs.Pieces.{pieces, before, behind}
-use Rattle.address.specs.Address.{oneTo, plain, canonical}
+use Rattle.address.specs.Address.{plain, canonical}
 use Rattle.slots.specs.Slot as slot
 use Rattle.keyfield.specs.declared.Name.{Name}
 use Rattle.keyfield.specs.declared.Name.the-variants.{Addr, PreferEncrypt, Keydata, Ignored, Unknown}

@@ -5,6 +5,7 @@ ghost use lib.ListN.{length};
 ghost use Rattle.keyfield.specs.Field.{nameOf, attributeOf, withAddress, withPreference, step, mutualBy, keyOf, fieldOf};
 ghost use Rattle.keyfield.specs.Answers.{part, Within, FirstAt, TrimmedFrom, TrimmedTo, Trimmed, Tells, addressAt, Stands, stated, Steps, wholeOf, Scans, keyAnswer, Answered, keyIn, leftIn};
 use base64::Decoded;
+use runs::Class;
 use slots::Slot;
 
 // Where something stands in the value: from the place `from` up to the place `to`.
@@ -97,14 +98,8 @@ fn skip_blanks(s: &[u8], from: usize, to: usize) -> usize
     requires { ⌜ Within (now s) from to ⌝ }
     ensures { λ r. ⌜ TrimmedFrom (now (s .entry)) from to r ⌝ }
 {
-    let mut i = from;
-    while i < to {
-        if !tokens::is_blank(s[i]) {
-            return i;
-        }
-        i += 1;
-    }
-    i
+    let n = runs::run_end(&s[from..to], 0, Class::Blank);
+    from + n
 }
 
 // The place behind the last octet before `to` that is no blank.
@@ -114,7 +109,7 @@ fn leave_blanks(s: &[u8], from: usize, to: usize) -> usize
 {
     let mut i = to;
     while from < i {
-        if !tokens::is_blank(s[i - 1]) {
+        if !octets::is_blank(s[i - 1]) {
             return i;
         }
         i -= 1;

@@ -8,9 +8,9 @@ use mathlib.Core.List.{List, [], _∷_}
 use mathlib.Core.Option.{Option, some, none}
 use native.Mathlib.Omega.{arith}
 use Rattle.octets.specs.Octets.{AllOctets}
+use Rattle.octets.proofs.Tests.{by-test}
 use Rattle.header.specs.Header.{FieldText}
 use Rattle.header.proofs.Octetwise.{ValuesOctets}
-use Rattle.address.proofs.Every.{by-test}
 use Rattle.list.specs.List.{among}
 use Rattle.keyfield.specs.Field.{Field, fieldOf}
 use Rattle.keyfield.proofs.Fields.{field-canonical, field-least, field-most, field-octets, field-key-octets}

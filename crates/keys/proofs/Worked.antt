@@ -5,12 +5,13 @@ use mathlib.Core.Path.{_≡_, refl}
 use mathlib.Core.Bool.{false}
 use mathlib.Core.List.{[], _∷_, map}
 use mathlib.Core.Option.{Option, some, none}
-use Rattle.octets.specs.Octets.{ascii, lower, lowered, sameName, sameOctets, startsWith}
+use Rattle.octets.specs.Octets.{ascii, lower, lowered, sameName, sameOctets, startsWith, blank}
+use Rattle.octets.specs.Tests.{every, without}
+use Rattle.runs.specs.Runs.{belongs, run}
 use Rattle.header.specs.Header as header
-use Rattle.tokens.specs.Tokens.{blank, belongs}
-use Rattle.base64.specs.Base64 as base64
-use Rattle.address.specs.Pieces.{every, onFirst, pieces, before, behind}
-use Rattle.address.specs.Address.{atom, localPart, labelOctet, freeEnds, label, domain, plain, canonical}
+use Rattle.letters.specs.Base64 as base64
+use Rattle.address.specs.Pieces.{onFirst, pieces, before, behind}
+use Rattle.address.specs.Address.{atom, localPart, freeEnds, label, domain, plain, canonical}
 use Rattle.list.specs.List.{among}
 use Rattle.keyfield.specs.Field.{
   Field,
@@ -59,7 +60,7 @@ counts :
     ∷ "Autocrypt: addr=c@d; keydata=Zg=="
     ∷ [])
     ≡ key "f" ∷ key "f" ∷ none ∷ none ∷ none ∷ []
-unfolding header.fieldsOf header.fields header.fieldsWithin header.inFront header.unfolded header.over header.ofEnding header.opensField header.runLength header.rawLength header.belongs header.closes sameName sameOctets startsWith lowered lower trimmedFront trimmedBack trimmed nameOf attribute holds attributeOf withAddress withPreference step saidWith ifLast saidFrom saidOf limited keyOf withKey fieldBy fieldOf naming validFields onlyOne counted base64.decode base64.follow base64.before base64.atEnd base64.grouped base64.closed base64.signOf base64.without base64.blank blank belongs every onFirst pieces before behind atom localPart labelOctet freeEnds label domain plain canonical readFields fieldsIn isKind valuesOf countedIn
+unfolding header.fieldsOf header.fields header.fieldsWithin header.inFront header.unfolded header.over header.ofEnding header.opensField run header.rawLength belongs header.closes sameName sameOctets startsWith lowered lower trimmedFront trimmedBack trimmed nameOf attribute holds attributeOf withAddress withPreference step saidWith ifLast saidFrom saidOf limited keyOf withKey fieldBy fieldOf naming validFields onlyOne counted base64.decode base64.follow base64.before base64.atEnd base64.grouped base64.closed base64.signOf without blank every onFirst pieces before behind atom localPart freeEnds label domain plain canonical readFields fieldsIn isKind valuesOf countedIn
 counts = refl
 
 abbrev gossip : String → String → Gossiped
@@ -72,5 +73,5 @@ heard :
     (ascii
     "Autocrypt-Gossip: addr=a@B; keydata=Zg==\nAutocrypt-Gossip: addr=x@y; keydata=Zg==\nautocrypt-gossip: addr=c@d; prefer-encrypt=mutual; keydata=Zm9v\nAutocrypt: addr=a@b; keydata=Zm9v\nAutocrypt-Gossip: addr=c@d\nAutocrypt-Gossip: addr=a@b; keydata=Zm9v"))
     ≡ gossip "a@b" "f" ∷ gossip "c@d" "foo" ∷ gossip "a@b" "foo" ∷ []
-unfolding header.fieldsOf header.fields header.fieldsWithin header.inFront header.unfolded header.over header.ofEnding header.opensField header.runLength header.rawLength header.belongs header.closes sameName sameOctets startsWith lowered lower trimmedFront trimmedBack trimmed nameOf attribute holds attributeOf withAddress withPreference step saidWith ifLast saidFrom saidOf limited keyOf withKey fieldBy fieldOf base64.decode base64.follow base64.before base64.atEnd base64.grouped base64.closed base64.signOf base64.without base64.blank blank belongs every onFirst pieces before behind atom localPart labelOctet freeEnds label domain plain canonical among readFields fieldsIn isKind valuesOf acceptedBy accepted gossipIn
+unfolding header.fieldsOf header.fields header.fieldsWithin header.inFront header.unfolded header.over header.ofEnding header.opensField run header.rawLength belongs header.closes sameName sameOctets startsWith lowered lower trimmedFront trimmedBack trimmed nameOf attribute holds attributeOf withAddress withPreference step saidWith ifLast saidFrom saidOf limited keyOf withKey fieldBy fieldOf base64.decode base64.follow base64.before base64.atEnd base64.grouped base64.closed base64.signOf without blank every onFirst pieces before behind atom localPart freeEnds label domain plain canonical among readFields fieldsIn isKind valuesOf acceptedBy accepted gossipIn
 heard = refl

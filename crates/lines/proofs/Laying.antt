@@ -18,11 +18,12 @@ use lib.Seq.{length-take-le, drop-drop}
 use Rattle.octets.specs.Written.{putAt}
 use Rattle.octets.proofs.Lists.{drop-one, drop-done}
 use Rattle.octets.proofs.Writing.{Wrote, begin-at, kept, counted, puts, done-at}
-use Rattle.base64.specs.Base64.{letter, encode, laid, lines}
+use Rattle.letters.specs.Base64.{letter, encode}
+use Rattle.lines.specs.Lines.{laid, lines}
 use Rattle.lines.specs.Steps.{characters, lineBreak, piece, after}
 use Rattle.lines.specs.declared.Four.{Four}
-use Rattle.base64.proofs.Lengths.{lines-counted}
-use Rattle.base64.proofs.Putting.{put-two, put-then, put-both, room-second, over-none, has-room}
+use Rattle.lines.proofs.Lengths.{lines-counted}
+use Rattle.octets.proofs.Putting.{put-two, put-then, put-both, room-second, over-none, has-room}
 
 pub ruleset counting = (lines-counted, needs)
 

@@ -1,1 +1,4 @@
+pub mod Lengths
 pub mod Laying
+pub mod Joined
+mod Worked

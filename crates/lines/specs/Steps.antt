@@ -5,7 +5,8 @@
 use Prim.Native.Nat.{ℕ, zero, suc}
 use mathlib.Core.List.{List, [], _∷_, _++_}
 use lib.ListN.{take, drop}
-use Rattle.base64.specs.Base64.{encode, cr, lf, space}
+use Rattle.octets.specs.Octets.{cr, lf, space}
+use Rattle.letters.specs.Base64.{encode}
 use Rattle.lines.specs.declared.Four.{Four}
 
 abbrev pub characters : Four → List ℕ

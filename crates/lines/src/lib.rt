@@ -1,11 +1,13 @@
-// Octets written as the Base64 lines of a field. What they are is said by `lines` and `encode` of base64/specs/Base64.antt.
+// Octets written as the Base64 lines of a field. What they are is said by `lines` of specs/Lines.antt and `encode`
+// of letters/specs/Base64.antt.
 ghost use Prim.Native.Nat.{_+_, _≤_, _<_};
 ghost use mathlib.Core.Path.{_≡_};
 ghost use mathlib.Core.List.{[], _∷_, _++_};
 ghost use lib.ListN.{length, drop};
 ghost use Rattle.octets.specs.Written.{putAt};
-ghost use Rattle.base64.specs.Base64.{encode, laid, lines};
-ghost use Rattle.base64.specs.Steps.{Letters};
+ghost use Rattle.letters.specs.Base64.{encode};
+ghost use Rattle.letters.specs.Tables.{Letters};
+ghost use Rattle.lines.specs.Lines.{laid, lines};
 ghost use Rattle.lines.specs.Steps.{characters, lineBreak, piece, after};
 
 // Four characters that stand for the octets of one group.
@@ -29,8 +31,8 @@ fn four_of_one(letters: &[u8; 64], a: u8) -> Four
     ensures { λ r. ⌜ characters r ≡ encode (a ∷ []) ⌝ }
 {
     Four(
-        base64::letter_of(letters, a / 4),
-        base64::letter_of(letters, a % 4 * 16),
+        letters::letter_of(letters, a / 4),
+        letters::letter_of(letters, a % 4 * 16),
         b'=',
         b'=',
     )
@@ -41,9 +43,9 @@ fn four_of_two(letters: &[u8; 64], a: u8, b: u8) -> Four
     ensures { λ r. ⌜ characters r ≡ encode (a ∷ b ∷ []) ⌝ }
 {
     Four(
-        base64::letter_of(letters, a / 4),
-        base64::letter_of(letters, a % 4 * 16 + b / 16),
-        base64::letter_of(letters, b % 16 * 4),
+        letters::letter_of(letters, a / 4),
+        letters::letter_of(letters, a % 4 * 16 + b / 16),
+        letters::letter_of(letters, b % 16 * 4),
         b'=',
     )
 }
@@ -53,10 +55,10 @@ fn four_of_three(letters: &[u8; 64], a: u8, b: u8, c: u8) -> Four
     ensures { λ r. ⌜ characters r ≡ encode (a ∷ b ∷ c ∷ []) ⌝ }
 {
     Four(
-        base64::letter_of(letters, a / 4),
-        base64::letter_of(letters, a % 4 * 16 + b / 16),
-        base64::letter_of(letters, b % 16 * 4 + c / 64),
-        base64::letter_of(letters, c % 64),
+        letters::letter_of(letters, a / 4),
+        letters::letter_of(letters, a % 4 * 16 + b / 16),
+        letters::letter_of(letters, b % 16 * 4 + c / 64),
+        letters::letter_of(letters, c % 64),
     )
 }
 
@@ -133,7 +135,7 @@ fn lay(key: &[u8], out: &mut [u8], at: usize) -> usize
     ensures { λ r. ⌜ r ≡ at + length (laid 76 (encode (now (key .entry)))) ⌝ }
     ensures { λ _. ⌜ now (out .exit) ≡ putAt (now (out .entry)) at (laid 76 (encode (now (key .entry)))) ⌝ }
 {
-    let letters = base64::letters();
+    let letters = letters::letters();
     let mut o = at;
     let mut i: usize = 0;
     let mut takes: usize = 19;

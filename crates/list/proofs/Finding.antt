@@ -18,6 +18,8 @@ use borrow.Author.Needs.{needs}
 use lib.ListN.{length, getD, take, drop}
 use lib.Seq.{drop-drop}
 use Rattle.octets.proofs.Lists.{lt-or-le, drop-one, drop-done}
+use Rattle.runs.specs.Runs.{run}
+use Rattle.runs.proofs.Running.{Ran, ran}
 use Rattle.tokens.specs.Tokens.{past, skipped, afterQuote}
 use Rattle.tokens.specs.Answers.{reached}
 use Rattle.tokens.specs.declared.Reached.{Reached}
@@ -25,9 +27,7 @@ use Rattle.tokens.specs.declared.Reached.the-variants.{To, Unreadable}
 use Rattle.tokens.proofs.Places.{Left}
 use Rattle.tokens.proofs.Skipping.{skip-to, skip-unreadable}
 use Rattle.tokens.proofs.Quoting.{quoted-to, quoted-unreadable}
-use Rattle.address.specs.Pieces.{run}
 use Rattle.address.specs.Address.{addressOctet, plain}
-use Rattle.address.proofs.Running.{Ran, ran}
 use Rattle.list.specs.List.{openingOf, holdsAt, Token, runToken, quotedToken, tokenAt, firstToken}
 use Rattle.list.specs.Answers.{between, foundIn, Inside}
 use Rattle.list.specs.declared.token.Sort.{Sort}

@@ -11,13 +11,13 @@ use mathlib.Core.Option.{Option, some, none}
 use lib.ListN.{length, take, drop}
 use Rattle.octets.specs.Octets.{AllOctets}
 use Rattle.octets.proofs.Lists.{drop-octets, take-octets}
+use Rattle.octets.proofs.Tests.{by-test}
+use Rattle.runs.specs.Runs.{run}
 use Rattle.tokens.specs.Tokens.{skipped, afterQuote}
 use Rattle.tokens.proofs.Places.{Suffix, whole, behind}
 use Rattle.tokens.proofs.Skipping.{skipped-suffix}
 use Rattle.tokens.proofs.Quoting.{quote-suffix}
-use Rattle.address.specs.Pieces.{run}
 use Rattle.address.specs.Address.{addressOctet, plain}
-use Rattle.address.proofs.Every.{by-test}
 use Rattle.list.specs.List.{openingOf, holdsAt, Token, address, other, end, unreadable, runToken, quotedToken, tokenAt, firstToken, afterAddress, after, mayEnd, inFront, listedBy, listed, addresses}
 use Rattle.list.specs.Answers.{onlyOf}
 use Rattle.list.specs.declared.token.Opening.{Opening}

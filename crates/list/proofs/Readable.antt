@@ -15,11 +15,13 @@ use borrow.Author.Tests.{ne-eqb}
 use lib.ListN.{length, getD}
 use lib.Seq.{take-length, drop-length}
 use Rattle.octets.proofs.Lists.{lt-or-le}
-use Rattle.tokens.specs.Tokens.{blank, belongs, past}
+use Rattle.octets.specs.Octets.{blank}
+use Rattle.octets.specs.Tests.{every}
+use Rattle.octets.proofs.Tests.{and-left, and-right}
+use Rattle.runs.specs.Runs.{belongs, run}
+use Rattle.tokens.specs.Tokens.{past}
 use Rattle.tokens.proofs.Skipping.{stays}
-use Rattle.address.specs.Pieces.{run, every}
 use Rattle.address.specs.Address.{addressOctet, plain}
-use Rattle.address.proofs.Every.{and-left, and-right}
 use Rattle.address.proofs.Sides.{plain-least, plain-octets, plain-at, low-apart}
 use Rattle.list.specs.List.{address, runToken, tokenAt, firstToken, afterAddress, inFront, listedBy, listed, addresses}
 use Rattle.list.specs.Answers.{countedOf, onlyOf}
@@ -46,7 +48,7 @@ not-blank x o =
     rw (ne-eqb x 32 (λ e. omega arith), ne-eqb x 9 (λ e. omega arith))
 
 opens-none : (x : ℕ) → addressOctet x ≡ true → x ≡ 40 → ⊥
-unfolding addressOctet belongs
+unfolding belongs
 opens-none x o e = false≢true (rw e at o)
 
 run-plain : (a : List ℕ) → plain a ≡ true → runToken a ≡ address a []

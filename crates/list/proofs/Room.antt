@@ -10,12 +10,12 @@ use mathlib.Core.List.{List, [], _∷_}
 use mathlib.Core.Option.{Option, some, none}
 use native.Mathlib.Omega.{arith}
 use lib.ListN.{length, take, drop, length-take, length-drop}
+use Rattle.octets.proofs.Tests.{by-test}
+use Rattle.runs.specs.Runs.{run}
 use Rattle.tokens.specs.Tokens.{skipped, afterQuote}
 use Rattle.tokens.proofs.Places.{suffix-length}
 use Rattle.tokens.proofs.Skipping.{skipped-suffix}
-use Rattle.address.specs.Pieces.{run}
 use Rattle.address.specs.Address.{addressOctet, plain}
-use Rattle.address.proofs.Every.{by-test}
 use Rattle.list.specs.List.{openingOf, holdsAt, Token, address, other, end, unreadable, runToken, quotedToken, tokenAt, firstToken, afterAddress, after, mayEnd, inFront, listed, addresses}
 use Rattle.list.specs.declared.token.Sort.{Sort}
 use Rattle.list.specs.declared.token.Opening.{Opening}

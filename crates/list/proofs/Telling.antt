@@ -13,15 +13,15 @@ use borrow.Author.Tests.{eq-eqb, ne-eqb}
 use lib.Dec.{eqb}
 use lib.ListN.{length, getD, drop}
 use Rattle.octets.proofs.Lists.{drop-one, drop-done}
-use Rattle.tokens.specs.Tokens.{belongs}
-use Rattle.tokens.specs.declared.Class.the-variants.{Atom}
+use Rattle.runs.specs.Runs.{belongs}
+use Rattle.runs.specs.declared.Class.the-variants.{Atom}
 use Rattle.address.specs.Address.{addressOctet}
 use Rattle.list.specs.List.{markOf, openingOf, holdsAt}
 use Rattle.list.specs.declared.token.Opening.{Opening}
 use Rattle.list.specs.declared.token.Opening.the-variants.{Run, Nothing}
 
 pub in-run : (x : ℕ) (a : Bool) → a ≡ belongs Atom x → ((a || eqb x 46) || eqb x 64) ≡ addressOctet x
-unfolding addressOctet
+unfolding belongs
 in-run x a e = rw e
 
 -- what an octet opens; b is what a call answered of it

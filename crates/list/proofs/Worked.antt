@@ -6,10 +6,12 @@ use mathlib.Core.Path.{_≡_, refl}
 use mathlib.Core.List.{List, [], _∷_, _++_, map}
 use mathlib.Core.Option.{some, none}
 use lib.ListN.{replicate}
-use Rattle.octets.specs.Octets.{ascii, octet}
-use Rattle.tokens.specs.Tokens.{control, blank, kindOf, past, afterQuote, belongs}
-use Rattle.address.specs.Pieces.{every, onFirst, pieces, before, behind, run}
-use Rattle.address.specs.Address.{addressOctet, atom, localPart, labelOctet, freeEnds, label, domain, plain}
+use Rattle.octets.specs.Octets.{ascii, octet, blank}
+use Rattle.octets.specs.Tests.{every}
+use Rattle.runs.specs.Runs.{belongs, run}
+use Rattle.tokens.specs.Tokens.{control, kindOf, past, afterQuote}
+use Rattle.address.specs.Pieces.{onFirst, pieces, before, behind}
+use Rattle.address.specs.Address.{addressOctet, atom, localPart, freeEnds, label, domain, plain}
 use Rattle.list.specs.List.{openingOf, holdsAt, runToken, quotedToken, tokenAt, firstToken, afterAddress, after, inFront, listedBy, listed, addresses}
 
 abbrev Readable : String → List String → Type 0
@@ -60,5 +62,5 @@ pub worked :
     × Unread "\"c <a@b>"
     × (addresses (nested 16) ≡ some (ascii "a@b" ∷ []))
     × (addresses (nested 17) ≡ none)
-unfolding openingOf holdsAt runToken quotedToken tokenAt firstToken afterAddress after inFront listedBy listed addresses addressOctet atom localPart labelOctet freeEnds label domain plain every onFirst pieces before behind run control blank kindOf past afterQuote belongs
+unfolding openingOf holdsAt runToken quotedToken tokenAt firstToken afterAddress after inFront listedBy listed addresses belongs atom localPart freeEnds label domain plain every onFirst pieces before behind run control blank kindOf past afterQuote
 worked = (refl, refl, refl, refl, refl, refl, refl, refl, refl, refl, refl, refl, refl, refl, refl, refl, refl, refl, refl, refl, refl, refl, refl, refl, refl, refl, refl, refl, refl, refl, refl, refl, refl, refl, refl, refl, refl)

@@ -12,8 +12,8 @@ use mathlib.Core.Option.{Option, some, none}
 use lib.Dec.{eqb}
 use lib.ListN.{length, take, drop}
 use Rattle.octets.specs.Octets.{octet, sameOctets}
+use Rattle.runs.specs.Runs.{run}
 use Rattle.tokens.specs.Tokens.{skipped, afterQuote}
-use Rattle.address.specs.Pieces.{run}
 use Rattle.address.specs.Address.{addressOctet, plain, canonical}
 use Rattle.list.specs.declared.token.Sort.{Sort}
 use Rattle.list.specs.declared.token.Sort.the-variants.{Word, Less, Greater, Comma, Colon, Semicolon}

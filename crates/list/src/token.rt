@@ -1,13 +1,13 @@
 // The tokens of a list: the signs `,` `<` `>` `:` `;`, words and addresses, with spaces, tabs and comments between them.
 // A long run costs its length.
-use tokens::Class;
+use runs::Class;
 use tokens::Reached;
 ghost use Prim.Native.Nat.{_+_, _<_};
 ghost use mathlib.Core.Path.{_≡_};
 ghost use mathlib.Core.Bool.{true};
 ghost use lib.ListN.{length, getD, drop};
+ghost use Rattle.runs.specs.Runs.{run as runOf};
 ghost use Rattle.address.specs.Address.{addressOctet};
-ghost use Rattle.address.specs.Pieces.{run as runOf};
 ghost use Rattle.list.specs.List.{holdsAt, openingOf, runToken, quotedToken, tokenAt, firstToken};
 ghost use Rattle.list.specs.Answers.{foundIn, Inside};
 
@@ -41,7 +41,7 @@ pub enum Found {
 fn in_run(x: u8) -> bool
     ensures { λ r. ⌜ r ≡ addressOctet x ⌝ }
 {
-    tokens::within(Class::Atom, x) | (x == b'.') | (x == b'@')
+    runs::within(Class::Atom, x) | (x == b'.') | (x == b'@')
 }
 
 // The end of the run that begins at the place `at`.

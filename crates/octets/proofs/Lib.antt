@@ -1,7 +1,9 @@
 pub mod Tests
 pub mod Every
+pub mod Without
 pub mod Lists
 pub mod Writing
+pub mod Putting
 pub mod Letters
 pub mod Comparing
 pub mod Zeros

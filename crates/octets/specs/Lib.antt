@@ -1,5 +1,5 @@
+pub mod Tests
 pub mod Octets
 pub mod Written
 pub mod Numbers
 pub mod Finding
-pub mod Tests

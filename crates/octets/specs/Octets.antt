@@ -3,6 +3,7 @@
 --     octet        the octet of one character that is written out
 --     space .. lf  octets that have names
 --     blank        a space or a tab
+--     withoutBlanks    "spaces and tabs removed"
 --     AllOctets    each element is an octet
 --     sameOctets   the two lists are equal, as a test
 --     lower        "lower-cases ASCII letters .. and keeps all else", one octet
@@ -17,6 +18,7 @@ use mathlib.Core.Bool.{Bool, true, false, cond, _&&_, _||_}
 use mathlib.Core.List.{List, [], _∷_, map}
 use lib.Dec.{leb, eqb}
 use lib.ListN.{getD}
+use Rattle.octets.specs.Tests.{without}
 
 abbrev pub ascii : String → List ℕ
 ascii no-more = []
@@ -40,6 +42,9 @@ lf = octet "\n"
 -- "spaces and tabs"
 unfoldable pub blank : ℕ → Bool
 blank x = eqb x space || eqb x tab
+
+abbrev pub withoutBlanks : List ℕ → List ℕ
+withoutBlanks s = without blank s
 
 abbrev pub AllOctets : List ℕ → Type 0
 AllOctets s = (i : ℕ) → getD s i 0 < 256

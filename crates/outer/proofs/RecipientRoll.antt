@@ -14,7 +14,7 @@ use borrow.Author.Needs.{needs}
 use lib.ListN.{length, take, drop, length-append}
 use Rattle.octets.specs.Written.{putAt, onto}
 use Rattle.octets.proofs.Writing.{Wrote, begin, kept, counted, puts, done}
-use Rattle.address.proofs.Every.{by-test}
+use Rattle.octets.proofs.Tests.{by-test}
 use Rattle.header.specs.Header.{FieldText, isSome, fieldsOf}
 use Rattle.header.specs.Answers.{fieldsFrom}
 use Rattle.header.proofs.Total.{total, total-none, total-one, total-less, total-block}

@@ -6,11 +6,13 @@ use mathlib.Core.Path.{_≡_, refl}
 use mathlib.Core.Bool.{Bool, true, false}
 use mathlib.Core.List.{List, [], _∷_, map}
 use mathlib.Core.Option.{Option, some, none, bind}
-use Rattle.octets.specs.Octets.{ascii, lower, lowered, sameName, sameOctets}
+use Rattle.octets.specs.Octets.{ascii, lower, lowered, sameName, sameOctets, blank}
+use Rattle.octets.specs.Tests.{every}
+use Rattle.runs.specs.Runs.{belongs, run}
 use Rattle.header.specs.Header as header
-use Rattle.tokens.specs.Tokens.{control, blank, kindOf, past, afterQuote, belongs, runLength}
-use Rattle.address.specs.Pieces.{every, onFirst, pieces, before, behind, run}
-use Rattle.address.specs.Address.{addressOctet, atom, localPart, labelOctet, freeEnds, label, domain, plain, canonical}
+use Rattle.tokens.specs.Tokens.{control, kindOf, past, afterQuote}
+use Rattle.address.specs.Pieces.{onFirst, pieces, before, behind}
+use Rattle.address.specs.Address.{addressOctet, atom, localPart, freeEnds, label, domain, plain, canonical}
 use Rattle.list.specs.List.{openingOf, holdsAt, runToken, quotedToken, tokenAt, firstToken, afterAddress, after, inFront, listedBy, listed, addresses, given}
 use Rattle.list.specs.Answers.{onlyOf}
 use Rattle.calendar.specs.Calendar as calendar
@@ -34,7 +36,7 @@ senders :
     ∷ "From: a@b\nX"
     ∷ [])
     ≡ some (ascii "alice@b.org") ∷ some (ascii "a@b") ∷ none ∷ none ∷ none ∷ none ∷ none ∷ []
-unfolding header.fieldsOf header.fields header.fieldsWithin header.inFront header.unfolded header.over header.ofEnding header.opensField header.runLength header.rawLength header.belongs header.closes sameName sameOctets lowered lower openingOf holdsAt runToken quotedToken tokenAt firstToken afterAddress after inFront listedBy listed addresses addressOctet atom localPart labelOctet freeEnds label domain plain every onFirst pieces before behind run control blank kindOf past afterQuote belongs canonical onlyOf readFields fieldsIn isKind valuesOf onlyValue canonicalOf senderBy senderIn
+unfolding header.fieldsOf header.fields header.fieldsWithin header.inFront header.unfolded header.over header.ofEnding header.opensField run header.rawLength belongs header.closes sameName sameOctets lowered lower openingOf holdsAt runToken quotedToken tokenAt firstToken afterAddress after inFront listedBy listed addresses atom localPart freeEnds label domain plain every onFirst pieces before behind control blank kindOf past afterQuote canonical onlyOf readFields fieldsIn isKind valuesOf onlyValue canonicalOf senderBy senderIn
 senders = refl
 
 abbrev isReport : String → Bool
@@ -49,7 +51,7 @@ reports :
     ∷ "Subject: multipart/report"
     ∷ [])
     ≡ true ∷ true ∷ false ∷ false ∷ []
-unfolding header.fieldsOf header.fields header.fieldsWithin header.inFront header.unfolded header.over header.ofEnding header.opensField header.runLength header.rawLength header.belongs header.closes header.isReport header.opensReport header.mayFollow sameName sameOctets lowered lower readFields fieldsIn isKind valuesOf anyReport isReported
+unfolding header.fieldsOf header.fields header.fieldsWithin header.inFront header.unfolded header.over header.ofEnding header.opensField run header.rawLength belongs blank header.closes header.isReport header.opensReport header.mayFollow sameName sameOctets lowered lower readFields fieldsIn isKind valuesOf anyReport isReported
 reports = refl
 
 -- with the receipt time 100
@@ -65,10 +67,10 @@ dates :
     ∷ "Date: 1 Jan 1970 00:02 GMT"
     ∷ [])
     ≡ 60 ∷ 100 ∷ 100 ∷ 100 ∷ []
-unfolding header.fieldsOf header.fields header.fieldsWithin header.inFront header.unfolded header.over header.ofEnding header.opensField header.runLength header.rawLength header.belongs header.closes sameName sameOctets lowered lower blank past kindOf control belongs runLength bind calendar.leap calendar.leapDay calendar.monthLength calendar.yearDays calendar.monthDays calendar.dayCount words.openingOf words.further words.tokenAt words.firstToken words.onlyIf words.digitOf words.valueFrom words.numberOf words.hereOr words.placeFrom words.markOf words.dayOf words.monthOf words.yearBy words.yearOf words.twoDigits words.offsetBy words.offsetOf words.hoursWest words.eastBy words.westBy words.meant date.readOf date.andThen date.next date.optional date.existing date.calendarDay date.timeOfDay date.localTime date.zoned date.ended date.dateOf date.effectiveDate readFields fieldsIn isKind valuesOf onlyValue dateBy dateIn
+unfolding header.fieldsOf header.fields header.fieldsWithin header.inFront header.unfolded header.over header.ofEnding header.opensField run header.rawLength belongs header.closes sameName sameOctets lowered lower blank past kindOf control bind calendar.leap calendar.leapDay calendar.monthLength calendar.yearDays calendar.monthDays calendar.dayCount words.openingOf words.further words.tokenAt words.firstToken words.onlyIf words.digitOf words.valueFrom words.numberOf words.hereOr words.placeFrom words.markOf words.dayOf words.monthOf words.yearBy words.yearOf words.twoDigits words.offsetBy words.offsetOf words.hoursWest words.eastBy words.westBy words.meant date.readOf date.andThen date.next date.optional date.existing date.calendarDay date.timeOfDay date.localTime date.zoned date.ended date.dateOf date.effectiveDate readFields fieldsIn isKind valuesOf onlyValue dateBy dateIn
 dates = refl
 
 -- as they stand, in order; an unreadable list gives none, and takes none from the others
 recipients : recipientsIn (fieldsIn (ascii "Cc: C <c@D>\nTo: a@b, a@c\nBcc: x@y\nTo: b@c,\nREPLY-TO: e@f")) ≡ map ascii ("c@D" ∷ "a@b" ∷ "a@c" ∷ "e@f" ∷ [])
-unfolding header.fieldsOf header.fields header.fieldsWithin header.inFront header.unfolded header.over header.ofEnding header.opensField header.runLength header.rawLength header.belongs header.closes sameName sameOctets lowered lower openingOf holdsAt runToken quotedToken tokenAt firstToken afterAddress after inFront listedBy listed addresses given addressOctet atom localPart labelOctet freeEnds label domain plain every onFirst pieces before behind run control blank kindOf past afterQuote belongs readFields fieldsIn isKind valuesOf addressesIn recipientsIn
+unfolding header.fieldsOf header.fields header.fieldsWithin header.inFront header.unfolded header.over header.ofEnding header.opensField run header.rawLength belongs header.closes sameName sameOctets lowered lower openingOf holdsAt runToken quotedToken tokenAt firstToken afterAddress after inFront listedBy listed addresses given atom localPart freeEnds label domain plain every onFirst pieces before behind control blank kindOf past afterQuote readFields fieldsIn isKind valuesOf addressesIn recipientsIn
 recipients = refl

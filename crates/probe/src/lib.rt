@@ -161,9 +161,9 @@ pub extern "C" fn probe_quoted(s: &[u8], at: usize) -> Answer {
 #[no_mangle]
 pub extern "C" fn probe_run_end(s: &[u8], at: usize, class: u8) -> usize {
     match class {
-        0 => tokens::run_end(s, at, tokens::Class::Digit),
-        1 => tokens::run_end(s, at, tokens::Class::Letter),
-        _ => tokens::run_end(s, at, tokens::Class::Atom),
+        0 => runs::run_end(s, at, runs::Class::Digit),
+        1 => runs::run_end(s, at, runs::Class::Letter),
+        _ => runs::run_end(s, at, runs::Class::Atom),
     }
 }
 

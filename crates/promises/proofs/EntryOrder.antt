@@ -12,7 +12,7 @@ use mathlib.Core.List.{List, [], _∷_}
 use mathlib.Core.Option.{Option, some, none}
 use Rattle.octets.specs.Octets.{sameOctets}
 use Rattle.octets.proofs.Comparing.{same-true}
-use Rattle.address.proofs.Every.{by-test}
+use Rattle.octets.proofs.Tests.{by-test}
 use Rattle.slots.specs.Entry.{Direct, Entry, orElse, newcomer, GoodHalf}
 use Rattle.update.specs.Update.{updated, heard}
 use Rattle.update.proofs.Halves.{heard-again}

@@ -16,9 +16,9 @@ use native.Mathlib.Omega.{arith}
 use borrow.Author.Tests.{leb-true}
 use lib.Dec.{leb}
 use Rattle.octets.specs.Octets.{AllOctets}
+use Rattle.octets.proofs.Tests.{by-test}
 use Rattle.header.specs.Header.{FieldText, fieldsOf}
 use Rattle.header.proofs.Octetwise.{ValuesOctets}
-use Rattle.address.proofs.Every.{by-test}
 use Rattle.slots.specs.Slot.{timeLimit}
 use Rattle.table.specs.Table.{checked}
 use Rattle.table.specs.declared.Checked.{Checked}

@@ -10,7 +10,7 @@ use mathlib.Core.Bool.{true}
 use mathlib.Core.List.{List, [], _∷_, List·Memᴰ, List·Memᴰ·head, List·Memᴰ·tail, List·Permᴰ, Permᴰ·symm}
 use mathlib.Core.Option.{Option, some, none}
 use Rattle.octets.specs.Octets.{AllOctets}
-use Rattle.address.proofs.Every.{and-left, and-right}
+use Rattle.octets.proofs.Tests.{and-left, and-right}
 use Rattle.slots.specs.Entry.{Direct, Entry, GoodDirect, GoodHalf, Good}
 use Rattle.table.specs.Table.{checked}
 use Rattle.table.specs.Entries.{entryIn}

@@ -10,12 +10,14 @@ use native.Mathlib.Omega.{arith}
 use borrow.Author.Tests.{eqb-false}
 use lib.Dec.{eqb}
 use lib.ListN.{length, getD}
-use Rattle.base64.specs.Base64.{laid, lines, cr, lf, space}
-use Rattle.base64.specs.Joined.{ending, spaced, spread, Free}
-use Rattle.address.proofs.Every.{by-test}
-use Rattle.header.specs.Header.{closes, belongs, unfolded}
+use Rattle.octets.specs.Octets.{cr, lf, space, blank}
+use Rattle.octets.proofs.Tests.{by-test}
+use Rattle.runs.specs.Runs.{belongs}
+use Rattle.runs.specs.declared.Class.the-variants.{Blank}
+use Rattle.letters.specs.Alphabetic.{Free}
+use Rattle.lines.specs.Lines.{laid, lines, ending, spaced, spread}
+use Rattle.header.specs.Header.{closes, unfolded}
 use Rattle.header.specs.Blocks.{isRaw}
-use Rattle.header.specs.declared.Class.the-variants.{Blank}
 use Rattle.header.proofs.Unfolding.{NoLf, plain-octet, unfolded-in, unfolded-crlf, unfolded-plain, unfolded-before}
 use Rattle.header.proofs.InFront.{raw-lf, raw-cons, raw-text}
 
@@ -42,7 +44,7 @@ unfolding closes
 raw-break s b h = raw-cons cr (lf ∷ s) refl (raw-cons lf s (rw b) h)
 
 raw-laid : (k : ℕ) (t : List ℕ) → Free ending t → isRaw (laid k t) ≡ true
-unfolding Free laid closes belongs ending
+unfolding Free laid closes belongs blank ending
 raw-laid zero [] h = raw-cons cr (lf ∷ []) refl raw-lf
 raw-laid (suc k) [] h = raw-cons cr (lf ∷ []) refl raw-lf
 raw-laid zero (x ∷ t) h = raw-break (space ∷ x ∷ laid 75 t) refl (raw-other space refl (x ∷ laid 75 t) (raw-other x (h .0) (laid 75 t) (raw-laid 75 t (h .1))))
@@ -60,7 +62,7 @@ unfolded-laid (suc k) (x ∷ t) h = rw (unfolded-other x (h .0) (laid k t), unfo
 -- the lines of a text that is not empty, behind CR and LF
 module _ (t : List ℕ) (some-text : 0 < length t) (free : Free ending t) where
   raw-lines : isRaw (cr ∷ lf ∷ lines t) ≡ true
-  unfolding Free lines belongs ending
+  unfolding Free lines belongs blank ending
   raw-lines = go t some-text free
     where
       go : (t : List ℕ) → 0 < length t → Free ending t → isRaw (cr ∷ lf ∷ lines t) ≡ true

@@ -13,7 +13,7 @@ use mathlib.Core.Option.{Option, some, none}
 use native.Mathlib.Omega.{arith}
 use borrow.Author.Tests.{ltb-true, ltb-false}
 use lib.Dec.{ltb}
-use Rattle.address.proofs.Every.{by-test}
+use Rattle.octets.proofs.Tests.{by-test}
 use Rattle.slots.specs.Entry.{Direct, Gossip, Entry, orElse, isPresent, GoodHalf, seenBy, withDirect, withGossip}
 use Rattle.update.specs.Update.{younger, withField, updated, youngerGossip, heard}
 use Rattle.promises.proofs.Later.{later, later-stays, later-replaces, later-swap, later-holds}

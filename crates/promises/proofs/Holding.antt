@@ -9,7 +9,7 @@ use mathlib.Core.Option.{Option, some, none}
 use native.Mathlib.Omega.{arith}
 use lib.Dec.{leb}
 use lib.ListN.{length}
-use Rattle.address.proofs.Every.{by-test}
+use Rattle.octets.proofs.Tests.{by-test}
 use Rattle.header.specs.Header.{limit, FieldText, inFront, fields, fieldsOf}
 use Rattle.fields.specs.Fields.{readFields}
 use Rattle.promises.specs.RoundTrip.{inFrontAll, ReadsBack, Holding, behind}

@@ -13,19 +13,23 @@ use borrow.Author.Tests.{leb-true, eqb-false, ne-eqb, not-true}
 use lib.Dec.{leb, eqb}
 use lib.ListN.{length, getD, take, drop}
 use lib.Seq.{take-append-seam}
-use Rattle.octets.specs.Octets.{ascii, octet, AllOctets}
+use Rattle.octets.specs.Octets.{ascii, octet, AllOctets, cr, lf, blank}
 use Rattle.octets.specs.Written.{onto}
-use Rattle.base64.specs.Base64.{signOf, encode, lines, cr, lf}
-use Rattle.base64.specs.Joined.{ending, spread, Free}
-use Rattle.base64.proofs.Lengths.{length-encode}
-use Rattle.base64.proofs.RoundTrip.{encode-free, ending-other, one-other, spread-free, spread-read-back}
-use Rattle.address.specs.Pieces.{every}
+use Rattle.octets.specs.Tests.{every}
+use Rattle.octets.proofs.Tests.{and-left, and-right}
+use Rattle.octets.proofs.Every.{every-append, every-weaker}
+use Rattle.runs.specs.Runs.{belongs, runLength, run}
+use Rattle.runs.specs.declared.Class.the-variants.{Name, Blank}
+use Rattle.letters.specs.Base64.{signOf, encode}
+use Rattle.letters.specs.Alphabetic.{Free}
+use Rattle.letters.proofs.Lengths.{length-encode}
+use Rattle.letters.proofs.Alphabetic.{encode-free, one-other}
+use Rattle.lines.specs.Lines.{lines, ending, spread}
+use Rattle.lines.proofs.Joined.{ending-other, spread-free, spread-read-back}
 use Rattle.address.specs.Address.{plain, canonical, addressOctet}
-use Rattle.address.proofs.Every.{and-left, and-right, every-append, every-weaker}
 use Rattle.address.proofs.Sides.{plain-octets, low-apart}
 use Rattle.address.proofs.Spelling.{canonical-twice, plain-canonical}
-use Rattle.header.specs.Header.{over, belongs, runLength, inFront, fields}
-use Rattle.header.specs.declared.Class.the-variants.{Name, Blank}
+use Rattle.header.specs.Header.{over, inFront, fields}
 use Rattle.header.proofs.Unfolding.{NoLf}
 use Rattle.header.proofs.Fields.{fields-over}
 use Rattle.header.proofs.InFront.{field-in-front}
@@ -60,7 +64,7 @@ address-no-lf a p = every-weaker addressOctet (other lf) apart a (plain-octets a
 
 -- alone they are the only field
 pub reads-alone : (name address key octets : List ℕ) (m : Bool) (r : ReadsBack name address key m octets) → fields octets ≡ some (r .found ∷ [])
-unfolding inFrontAll inFront belongs over
+unfolding inFrontAll inFront belongs blank over
 reads-alone name address key octets m r =
     let e : fields (octets ++ []) ≡ inFront (r .found) (fields []) = r .among [] [] no-lines [] refl in
     ap fields (sym (append-nil octets)) ∙ e ∙ rw (fields-over [] refl)
@@ -148,14 +152,14 @@ module _ (address key field out : List ℕ) (octets : AllOctets key) (n : ℕ) (
 module _ (address key out : List ℕ) (octets : AllOctets key) (n : ℕ) where
   pub autocrypt-reads-back : (m : Bool) → Done n ≡ writtenOf address key (autocryptField address m key) (length out)
       → ReadsBack (ascii "Autocrypt") address key m (take n (leftByWriting address key (autocryptField address m key) out))
-  unfolding autocryptField runLength belongs
+  unfolding autocryptField run belongs blank
   autocrypt-reads-back m done =
       rw (output-opens address key (autocryptField address m key) out octets n done)
       (written-reads-back address key m (done-writable address key (autocryptField address m key) out octets n done) (ascii "Autocrypt") refl (omega arith))
 
   pub gossip-reads-back : Done n ≡ writtenOf address key (gossipField address key) (length out)
       → ReadsBack (ascii "Autocrypt-Gossip") address key false (take n (leftByWriting address key (gossipField address key) out))
-  unfolding gossipField runLength belongs
+  unfolding gossipField run belongs blank
   gossip-reads-back done =
       rw (output-opens address key (gossipField address key) out octets n done)
       (written-reads-back address key false (done-writable address key (gossipField address key) out octets n done) (ascii "Autocrypt-Gossip") refl (omega arith))

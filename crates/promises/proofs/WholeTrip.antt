@@ -11,9 +11,10 @@ use mathlib.Core.List.{List, [], _∷_, _++_}
 use mathlib.Core.Option.{Option, some}
 use native.Mathlib.Omega.{arith}
 use lib.ListN.{length, take}
-use Rattle.octets.specs.Octets.{ascii, lower, lowered, sameName, sameOctets, AllOctets}
+use Rattle.octets.specs.Octets.{ascii, lower, lowered, sameName, sameOctets, AllOctets, blank}
+use Rattle.runs.specs.Runs.{belongs, run}
 use Rattle.address.specs.Address.{canonical}
-use Rattle.header.specs.Header.{runLength, belongs, FieldText, fieldsOf}
+use Rattle.header.specs.Header.{FieldText, fieldsOf}
 use Rattle.list.specs.List.{among}
 use Rattle.keyfield.specs.Field.{Field, validFor, validFields}
 use Rattle.keyfield.proofs.Counted.{naming-sender, valid-append, valid-next, counted-one}
@@ -182,13 +183,13 @@ module _ (t : List ℕ) (receipt : ℕ) (outer payload : List ℕ) (setting : Go
   pub autocrypt-processed : (a k : List ℕ) (m : Bool) → Writable a k → (h : Holding outer (autocryptField a m k))
       → senderIn (fieldsIn outer) ≡ some (canonical a) → validFields (canonical a) (valuesOf Autocrypt (others h)) ≡ []
       → HasDirect (entryIn t (canonical a)) (canonical a) (record { timestamp = date; key = k; «mutual» = m }) (entryIn left (canonical a))
-  unfolding autocryptField runLength belongs
+  unfolding autocryptField run belongs blank
   autocrypt-processed a k m w h = direct-read a k (autocryptField a m k) m (written-reads-back a k m w (ascii "Autocrypt") refl (omega arith)) h
 
   pub gossip-processed : (b k : List ℕ) → Writable b k → (h : Holding payload (gossipField b k)) → taken setting ≡ true
       → among (canonical b) (recipientsIn (fieldsIn outer)) ≡ true → noneAbout (canonical b) (gossipIn (recipientsIn (fieldsIn outer)) (behind h)) ≡ true
       → HasGossip (entryIn t (canonical b)) (canonical b) (record { timestamp = date; key = k }) (entryIn left (canonical b))
-  unfolding gossipField runLength belongs
+  unfolding gossipField run belongs blank
   gossip-processed b k w h = gossip-read b k (gossipField b k) false (written-reads-back b k false w (ascii "Autocrypt-Gossip") refl (omega arith)) h
 
   -- what a writer that answers 0 leaves in front of the output

@@ -18,11 +18,13 @@ use borrow.Author.Tests.{le-leb}
 use lib.Dec.{leb}
 use lib.ListN.{length}
 use Rattle.octets.specs.Octets as octets
-use Rattle.octets.specs.Octets.{ascii, AllOctets}
+use Rattle.octets.specs.Octets.{ascii, AllOctets, blank}
 use Rattle.octets.specs.Numbers.{number}
 use Rattle.octets.proofs.Joined.{replicate-octets}
+use Rattle.octets.specs.Tests as tests
+use Rattle.runs.specs.Runs as runs
 use Rattle.tokens.specs.Tokens as tokens
-use Rattle.base64.specs.Base64 as base64
+use Rattle.letters.specs.Base64 as base64
 use Rattle.header.specs.Header as header
 use Rattle.address.specs.Pieces as pieces
 use Rattle.address.specs.Address as address
@@ -87,7 +89,7 @@ abbrev read : Call → Brought
 read c = broughtBy (c .receipt) (c .outer) (c .payload) (c .setting)
 
 reads : (read older ≡ brings (bringing "foo" 1000)) × (read younger ≡ brings (bringing "bar" 2000))
-unfolding broughtBy processing.withOuter processing.withSender processing.withPayload processing.payloadFields processing.taken delivery.messageBy delivery.directBy bind octets.lower octets.lowered octets.sameName octets.sameOctets octets.startsWith tokens.blank tokens.past tokens.kindOf tokens.control tokens.belongs tokens.runLength tokens.afterQuote base64.decode base64.follow base64.before base64.atEnd base64.grouped base64.closed base64.signOf base64.without base64.blank header.fieldsOf header.fields header.fieldsWithin header.inFront header.unfolded header.over header.ofEnding header.opensField header.runLength header.rawLength header.belongs header.closes header.isReport pieces.every pieces.onFirst pieces.pieces pieces.before pieces.behind pieces.run address.addressOctet address.atom address.localPart address.labelOctet address.freeEnds address.label address.domain address.plain address.canonical list.openingOf list.holdsAt list.runToken list.quotedToken list.tokenAt list.firstToken list.afterAddress list.after list.inFront list.listedBy list.listed list.addresses answered.onlyOf date.effectiveDate keyfield.trimmedFront keyfield.trimmedBack keyfield.trimmed keyfield.nameOf keyfield.attribute keyfield.holds keyfield.attributeOf keyfield.withAddress keyfield.withPreference keyfield.step keyfield.saidWith keyfield.ifLast keyfield.saidFrom keyfield.saidOf keyfield.limited keyfield.keyOf keyfield.withKey keyfield.fieldBy keyfield.fieldOf keyfield.naming keyfield.validFields keyfield.onlyOne keyfield.counted fields.readFields fields.fieldsIn fields.isKind fields.valuesOf fields.onlyValue outer-specs.canonicalOf outer-specs.senderBy outer-specs.senderIn outer-specs.anyReport outer-specs.isReported outer-specs.dateBy outer-specs.dateIn keys.countedIn keys.accepted keys.gossipIn
+unfolding broughtBy processing.withOuter processing.withSender processing.withPayload processing.payloadFields processing.taken delivery.messageBy delivery.directBy bind octets.lower octets.lowered octets.sameName octets.sameOctets octets.startsWith blank tokens.past tokens.kindOf tokens.control runs.belongs runs.run tokens.afterQuote base64.decode base64.follow base64.before base64.atEnd base64.grouped base64.closed base64.signOf tests.without header.fieldsOf header.fields header.fieldsWithin header.inFront header.unfolded header.over header.ofEnding header.opensField header.rawLength header.closes header.isReport tests.every pieces.onFirst pieces.pieces pieces.before pieces.behind address.atom address.localPart address.freeEnds address.label address.domain address.plain address.canonical list.openingOf list.holdsAt list.runToken list.quotedToken list.tokenAt list.firstToken list.afterAddress list.after list.inFront list.listedBy list.listed list.addresses answered.onlyOf date.effectiveDate keyfield.trimmedFront keyfield.trimmedBack keyfield.trimmed keyfield.nameOf keyfield.attribute keyfield.holds keyfield.attributeOf keyfield.withAddress keyfield.withPreference keyfield.step keyfield.saidWith keyfield.ifLast keyfield.saidFrom keyfield.saidOf keyfield.limited keyfield.keyOf keyfield.withKey keyfield.fieldBy keyfield.fieldOf keyfield.naming keyfield.validFields keyfield.onlyOne keyfield.counted fields.readFields fields.fieldsIn fields.isKind fields.valuesOf fields.onlyValue outer-specs.canonicalOf outer-specs.senderBy outer-specs.senderIn outer-specs.anyReport outer-specs.isReported outer-specs.dateBy outer-specs.dateIn keys.countedIn keys.accepted keys.gossipIn
 reads = (refl, refl)
 
 free-octets : AllOctets free
@@ -177,11 +179,11 @@ module _ (c : Call) (o : OctetCall c) (key : String) (at : ℕ) (e : read c ≡ 
 
 -- the two mails
 older-octets : OctetCall older
-unfolding pieces.every
+unfolding tests.every
 older-octets = record { outer = tested (older .outer) refl; payload = tested [] refl }
 
 younger-octets : OctetCall younger
-unfolding pieces.every
+unfolding tests.every
 younger-octets = record { outer = tested (younger .outer) refl; payload = tested [] refl }
 
 older-first : answers free (older ∷ younger ∷ []) ≡ Done ∷ Done ∷ []
@@ -239,7 +241,7 @@ either-order =
     both-agree
 
 pub younger-stands : targetKeyOf (tableAfter free (older ∷ younger ∷ [])) ann 0 ≡ ascii "bar"
-unfolding advice.targetIn advice.targetOf advice.targetBy advice.directOf advice.gossipOf entryAfter brought.entryHeard brought.entryPut update.updated update.younger update.withField newcomer seenBy withDirect octets.sameOctets octets.lowered octets.lower address.canonical address.plain address.localPart address.atom address.domain address.label address.labelOctet address.freeEnds pieces.every pieces.onFirst pieces.pieces pieces.before pieces.behind tokens.belongs
+unfolding advice.targetIn advice.targetOf advice.targetBy advice.directOf advice.gossipOf entryAfter brought.entryHeard brought.entryPut update.updated update.younger update.withField newcomer seenBy withDirect octets.sameOctets octets.lowered octets.lower address.canonical address.plain address.localPart address.atom address.domain address.label address.freeEnds tests.every pieces.onFirst pieces.pieces pieces.before pieces.behind runs.belongs blank
 younger-stands =
     alone-taken (tableAfter free both) ann (both-sound older older-octets "foo" 1000 (reads .0) younger younger-octets "bar" 2000 (reads .1)) refl
     ∙ ap advice.targetOf (both-entry older older-octets "foo" 1000 (reads .0) younger younger-octets "bar" 2000 (reads .1))

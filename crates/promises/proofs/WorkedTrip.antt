@@ -12,17 +12,19 @@ use borrow.Author.Tests.{leb-true}
 use lib.Dec.{leb}
 use lib.ListN.{replicate}
 use Rattle.octets.specs.Octets as octets
-use Rattle.octets.specs.Octets.{ascii, AllOctets}
+use Rattle.octets.specs.Octets.{ascii, AllOctets, blank}
 use Rattle.octets.specs.Numbers.{number}
 use Rattle.octets.proofs.Joined.{replicate-octets}
+use Rattle.octets.specs.Tests.{every}
+use Rattle.octets.proofs.Tests.{and-left, and-right}
+use Rattle.runs.specs.Runs as runs
 use Rattle.tokens.specs.Tokens as tokens
-use Rattle.base64.specs.Base64 as base64
+use Rattle.letters.specs.Base64 as base64
+use Rattle.lines.specs.Lines as lines
 use Rattle.header.specs.Header as header
 use Rattle.header.specs.Blocks.{isRaw}
 use Rattle.address.specs.Pieces as pieces
-use Rattle.address.specs.Pieces.{every}
 use Rattle.address.specs.Address as address
-use Rattle.address.proofs.Every.{and-left, and-right}
 use Rattle.list.specs.List as list
 use Rattle.list.specs.Answers as answers
 use Rattle.date.specs.Date as date
@@ -51,7 +53,7 @@ use Rattle.promises.proofs.HandedOut.{key-handed-out}
 
 -- octets that a test finds to be octets
 pub tested : (s : List ℕ) → every (λ x. leb x 255) s ≡ true → AllOctets s
-unfolding pieces.every
+unfolding every
 tested [] e i = omega arith
 tested (x ∷ s) e zero = let l = leb-true x 255 (and-left (leb x 255) (every (λ y. leb y 255) s) e) in omega arith
 tested (x ∷ s) e (suc i) = tested s (and-right (leb x 255) (every (λ y. leb y 255) s) e) i
@@ -69,11 +71,11 @@ abbrev outer : List ℕ
 outer = ascii "From: A@B.example\r\nAutocrypt: addr=a@b.example; prefer-encrypt=mutual; keydata=\r\n Zm9v\r\n"
 
 writable : Writable address-given (ascii "foo")
-unfolding address.plain address.localPart address.atom address.domain address.label address.labelOctet address.freeEnds pieces.every pieces.onFirst pieces.pieces pieces.before pieces.behind tokens.belongs
+unfolding address.plain address.localPart address.atom address.domain address.label address.freeEnds every pieces.onFirst pieces.pieces pieces.before pieces.behind runs.belongs blank
 writable = record { plainly = refl; octets = tested (ascii "foo") refl; limit = refl }
 
 holding : Holding outer (autocryptField address-given true (ascii "foo"))
-unfolding autocryptField writer.written writer.fieldText writer.preference address.canonical octets.lowered octets.lower base64.encode base64.letter base64.lines base64.laid header.belongs header.runLength header.closes header.ofEnding header.unfolded isRaw
+unfolding autocryptField writer.written writer.fieldText writer.preference address.canonical octets.lowered octets.lower base64.encode base64.letter lines.lines lines.laid runs.belongs blank runs.run header.closes header.ofEnding header.unfolded isRaw
 holding =
     record {
       front = front;
@@ -85,7 +87,7 @@ holding =
     }
 
 readied : Readied free 1000 outer [] Unset (fields.fieldsIn outer) (ascii "a@b.example") []
-unfolding table.checked table.whole table.slots table.judged table.right table.slotAt slots.free octets.allZero octets.sameOctets octets.sameName octets.lowered octets.lower header.fieldsOf header.fields header.fieldsWithin header.inFront header.unfolded header.over header.ofEnding header.opensField header.runLength header.rawLength header.belongs header.closes header.isReport list.openingOf list.holdsAt list.runToken list.quotedToken list.tokenAt list.firstToken list.afterAddress list.after list.inFront list.listedBy list.listed list.addresses answers.onlyOf address.addressOctet address.plain address.localPart address.atom address.domain address.label address.labelOctet address.freeEnds address.canonical pieces.every pieces.onFirst pieces.pieces pieces.before pieces.behind pieces.run tokens.blank tokens.past tokens.kindOf tokens.control tokens.belongs tokens.afterQuote fields.readFields fields.fieldsIn fields.isKind fields.valuesOf fields.onlyValue outer-specs.canonicalOf outer-specs.senderBy outer-specs.senderIn outer-specs.anyReport outer-specs.isReported payloadFields taken
+unfolding table.checked table.whole table.slots table.judged table.right table.slotAt slots.free octets.allZero octets.sameOctets octets.sameName octets.lowered octets.lower header.fieldsOf header.fields header.fieldsWithin header.inFront header.unfolded header.over header.ofEnding header.opensField runs.run header.rawLength runs.belongs header.closes header.isReport list.openingOf list.holdsAt list.runToken list.quotedToken list.tokenAt list.firstToken list.afterAddress list.after list.inFront list.listedBy list.listed list.addresses answers.onlyOf address.plain address.localPart address.atom address.domain address.label address.freeEnds address.canonical every pieces.onFirst pieces.pieces pieces.before pieces.behind blank tokens.past tokens.kindOf tokens.control tokens.afterQuote fields.readFields fields.fieldsIn fields.isKind fields.valuesOf fields.onlyValue outer-specs.canonicalOf outer-specs.senderBy outer-specs.senderIn outer-specs.anyReport outer-specs.isReported payloadFields taken
 readied =
     record {
       sent = record { opened = record { in-time = record { sound = table-sound free refl; in-range = omega arith }; read = refl }; sent = refl };
@@ -102,12 +104,12 @@ done = ap (λ (o : Outcome). o .answer) (done-outcome free 1000 outer [] Unset (
 
 foo-is-there : directHalf (entryIn (processed free 1000 outer [] Unset .table) (ascii "a@b.example"))
     ≡ some (record { timestamp = 1000; key = ascii "foo"; «mutual» = true })
-unfolding holding others behind directHalf entryIn update.younger table.found table.lowest table.holds table.slots table.slotAt slots.marked slots.addressOf number octets.sameOctets octets.sameName octets.lowered octets.lower header.fieldsOf header.fields header.fieldsWithin header.inFront header.unfolded header.over header.ofEnding header.opensField header.runLength header.rawLength header.belongs header.closes list.openingOf list.holdsAt list.runToken list.quotedToken list.tokenAt list.firstToken list.afterAddress list.after list.inFront list.listedBy list.listed list.addresses answers.onlyOf address.addressOctet address.plain address.localPart address.atom address.domain address.label address.labelOctet address.freeEnds address.canonical pieces.every pieces.onFirst pieces.pieces pieces.before pieces.behind pieces.run tokens.blank tokens.past tokens.kindOf tokens.control tokens.belongs tokens.afterQuote date.effectiveDate keyfield.validFields fields.readFields fields.fieldsIn fields.isKind fields.valuesOf fields.onlyValue outer-specs.canonicalOf outer-specs.senderBy outer-specs.senderIn outer-specs.dateBy outer-specs.dateIn
+unfolding holding others behind directHalf entryIn update.younger table.found table.lowest table.holds table.slots table.slotAt slots.marked slots.addressOf number octets.sameOctets octets.sameName octets.lowered octets.lower header.fieldsOf header.fields header.fieldsWithin header.inFront header.unfolded header.over header.ofEnding header.opensField runs.run header.rawLength runs.belongs header.closes list.openingOf list.holdsAt list.runToken list.quotedToken list.tokenAt list.firstToken list.afterAddress list.after list.inFront list.listedBy list.listed list.addresses answers.onlyOf address.plain address.localPart address.atom address.domain address.label address.freeEnds address.canonical every pieces.onFirst pieces.pieces pieces.before pieces.behind blank tokens.past tokens.kindOf tokens.control tokens.afterQuote date.effectiveDate keyfield.validFields fields.readFields fields.fieldsIn fields.isKind fields.valuesOf fields.onlyValue outer-specs.canonicalOf outer-specs.senderBy outer-specs.senderIn outer-specs.dateBy outer-specs.dateIn
 foo-is-there =
     let h = autocrypt-processed free 1000 outer [] Unset (replicate-octets 4392 0 (omega arith)) (tested outer refl) (tested [] refl) done address-given (ascii "foo") true writable holding refl refl in
     ap directHalf (h .there) ∙ h .set refl
 
 foo-is-handed-out : targetKeyOf (processed free 1000 outer [] Unset .table) address-given 0 ≡ ascii "foo"
-unfolding holding others behind directHalf entryIn update.younger table.found table.lowest table.holds table.slots table.slotAt slots.marked slots.addressOf number octets.sameOctets octets.sameName octets.lowered octets.lower header.fieldsOf header.fields header.fieldsWithin header.inFront header.unfolded header.over header.ofEnding header.opensField header.runLength header.rawLength header.belongs header.closes list.openingOf list.holdsAt list.runToken list.quotedToken list.tokenAt list.firstToken list.afterAddress list.after list.inFront list.listedBy list.listed list.addresses answers.onlyOf address.addressOctet address.plain address.localPart address.atom address.domain address.label address.labelOctet address.freeEnds address.canonical pieces.every pieces.onFirst pieces.pieces pieces.before pieces.behind pieces.run tokens.blank tokens.past tokens.kindOf tokens.control tokens.belongs tokens.afterQuote date.effectiveDate keyfield.validFields fields.readFields fields.fieldsIn fields.isKind fields.valuesOf fields.onlyValue outer-specs.canonicalOf outer-specs.senderBy outer-specs.senderIn outer-specs.dateBy outer-specs.dateIn
+unfolding holding others behind directHalf entryIn update.younger table.found table.lowest table.holds table.slots table.slotAt slots.marked slots.addressOf number octets.sameOctets octets.sameName octets.lowered octets.lower header.fieldsOf header.fields header.fieldsWithin header.inFront header.unfolded header.over header.ofEnding header.opensField runs.run header.rawLength runs.belongs header.closes list.openingOf list.holdsAt list.runToken list.quotedToken list.tokenAt list.firstToken list.afterAddress list.after list.inFront list.listedBy list.listed list.addresses answers.onlyOf address.plain address.localPart address.atom address.domain address.label address.freeEnds address.canonical every pieces.onFirst pieces.pieces pieces.before pieces.behind blank tokens.past tokens.kindOf tokens.control tokens.afterQuote date.effectiveDate keyfield.validFields fields.readFields fields.fieldsIn fields.isKind fields.valuesOf fields.onlyValue outer-specs.canonicalOf outer-specs.senderBy outer-specs.senderIn outer-specs.dateBy outer-specs.dateIn
 foo-is-handed-out =
     key-handed-out free 1000 outer [] Unset (replicate-octets 4392 0 (omega arith)) (tested outer refl) (tested [] refl) done address-given (ascii "foo") true writable holding refl refl refl

@@ -12,10 +12,12 @@ use mathlib.Core.List.{List, [], _∷_, _++_}
 use mathlib.Core.Option.{Option, some}
 use lib.ListN.{length, getD}
 use Rattle.octets.specs.Octets.{octet, AllOctets}
-use Rattle.header.specs.Header.{belongs, runLength, unfolded, FieldText, inFront, fields}
+use Rattle.octets.specs.Tests.{oneTo}
+use Rattle.runs.specs.Runs.{belongs, runLength}
+use Rattle.runs.specs.declared.Class.the-variants.{Name, Blank}
+use Rattle.header.specs.Header.{unfolded, FieldText, inFront, fields}
 use Rattle.header.specs.Blocks.{isRaw}
-use Rattle.header.specs.declared.Class.the-variants.{Name, Blank}
-use Rattle.address.specs.Address.{oneTo, plain, canonical}
+use Rattle.address.specs.Address.{plain, canonical}
 use Rattle.keyfield.specs.Field.{keyLimit, fieldOf}
 use Rattle.fields.specs.Fields.{readFields}
 

@@ -9,7 +9,7 @@ use mathlib.Core.Bool.{Bool, true, false, not}
 use mathlib.Core.List.{List}
 use mathlib.Core.Option.{Option, some, none}
 use Rattle.octets.specs.Octets.{sameOctets}
-use Rattle.address.specs.Pieces.{every}
+use Rattle.octets.specs.Tests.{every}
 use Rattle.slots.specs.Entry.{Direct, Gossip, Entry}
 use Rattle.update.specs.Update.{younger, youngerGossip}
 use Rattle.update.specs.Message.{Gossiped, gossipAddresses}

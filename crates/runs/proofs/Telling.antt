@@ -11,9 +11,9 @@ use borrow.Author.Needs.{needs}
 use borrow.Author.Tests.{le-leb, lt-leb}
 use lib.Dec.{leb, eqb}
 use Rattle.octets.proofs.Tests.{same-bool, all-below}
-use Rattle.runs.specs.Runs.{digit, atomic, belongs}
+use Rattle.runs.specs.Runs.{digit, belongs}
 use Rattle.runs.specs.declared.Class.{Class}
-use Rattle.runs.specs.declared.Class.the-variants.{Label, Address}
+use Rattle.runs.specs.declared.Class.the-variants.{Atom, Label, Address}
 
 -- the octets of atoms as the code tests for them: those from "-" to "@", those below, and all
 abbrev middle : ℕ → Bool
@@ -26,23 +26,23 @@ abbrev ranges : ℕ → Bool
 ranges x = cond (leb 94 x) (not (eqb x 127)) (cond (leb 65 x) (leb x 90) (cond (leb 45 x) (middle x) (lowest x)))
 
 alike : ℕ → Bool
-alike x = Bool·beq (ranges x) (atomic x)
+alike x = Bool·beq (ranges x) (belongs Atom x)
 
 module _ (x : ℕ) (h : x < 256) where
-  atom-ranges : ranges x ≡ atomic x
-  unfolding alike atomic
-  atom-ranges = same-bool (ranges x) (atomic x) (all-below alike 256 refl x h)
+  atom-ranges : ranges x ≡ belongs Atom x
+  unfolding alike belongs
+  atom-ranges = same-bool (ranges x) (belongs Atom x) (all-below alike 256 refl x h)
 
-  pub atom-high : 94 ≤ x → not (eqb x 127) ≡ atomic x
+  pub atom-high : 94 ≤ x → not (eqb x 127) ≡ belongs Atom x
   atom-high l = rw (le-leb 94 x l) at atom-ranges
 
-  pub atom-capital : x < 94 → 65 ≤ x → leb x 90 ≡ atomic x
+  pub atom-capital : x < 94 → 65 ≤ x → leb x 90 ≡ belongs Atom x
   atom-capital l k = rw (lt-leb 94 x l, le-leb 65 x k) at atom-ranges
 
-  pub atom-middle : x < 94 → x < 65 → 45 ≤ x → middle x ≡ atomic x
+  pub atom-middle : x < 94 → x < 65 → 45 ≤ x → middle x ≡ belongs Atom x
   atom-middle l k m = rw (lt-leb 94 x l, lt-leb 65 x k, le-leb 45 x m) at atom-ranges
 
-  pub atom-low : x < 94 → x < 65 → x < 45 → lowest x ≡ atomic x
+  pub atom-low : x < 94 → x < 65 → x < 45 → lowest x ≡ belongs Atom x
   atom-low l k m = rw (lt-leb 94 x l, lt-leb 65 x k, lt-leb 45 x m) at atom-ranges
 
 module _ (x : ℕ) where
@@ -54,7 +54,7 @@ module _ (x : ℕ) where
   unfolding belongs
   label-other d e q = rw (q, e, or-false)
 
-  pub in-address : (a : Bool) → a ≡ atomic x → ((a || eqb x 46) || eqb x 64) ≡ belongs Address x
+  pub in-address : (a : Bool) → a ≡ belongs Atom x → ((a || eqb x 46) || eqb x 64) ≡ belongs Address x
   unfolding belongs
   in-address a e = rw e
 

@@ -26,7 +26,7 @@ among [] x = false
 among (y ∷ s) x = eqb x y || among s x
 
 -- "Octets of 128 and above may stand in atoms"
-unfoldable pub atomic : ℕ → Bool
+abbrev pub atomic : ℕ → Bool
 atomic x = letter x || digit x || among signs x || leb 128 x
 
 -- Blanks are "spaces and tabs", a name is of "octets 33 to 126 without colon", a label of "ASCII letters, digits and hyphens". Atoms, dots

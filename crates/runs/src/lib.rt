@@ -3,7 +3,7 @@
 ghost use Prim.Native.Nat.{_+_};
 ghost use mathlib.Core.Path.{_≡_};
 ghost use lib.ListN.{drop};
-ghost use Rattle.runs.specs.Runs.{digit as digitOf, letter as letterOf, atomic, belongs, runLength};
+ghost use Rattle.runs.specs.Runs.{digit as digitOf, letter as letterOf, belongs, runLength};
 
 // The classes of octets that make runs: spaces and tabs; what a field's name is made of; digits; letters; what atoms are
 // made of, what labels, and what whole addresses.
@@ -38,7 +38,7 @@ fn letter(x: u8) -> bool
 // Letters, digits, the signs ! # $ % & ' * + - / = ? ^ _ ` { | } ~ and the octets of 128 and above, as ranges. Small letters,
 // the most of what stands in atoms, are known by the first of them.
 fn atom(x: u8) -> bool
-    ensures { λ r. ⌜ r ≡ atomic x ⌝ }
+    ensures { λ r. ⌜ r ≡ belongs Class.Atom x ⌝ }
 {
     if b'^' <= x {
         return x != 127;

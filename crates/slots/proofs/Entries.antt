@@ -20,8 +20,8 @@ use Rattle.octets.specs.Written.{putAt}
 use Rattle.octets.proofs.Lists.{drop-one, given-octets, take-octets, drop-octets}
 use Rattle.octets.proofs.Numerals.{digits-number}
 use Rattle.octets.proofs.Zeros.{zero-true}
+use Rattle.octets.proofs.Tests.{and-left, by-test}
 use Rattle.address.specs.Address.{plain, canonical, isCanonical}
-use Rattle.address.proofs.Every.{and-left, by-test}
 use Rattle.address.proofs.Sides.{plain-most}
 use Rattle.slots.specs.declared.Slot.{Slot}
 use Rattle.slots.specs.Slot.{slotLength, addressRoom, keyLimit, part, odd, addressLength, bits, hasLastSeen, hasDirect, hasGossip, isMutual, lastSeen, timestamp, gossipTimestamp, directLength, gossipLength, addressArea, directArea, gossipArea, addressOf, directKeyOf, gossipKeyOf, numbersOf, sound}

@@ -21,8 +21,9 @@ use Rattle.octets.proofs.Comparing.{same-refl}
 use Rattle.octets.proofs.Joined.{more-octets, append-octets, replicate-octets, digits-octets}
 use Rattle.octets.proofs.Numerals.{number-digits}
 use Rattle.octets.proofs.Zeros.{zero-replicate}
+use Rattle.octets.specs.Tests.{oneTo}
 use Rattle.slots.specs.declared.Slot.{Slot}
-use Rattle.slots.specs.Slot.{slotLength, addressRoom, keyLimit, timeLimit, mark, part, odd, oneTo, addressLength, bits, lastSeen, timestamp, directLength, gossipLength, addressArea, directArea, gossipArea, addressOf, directKeyOf, gossipKeyOf, numbersOf, marked, canonicalAddress, clear, inRange, lengthsInRange, absentZero, zeroPast, mutualDirect, directSeen, sound}
+use Rattle.slots.specs.Slot.{slotLength, addressRoom, keyLimit, timeLimit, mark, part, odd, addressLength, bits, lastSeen, timestamp, directLength, gossipLength, addressArea, directArea, gossipArea, addressOf, directKeyOf, gossipKeyOf, numbersOf, marked, canonicalAddress, clear, inRange, lengthsInRange, absentZero, zeroPast, mutualDirect, directSeen, sound}
 use Rattle.slots.specs.Entry.{Direct, Gossip, Entry, present, orElse, isPresent, noDirect, noGossip, entryOf, numbersFor, bitsOf, opening, times, lengths, head, padded, areas, slotOf, GoodKey, GoodDirect, GoodGossip, GoodHalf, Good}
 use Rattle.slots.proofs.Parts.{drop-past}
 use Rattle.slots.proofs.Heads.{length-head, length-padded}

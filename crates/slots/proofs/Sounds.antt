@@ -13,10 +13,11 @@ use lib.Dec.{leb, ltb, eqb}
 use lib.ListN.{drop}
 use Rattle.octets.specs.Octets.{allZero}
 use Rattle.octets.proofs.Comparing.{same-true}
-use Rattle.address.proofs.Every.{and-left, and-right}
+use Rattle.octets.proofs.Tests.{and-left, and-right}
+use Rattle.octets.specs.Tests.{oneTo}
 use Rattle.slots.specs.declared.Slot.{Slot}
 use Rattle.slots.specs.Facts.{Sound}
-use Rattle.slots.specs.Slot.{keyLimit, timeLimit, mark, part, oneTo, addressLength, bits, hasLastSeen, hasDirect, hasGossip, isMutual, lastSeen, timestamp, gossipTimestamp, directLength, gossipLength, addressArea, directArea, gossipArea, numbersOf, free, marked, canonicalAddress, clear, inRange, lengthsInRange, absentZero, zeroPast, mutualDirect, directSeen, sound}
+use Rattle.slots.specs.Slot.{keyLimit, timeLimit, mark, part, addressLength, bits, hasLastSeen, hasDirect, hasGossip, isMutual, lastSeen, timestamp, gossipTimestamp, directLength, gossipLength, addressArea, directArea, gossipArea, numbersOf, free, marked, canonicalAddress, clear, inRange, lengthsInRange, absentZero, zeroPast, mutualDirect, directSeen, sound}
 
 -- tests joined by "and", "or" and "implies"
 pub all-three : (a b c : Bool) → (a && b && c) ≡ true → (a ≡ true) × (b ≡ true) × (c ≡ true)

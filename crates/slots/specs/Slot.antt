@@ -14,6 +14,7 @@ use lib.Dec.{leb, ltb, eqb}
 use lib.ListN.{getD, take, drop}
 use Rattle.octets.specs.Octets.{ascii, sameOctets, allZero}
 use Rattle.octets.specs.Numbers.{number}
+use Rattle.octets.specs.Tests.{oneTo}
 use Rattle.address.specs.Address.{isCanonical}
 use Rattle.slots.specs.declared.Slot.{Slot}
 
@@ -164,10 +165,6 @@ clear s = ltb (bits s) 16 && allZero (part 5 7 s) && allZero (part 36 39 s)
 -- "times are in range"
 abbrev pub inRange : Slot → Bool
 inRange n = leb (n .«last_seen») timeLimit && leb (n .timestamp) timeLimit && leb (n .«gossip_timestamp») timeLimit
-
--- "1 to .."
-abbrev pub oneTo : ℕ → ℕ → Bool
-oneTo most n = leb 1 n && leb n most
 
 -- "key lengths are 1 to 2,048 where the bit is set"
 abbrev pub lengthsInRange : Slot → Bool

@@ -20,7 +20,7 @@ use lib.Dec.{eqb}
 use lib.ListN.{length, getD, set, drop, length-set}
 use lib.Seq.{getD-set-same, getD-set-other}
 use Rattle.octets.proofs.Lists.{lt-or-le, drop-one, drop-done}
-use Rattle.address.proofs.Every.{by-test}
+use Rattle.octets.proofs.Tests.{by-test}
 use Rattle.slots.specs.Slot.{addressOf}
 use Rattle.table.specs.Table.{slotAt, holds, isAt, inLower}
 use Rattle.table.specs.Digests.{withOctet, digestAfter, digestOf, among, Digests}

@@ -13,7 +13,7 @@ use borrow.Author.Tests.{not-true}
 use Rattle.octets.specs.Octets.{sameOctets}
 use Rattle.octets.proofs.Comparing.{same-true}
 use Rattle.octets.proofs.Lists.{lt-or-le}
-use Rattle.address.proofs.Every.{and-left, and-right, by-test}
+use Rattle.octets.proofs.Tests.{and-left, and-right, by-test}
 use Rattle.slots.specs.Slot.{marked, addressOf}
 use Rattle.table.specs.Table.{slots, slotAt, unused, holds, lowest, found, lowestFree}
 use Rattle.table.specs.declared.Found.the-variants.{At, Nothing}

@@ -17,7 +17,7 @@ use borrow.Author.Needs.{needs}
 use lib.Dec.{leb, eqb}
 use lib.ListN.{length}
 use Rattle.octets.proofs.Lists.{left-one}
-use Rattle.address.proofs.Every.{and-right}
+use Rattle.octets.proofs.Tests.{and-right}
 use Rattle.slots.specs.Slot.{slotLength, marked, free, sound, addressOf}
 use Rattle.slots.proofs.Sounds.{marked-not-free, unmarked-not-sound}
 use Rattle.table.specs.Table.{slots, slotAt, holds, lowest, isAt, inLower, right, whole, judged, checked}

@@ -18,7 +18,7 @@ use lib.ListN.{length}
 use Rattle.octets.specs.Octets.{sameOctets}
 use Rattle.octets.proofs.Comparing.{same-true, same-refl}
 use Rattle.octets.proofs.Lists.{lt-or-le}
-use Rattle.address.proofs.Every.{by-test}
+use Rattle.octets.proofs.Tests.{by-test}
 use Rattle.slots.specs.Slot.{slotLength, marked, free, sound, addressOf}
 use Rattle.slots.specs.Entry.{Entry, slotOf, Good}
 use Rattle.slots.proofs.Sounds.{marked-not-free, unmarked-not-sound}

@@ -24,7 +24,7 @@ use Rattle.octets.specs.Octets.{AllOctets, sameOctets}
 use Rattle.octets.proofs.Comparing.{same-refl}
 use Rattle.octets.proofs.Joined.{put-octets}
 use Rattle.octets.proofs.Lists.{lt-or-le}
-use Rattle.address.proofs.Every.{by-test}
+use Rattle.octets.proofs.Tests.{by-test}
 use Rattle.slots.specs.Slot.{slotLength, marked, sound}
 use Rattle.slots.specs.Entry.{Entry, entryOf, slotOf, Good}
 use Rattle.slots.proofs.Parts.{put-again, put-back}

@@ -21,7 +21,7 @@ use lib.Seq.{getD-take, getD-drop}
 use Rattle.octets.specs.Octets.{sameOctets}
 use Rattle.octets.proofs.Comparing.{Same, same-begin, same-next, same-stop, same-end, same-long}
 use Rattle.octets.proofs.Lists.{left-one}
-use Rattle.address.proofs.Every.{and-left, and-right, by-test}
+use Rattle.octets.proofs.Tests.{and-left, and-right, by-test}
 use Rattle.slots.specs.Slot.{slotLength, marked, addressOf, addressLength, addressArea}
 use Rattle.table.specs.Table.{slots, slotAt, unused, holds, lowest, howMany, found, lowestFree, freeCount}
 use Rattle.table.specs.declared.Found.{Found}

@@ -13,9 +13,10 @@ use mathlib.Core.List.{List, [], _∷_, _++_}
 use lib.ListN.{replicate}
 use Rattle.octets.specs.Octets.{ascii, allZero, sameOctets, lowered, lower}
 use Rattle.octets.specs.Numbers.{number, digits}
-use Rattle.tokens.specs.Tokens.{belongs}
-use Rattle.address.specs.Pieces.{every, onFirst, pieces, before, behind}
-use Rattle.address.specs.Address.{atom, localPart, labelOctet, freeEnds, label, domain, plain, canonical, isCanonical}
+use Rattle.octets.specs.Tests.{every}
+use Rattle.runs.specs.Runs.{belongs}
+use Rattle.address.specs.Pieces.{onFirst, pieces, before, behind}
+use Rattle.address.specs.Address.{atom, localPart, freeEnds, label, domain, plain, canonical, isCanonical}
 use Rattle.slots.specs.Slot.{slotLength, addressOf, numbersOf, free, marked, canonicalAddress, clear, zeroPast, sound}
 use Rattle.slots.specs.Entry.{numbersFor, bitsOf, opening, times, lengths, head, padded, areas, slotOf}
 use Rattle.table.specs.Table.{slots, slotAt, unused, holds, lowest, howMany, found, lowestFree, freeCount, inLower, right, whole, judged, checked}
@@ -64,11 +65,11 @@ unfolding empty alice slotOf areas padded head opening times lengths digits bits
 one-left = refl
 
 one-used : checked alice ≡ Sound
-unfolding alice slotOf areas padded head opening times lengths digits bitsOf numbersFor checked whole slots judged right free allZero slotAt sound marked sameOctets canonicalAddress addressOf number numbersOf clear zeroPast inLower lowest isCanonical plain localPart domain label atom labelOctet freeEnds every pieces onFirst before behind belongs canonical lowered lower
+unfolding alice slotOf areas padded head opening times lengths digits bitsOf numbersFor checked whole slots judged right free allZero slotAt sound marked sameOctets canonicalAddress addressOf number numbersOf clear zeroPast inLower lowest isCanonical plain localPart domain label atom belongs freeEnds every pieces onFirst before behind canonical lowered lower
 one-used = refl
 
 twice : checked (alice ++ alice) ≡ Slot 1
-unfolding alice slotOf areas padded head opening times lengths digits bitsOf numbersFor checked whole slots judged right free allZero slotAt sound marked sameOctets canonicalAddress addressOf number numbersOf clear zeroPast inLower lowest holds isCanonical plain localPart domain label atom labelOctet freeEnds every pieces onFirst before behind belongs canonical lowered lower
+unfolding alice slotOf areas padded head opening times lengths digits bitsOf numbersFor checked whole slots judged right free allZero slotAt sound marked sameOctets canonicalAddress addressOf number numbersOf clear zeroPast inLower lowest holds isCanonical plain localPart domain label atom belongs freeEnds every pieces onFirst before behind canonical lowered lower
 twice = refl
 
 stray-octet : checked (replicate 4391 0 ++ (1 ∷ [])) ≡ Slot 0

@@ -18,7 +18,8 @@ use borrow.Author.Needs.{needs}
 use borrow.Author.Tests.{ne-eqb, lt-ltb}
 use lib.ListN.{length, getD, drop}
 use Rattle.octets.proofs.Lists.{drop-one, drop-done}
-use Rattle.tokens.specs.Tokens.{blank, past}
+use Rattle.octets.specs.Octets.{blank}
+use Rattle.tokens.specs.Tokens.{past}
 use Rattle.tokens.specs.Answers.{stepIn, opened, Opening, Passing, Passed}
 use Rattle.tokens.proofs.Stepping.{Moved, moved}
 use Rattle.tokens.specs.declared.Step.{Step}

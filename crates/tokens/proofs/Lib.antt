@@ -4,5 +4,4 @@ pub mod Stepping
 pub mod Commenting
 pub mod Skipping
 pub mod Quoting
-pub mod Running
 pub mod Worked

@@ -18,7 +18,8 @@ use borrow.Author.Tests.{ne-eqb}
 use lib.Dec.{eqb, ltb}
 use lib.ListN.{length, getD, drop}
 use Rattle.octets.proofs.Lists.{drop-one, drop-done}
-use Rattle.tokens.specs.Tokens.{control, blank, kindOf, depth, past, skipped}
+use Rattle.octets.specs.Octets.{blank}
+use Rattle.tokens.specs.Tokens.{control, kindOf, depth, past, skipped}
 use Rattle.tokens.specs.Answers.{reached, opened, Passing, Passed}
 use Rattle.tokens.specs.declared.Kind.{Kind}
 use Rattle.tokens.specs.declared.Kind.the-variants.{Closes, Escapes, Control, Plain}

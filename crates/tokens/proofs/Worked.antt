@@ -6,11 +6,9 @@ use mathlib.Core.Bool.{false}
 use mathlib.Core.List.{List, [], _∷_, _++_, map}
 use mathlib.Core.Option.{Option, some, none}
 use lib.ListN.{replicate}
-use Rattle.octets.specs.Octets.{ascii, octet}
-use Rattle.tokens.specs.Tokens.{control, blank, kindOf, tab, past, skipped, afterQuote, belongs, runLength}
+use Rattle.octets.specs.Octets.{ascii, octet, blank, tab}
+use Rattle.tokens.specs.Tokens.{control, kindOf, past, skipped, afterQuote}
 use Rattle.tokens.specs.Answers.{reached}
-use Rattle.tokens.specs.declared.Class.{Class}
-use Rattle.tokens.specs.declared.Class.the-variants.{Digit, Letter, Atom}
 use Rattle.tokens.specs.declared.Reached.the-variants.{To}
 
 -- so many comments one inside the other
@@ -63,19 +61,6 @@ quotes-hold :
     map (λ (e : List ℕ × Option (List ℕ)). afterQuote false (e .0)) quotes ≡ map (λ (e : List ℕ × Option (List ℕ)). e .1) quotes
 unfolding quotes afterQuote kindOf control
 quotes-hold = refl
-
--- a class, a text, and how long a run of the class it opens with
-runs : List (Class × List ℕ × ℕ)
-runs =
-    (Digit, ascii "2024Jan", 4)
-    ∷ (Letter, ascii "Jan-1", 3)
-    ∷ (Atom, ascii "a!#$%&'*+-/=?^_`{|}~9.b", 21)
-    ∷ (Atom, 195 ∷ 164 ∷ 127 ∷ [], 2)
-    ∷ []
-
-runs-hold : map (λ (e : Class × List ℕ × ℕ). runLength (e .0) (e .1)) runs ≡ map (λ (e : Class × List ℕ × ℕ). e .2) runs
-unfolding runs runLength belongs
-runs-hold = refl
 
 -- as places
 place : reached (ascii "a (b) c") (skipped (ascii " (b) c")) ≡ To 6

@@ -1,31 +1,21 @@
--- Blanks, comments, quoted strings and runs, as paper 01 has them in lists and dates. A reader takes the octets that are left and gives
+-- Blanks, comments and quoted strings, as paper 01 has them in lists and dates. A reader takes the octets that are left and gives
 -- the octets that are left behind what it read, or none where the text is unreadable.
---     control, blank       kinds of octets anywhere
+--     control              control octets
 --     kindOf               what an octet is inside a comment or a quoted string
 --     past, skipped        behind spaces, tabs and comments
 --     afterQuote           behind a quoted string
---     belongs, runLength   runs of digits, of letters, and of what atoms are made of
 use Prim.Native.Nat.{ℕ, zero, suc}
 use mathlib.Core.Bool.{Bool, true, false, cond, not, _&&_, _||_}
 use mathlib.Core.List.{List, [], _∷_}
 use mathlib.Core.Option.{Option, some, none}
-use lib.Dec.{leb, ltb, eqb}
-use Rattle.octets.specs.Octets.{ascii, octet}
+use lib.Dec.{ltb, eqb}
+use Rattle.octets.specs.Octets.{octet, tab, blank}
 use Rattle.tokens.specs.declared.Kind.{Kind}
 use Rattle.tokens.specs.declared.Kind.the-variants.{Closes, Escapes, Control, Plain}
-use Rattle.tokens.specs.declared.Class.{Class}
-use Rattle.tokens.specs.declared.Class.the-variants.{Digit, Letter, Atom}
-
-abbrev pub tab : ℕ
-tab = 9
 
 -- "control octets (below 32, and 127) other than tab"
 unfoldable pub control : ℕ → Bool
 control x = (ltb x 32 || eqb x 127) && not (eqb x tab)
-
--- "spaces, tabs"
-unfoldable pub blank : ℕ → Bool
-blank x = eqb x (octet " ") || eqb x tab
 
 -- What an octet is inside a comment or a quoted string, by the octet that closes it. "a backslash takes the next octet with it in comments
 -- and quoted strings"; all else is plain, a quote inside a comment and a parenthesis inside a quoted string too.
@@ -74,28 +64,3 @@ afterQuote false (x ∷ s) =
       | Control ↦ none
       | Plain ↦ afterQuote false s
     ]
-
-abbrev pub digit : ℕ → Bool
-digit x = leb (octet "0") x && leb x (octet "9")
-
-abbrev pub letter : ℕ → Bool
-letter x = (leb (octet "A") x && leb x (octet "Z")) || (leb (octet "a") x && leb x (octet "z"))
-
--- RFC 5322, 3.2.3: what may stand in an atom besides letters and digits
-abbrev pub signs : List ℕ
-signs = ascii "!#$%&'*+-/=?^_`{|}~"
-
-abbrev pub among : List ℕ → ℕ → Bool
-among [] x = false
-among (y ∷ s) x = eqb x y || among s x
-
--- "Octets of 128 and above may stand in atoms"
-unfoldable pub belongs : Class → ℕ → Bool
-belongs Digit x = digit x
-belongs Letter x = letter x
-belongs Atom x = letter x || digit x || among signs x || leb 128 x
-
--- how many octets of the class the list opens with
-unfoldable pub runLength : Class → List ℕ → ℕ
-runLength class [] = 0
-runLength class (x ∷ s) = elim (belongs class x) [ true ↦ suc (runLength class s) | false ↦ 0 ]

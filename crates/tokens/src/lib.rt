@@ -1,10 +1,10 @@
-// The tokens that lists and dates share: spaces, tabs and comments skipped, quoted strings passed, and the ends of
-// runs of digits, of letters and of atoms. A reader is given the text and a place in it, and answers a place.
+// The tokens that lists and dates share: spaces, tabs and comments skipped, and quoted strings passed. A reader is given
+// the text and a place in it, and answers a place.
 ghost use Prim.Native.Nat.{suc, _+_, _<_};
 ghost use mathlib.Core.Path.{_≡_};
 ghost use mathlib.Core.Bool.{false};
 ghost use lib.ListN.{drop};
-ghost use Rattle.tokens.specs.Tokens.{control, blank, kindOf, depth, skipped, afterQuote, digit as digitOf, letter as letterOf, belongs, runLength};
+ghost use Rattle.tokens.specs.Tokens.{control, kindOf, depth, skipped, afterQuote};
 ghost use Rattle.tokens.specs.Answers.{reached, takes as takesOf, stepIn, opened, Opening, Passed};
 
 // "A comment may hold comments, to depth 16, the outer one at 1"
@@ -26,13 +26,6 @@ enum Step {
     Stops,
 }
 
-// The classes of octets that make runs.
-pub enum Class {
-    Digit,
-    Letter,
-    Atom,
-}
-
 // The place that a reader reached; or the text is unreadable.
 pub enum Reached {
     To(usize),
@@ -44,13 +37,6 @@ pub fn is_control(x: u8) -> bool
     ensures { λ r. ⌜ r ≡ control x ⌝ }
 {
     ((x < 32) | (x == 127)) & (x != b'\t')
-}
-
-// "spaces, tabs"
-pub fn is_blank(x: u8) -> bool
-    ensures { λ r. ⌜ r ≡ blank x ⌝ }
-{
-    (x == b' ') | (x == b'\t')
 }
 
 // What `x` is inside a comment or a quoted string that `closing` closes.
@@ -141,7 +127,7 @@ pub fn skip(s: &[u8], at: usize) -> Reached
 {
     let mut i = at;
     while i < s.len() {
-        if is_blank(s[i]) {
+        if octets::is_blank(s[i]) {
             i += 1;
         } else if s[i] == b'(' {
             match comment(s, i, DEPTH) {
@@ -168,58 +154,4 @@ pub fn quoted(s: &[u8], at: usize) -> Reached
         }
     }
     Reached::Unreadable
-}
-
-fn digit(x: u8) -> bool
-    ensures { λ r. ⌜ r ≡ digitOf x ⌝ }
-{
-    (b'0' <= x) & (x <= b'9')
-}
-
-fn letter(x: u8) -> bool
-    ensures { λ r. ⌜ r ≡ letterOf x ⌝ }
-{
-    ((b'A' <= x) & (x <= b'Z')) | ((b'a' <= x) & (x <= b'z'))
-}
-
-// Letters, digits, the signs ! # $ % & ' * + - / = ? ^ _ ` { | } ~ and the octets of 128 and above, as ranges. Small letters,
-// the most of what stands in atoms, are known by the first of them.
-fn atom(x: u8) -> bool
-    ensures { λ r. ⌜ r ≡ belongs Class.Atom x ⌝ }
-{
-    if b'^' <= x {
-        return x != 127;
-    }
-    if b'A' <= x {
-        return x <= b'Z';
-    }
-    if b'-' <= x {
-        return ((x <= b'9') & (x != b'.')) | (x == b'=') | (x == b'?');
-    }
-    ((b'*' <= x) & (x <= b'+')) | ((b'#' <= x) & (x <= b'\'')) | (x == b'!')
-}
-
-// Does the octet belong to the class?
-pub fn within(class: Class, x: u8) -> bool
-    ensures { λ r. ⌜ r ≡ belongs class x ⌝ }
-{
-    match class {
-        Class::Digit => digit(x),
-        Class::Letter => letter(x),
-        Class::Atom => atom(x),
-    }
-}
-
-// The end of the run of octets of the class that begins at the place `at`; `at` itself where there is none.
-pub fn run_end(s: &[u8], at: usize, class: Class) -> usize
-    ensures { λ r. ⌜ r ≡ at + runLength class (drop at (now (s .entry))) ⌝ }
-{
-    let mut i = at;
-    while i < s.len() {
-        if !within(class, s[i]) {
-            return i;
-        }
-        i += 1;
-    }
-    i
 }

@@ -13,7 +13,7 @@ use mathlib.Core.List.{List, [], _∷_, _++_}
 use borrow.Author.Tests.{leb-true}
 use lib.ListN.{length}
 use Rattle.octets.specs.Octets.{AllOctets}
-use Rattle.address.specs.Pieces.{every}
+use Rattle.octets.specs.Tests.{every}
 use Rattle.address.specs.Address.{isCanonical}
 use Rattle.slots.specs.Slot.{timeLimit}
 use Rattle.table.specs.Table.{freeCount, checked}

@@ -17,8 +17,8 @@ use native.Mathlib.Omega.{arith}
 use lib.ListN.{length}
 use Rattle.octets.specs.Octets.{AllOctets, sameOctets}
 use Rattle.octets.proofs.Comparing.{same-true}
+use Rattle.octets.proofs.Tests.{by-test}
 use Rattle.address.specs.Address.{isCanonical}
-use Rattle.address.proofs.Every.{by-test}
 use Rattle.slots.specs.Slot.{timeLimit, keyLimit, marked, addressOf}
 use Rattle.slots.specs.Entry.{Direct, Entry, orElse, entryOf, slotOf, newcomer, seenBy, withDirect, withGossip, GoodKey, GoodHalf, Good}
 use Rattle.slots.proofs.Made.{slot-octets, slot-long, entry-back}

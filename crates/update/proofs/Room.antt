@@ -15,9 +15,9 @@ use native.Mathlib.Omega.{arith}
 use lib.ListN.{length}
 use Rattle.octets.specs.Octets.{AllOctets, sameOctets}
 use Rattle.octets.proofs.Comparing.{same-true}
-use Rattle.address.specs.Pieces.{every}
+use Rattle.octets.specs.Tests.{every}
+use Rattle.octets.proofs.Tests.{and-left, and-right, by-test}
 use Rattle.address.specs.Address.{canonical, isCanonical}
-use Rattle.address.proofs.Every.{and-left, and-right, by-test}
 use Rattle.address.proofs.Spelling.{canonical-same}
 use Rattle.list.specs.List.{among}
 use Rattle.slots.specs.Entry.{Entry, isPresent, entryOf, newcomer}

@@ -15,9 +15,10 @@ use mir.Val.{Fits}
 use lib.ListN.{length, length-append}
 use Rattle.octets.specs.Octets.{ascii}
 use Rattle.octets.specs.Written.{putAt}
-use Rattle.base64.specs.Base64.{encode, lines}
-use Rattle.base64.proofs.Lengths.{lines-counted}
-use Rattle.base64.proofs.Putting.{over-none}
+use Rattle.octets.proofs.Putting.{over-none}
+use Rattle.letters.specs.Base64.{encode}
+use Rattle.lines.specs.Lines.{lines}
+use Rattle.lines.proofs.Lengths.{lines-counted}
 use Rattle.writer.specs.Writing.{preference, fieldText}
 use Rattle.writer.specs.Steps.{opening, attributes}
 

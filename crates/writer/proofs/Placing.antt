@@ -15,8 +15,9 @@ use borrow.Author.Needs.{needs}
 use lib.ListN.{length, length-append}
 use Rattle.octets.specs.Octets.{ascii}
 use Rattle.octets.specs.Written.{putAt, onto}
-use Rattle.base64.specs.Base64.{encode, lines}
-use Rattle.base64.proofs.Putting.{put-both, room-second}
+use Rattle.octets.proofs.Putting.{put-both, room-second}
+use Rattle.letters.specs.Base64.{encode}
+use Rattle.lines.specs.Lines.{lines}
 use Rattle.writer.specs.Writing.{preference, fieldText}
 use Rattle.writer.specs.Steps.{opening, attributes}
 use Rattle.writer.proofs.Parts.{field-halves}

@@ -4,7 +4,8 @@ use mathlib.Core.Path.{_≡_, refl}
 use mathlib.Core.Bool.{true, false}
 use lib.ListN.{length, replicate}
 use Rattle.octets.specs.Octets.{ascii, octet, lower, lowered}
-use Rattle.base64.specs.Base64.{letter, encode, laid, lines}
+use Rattle.letters.specs.Base64.{letter, encode}
+use Rattle.lines.specs.Lines.{laid, lines}
 use Rattle.address.specs.Address.{canonical}
 use Rattle.writer.specs.Writing.{preference, fieldText, written}
 

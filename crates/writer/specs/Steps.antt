@@ -5,7 +5,8 @@ use Prim.Native.Nat.{ℕ}
 use mathlib.Core.Bool.{Bool}
 use mathlib.Core.List.{List, _++_}
 use Rattle.octets.specs.Octets.{ascii}
-use Rattle.base64.specs.Base64.{encode, lines}
+use Rattle.letters.specs.Base64.{encode}
+use Rattle.lines.specs.Lines.{lines}
 use Rattle.writer.specs.Writing.{preference}
 
 unfoldable pub opening : List ℕ → List ℕ → List ℕ

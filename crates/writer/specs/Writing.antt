@@ -6,7 +6,8 @@ use Prim.Native.Nat.{ℕ}
 use mathlib.Core.Bool.{Bool, true, false}
 use mathlib.Core.List.{List, [], _++_}
 use Rattle.octets.specs.Octets.{ascii}
-use Rattle.base64.specs.Base64.{encode, lines}
+use Rattle.letters.specs.Base64.{encode}
+use Rattle.lines.specs.Lines.{lines}
 use Rattle.address.specs.Address.{canonical}
 
 -- "Without mutual that attribute is left out."

@@ -1,5 +1,5 @@
 -- `base64::put_three` meets its contract: the laws of `Putting` answer every need. Assumes nothing.
-use Rattle.base64.proofs.Putting.{storing}
+use Rattle.octets.proofs.Putting.{storing}
 use Rattle.base64.proofs.put_three.Statement.{statement}
 use Rattle.base64.proofs.put_three.Tie as tie
 

@@ -12,8 +12,8 @@ Inv-loop table src at out₀ to i₀ o₀ out i o = Run src at out₀ to out i o
 abbrev μ-loop : tie.MeasureT-loop
 μ-loop table src at out₀ to i₀ o₀ out i o = length src - i
 
-skip-blanks-requires : tie.Need-skip-blanks-requires Inv-loop μ-loop
-skip-blanks-requires c κs = search grouping
+run-end-requires : tie.Need-run-end-requires Inv-loop μ-loop
+run-end-requires c κs = search grouping
 
 loop-holds : tie.Need-loop-holds Inv-loop μ-loop
 loop-holds c = search grouping
@@ -63,7 +63,7 @@ write-groups-spec =
     (tie.spec
     Inv-loop
     μ-loop
-    skip-blanks-requires
+    run-end-requires
     loop-holds
     sub-loop
     whole-group-requires

@@ -1,5 +1,5 @@
 -- `lines::put_four` meets its contract: the laws of `Putting` answer every need. Assumes nothing.
-use Rattle.base64.proofs.Putting.{storing}
+use Rattle.octets.proofs.Putting.{storing}
 use Rattle.lines.proofs.put_four.Statement.{statement}
 use Rattle.lines.proofs.put_four.Tie as tie
 

@@ -1,8 +1,8 @@
 -- `list::token::run_end` meets its contract. Assumes nothing.
 use Prim.Native.Nat.{_-_}
 use lib.ListN.{length}
+use Rattle.runs.proofs.Running.{Runs, running}
 use Rattle.address.specs.Address.{addressOctet}
-use Rattle.address.proofs.Running.{Runs, running}
 use Rattle.list.proofs.token.run_end.Statement.{statement}
 use Rattle.list.proofs.token.run_end.Tie as tie
 

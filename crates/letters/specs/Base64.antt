@@ -1,0 +1,101 @@
+-- Base64 as RFC 4648, section 4, has it. A text is a list of characters' codes.
+--     letter           Table 1: the character of a value
+--     signOf           what a character stands for
+--     groupOf          what four characters stand for
+--     decode           the octets of a padded text with zero unused bits, or none
+--     octetsIn         the octets, where there are some
+--     encode           the padded text of octets
+use Prim.Native.Nat.{ℕ, _+_, _-_, _*_, _/_, _%_}
+use mathlib.Core.Bool.{Bool, cond, _&&_}
+use mathlib.Core.List.{List, [], _∷_, _++_}
+use mathlib.Core.Option.{Option, some, none}
+use lib.Dec.{leb, ltb, eqb}
+use Rattle.octets.specs.Octets.{octet}
+use Rattle.letters.specs.declared.Sign.{Sign}
+use Rattle.letters.specs.declared.Sign.the-variants.{Value, Pad, Other}
+use Rattle.letters.specs.declared.Group.{Group}
+use Rattle.letters.specs.declared.Group.the-variants.{Three, Two, One, Broken}
+
+-- "Table 1: The Base 64 Alphabet", from 0 to 63
+unfoldable pub letter : ℕ → ℕ
+letter v =
+    cond (ltb v 26) (octet "A" + v)
+    (cond (ltb v 52) (octet "a" + (v - 26))
+    (cond (ltb v 62) (octet "0" + (v - 52))
+    (cond (eqb v 62) (octet "+")
+    (octet "/"))))
+
+abbrev pub pad : ℕ
+pad = octet "="
+
+abbrev pub between : ℕ → ℕ → ℕ → Bool
+between first last x = leb first x && leb x last
+
+-- the table read backwards; "(pad) =" is no value, and no other character stands for anything
+unfoldable pub signOf : ℕ → Sign
+signOf x =
+    cond (between (octet "A") (octet "Z") x) (Value (x - octet "A"))
+    (cond (between (octet "a") (octet "z") x) (Value (x - octet "a" + 26))
+    (cond (between (octet "0") (octet "9") x) (Value (x - octet "0" + 52))
+    (cond (eqb x (octet "+")) (Value 62)
+    (cond (eqb x (octet "/")) (Value 63)
+    (cond (eqb x pad) Pad
+    Other)))))
+
+-- Two values and two signs more. Four values are 24 bits, three octets; three and a pad are two octets and two unused bits; two and two
+-- pads are one octet and four unused bits. "Zero unused bits": anything else is broken.
+unfoldable pub closed : ℕ → ℕ → Sign → Sign → Group
+closed p q (Value r) (Value s) = Three (p * 4 + q / 16) (q % 16 * 16 + r / 4) (r % 4 * 64 + s)
+closed p q (Value r) Pad = cond (eqb (r % 4) 0) (Two (p * 4 + q / 16) (q % 16 * 16 + r / 4)) Broken
+closed p q (Value r) Other = Broken
+closed p q Pad (Value s) = Broken
+closed p q Pad Pad = cond (eqb (q % 16) 0) (One (p * 4 + q / 16)) Broken
+closed p q Pad Other = Broken
+closed p q Other s = Broken
+
+unfoldable pub grouped : Sign → Sign → Sign → Sign → Group
+grouped (Value p) (Value q) r s = closed p q r s
+grouped (Value p) Pad r s = Broken
+grouped (Value p) Other r s = Broken
+grouped Pad q r s = Broken
+grouped Other q r s = Broken
+
+abbrev pub groupOf : ℕ → ℕ → ℕ → ℕ → Group
+groupOf a b c d = grouped (signOf a) (signOf b) (signOf c) (signOf d)
+
+-- w in front of what the rest of the text gives
+unfoldable pub before : List ℕ → Option (List ℕ) → Option (List ℕ)
+before w none = none
+before w (some v) = some (w ++ v)
+
+-- w, where the text ends here
+unfoldable pub atEnd : List ℕ → List ℕ → Option (List ℕ)
+atEnd w [] = some w
+atEnd w (x ∷ rest) = none
+
+-- a group, the characters behind it and what those give: only the last group has pads
+unfoldable pub follow : Group → List ℕ → Option (List ℕ) → Option (List ℕ)
+follow (Three x y z) rest octets = before (x ∷ y ∷ z ∷ []) octets
+follow (Two x y) rest octets = atEnd (x ∷ y ∷ []) rest
+follow (One x) rest octets = atEnd (x ∷ []) rest
+follow Broken rest octets = none
+
+-- "padded Base64 with zero unused bits", in groups of four
+unfoldable pub decode : List ℕ → Option (List ℕ)
+decode [] = some []
+decode (a ∷ []) = none
+decode (a ∷ b ∷ []) = none
+decode (a ∷ b ∷ c ∷ []) = none
+decode (a ∷ b ∷ c ∷ d ∷ rest) = follow (groupOf a b c d) rest (decode rest)
+
+unfoldable pub octetsIn : Option (List ℕ) → List ℕ
+octetsIn none = []
+octetsIn (some w) = w
+
+-- 24 bits make four letters; 8 or 16 bits at the end are filled up with zero bits, and the group with pads
+unfoldable pub encode : List ℕ → List ℕ
+encode [] = []
+encode (a ∷ []) = letter (a / 4) ∷ letter (a % 4 * 16) ∷ pad ∷ pad ∷ []
+encode (a ∷ b ∷ []) = letter (a / 4) ∷ letter (a % 4 * 16 + b / 16) ∷ letter (b % 16 * 4) ∷ pad ∷ []
+encode (a ∷ b ∷ c ∷ rest) =
+    letter (a / 4) ∷ letter (a % 4 * 16 + b / 16) ∷ letter (b % 16 * 4 + c / 64) ∷ letter (c % 64) ∷ encode rest

@@ -1,0 +1,3 @@
+pub mod Base64
+pub mod Tables
+pub mod Alphabetic
