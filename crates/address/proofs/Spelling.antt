@@ -3,7 +3,7 @@
 --     canonical-octets                   octets stay octets
 --     plain-canonical                    that of a plain address is a plain address
 --     plain-is-canonical                 and is canonical
---     canonical-plain, canonical-same    what is canonical is a plain address, and its own canonical form
+--     canonical-same                     what is canonical is its own canonical form
 --     canonical-most                     that of a plain address has at most 254 octets
 -- Assumes nothing.
 use Prim.Native.Nat.{ℕ, _+_, _-_, _<_, _≤_}
@@ -18,7 +18,7 @@ use Rattle.octets.specs.Octets.{AllOctets, sameOctets, lower, lowered}
 use Rattle.octets.proofs.Letters.{by-case, lowered-twice, lowered-octets, length-lowered, getD-lowered}
 use Rattle.octets.proofs.Comparing.{same-refl, same-true}
 use Rattle.octets.specs.Tests.{every}
-use Rattle.octets.proofs.Tests.{and-left, and-right}
+use Rattle.octets.proofs.Tests.{and-right}
 use Rattle.octets.proofs.Every.{every-map}
 use Rattle.runs.specs.Runs.{letter, belongs}
 use Rattle.runs.specs.declared.Class.{Class}
@@ -122,10 +122,6 @@ module _ (s : List ℕ) (p : plain s ≡ true) where
   canonical-most = plain-most (canonical s) plain-canonical
 
 module _ (s : List ℕ) (c : isCanonical s ≡ true) where
-  pub canonical-plain : plain s ≡ true
-  unfolding isCanonical
-  canonical-plain = and-left (plain s) (sameOctets (canonical s) s) c
-
   pub canonical-same : canonical s ≡ s
   unfolding isCanonical
   canonical-same = same-true (canonical s) s (and-right (plain s) (sameOctets (canonical s) s) c)

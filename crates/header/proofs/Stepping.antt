@@ -3,7 +3,7 @@
 --     colon-fits           a colon stands below the end, so that there is a place behind it
 --     Places s at n v e    how the places of a field lie
 --     Held, held           they lie so in each answer
---     name-from .. field-less    the same as a caller asks it of an answer r: of the parts that it lends on, and of a loop's measure
+--     name-from .. field-less    the same as a caller asks it of an answer r: of the name that it lends on, and of a loop's measure
 -- Assumes nothing.
 use Prim.Native.Nat.{ℕ, _+_, _-_, _^_, _<_, _≤_}
 use mathlib.Core.Path.{_≡_, refl, sym, _∙_, subst}
@@ -14,7 +14,7 @@ use native.Mathlib.Omega.{arith}
 use borrow.Author.Needs.{needs}
 use borrow.Author.Tests.{lt-ltb, le-ltb, ltb-true, eq-eqb, ne-eqb, eqb-true}
 use lib.Dec.{ltb, eqb}
-use lib.ListN.{length, getD, take, drop, length-take, length-drop, List·getD-eq-default}
+use lib.ListN.{length, getD, drop, List·getD-eq-default}
 use lib.Seq.{getD-drop}
 use Rattle.octets.specs.Octets.{octet}
 use Rattle.octets.proofs.Lists.{lt-or-le}
@@ -122,16 +122,5 @@ module _ (s : List ℕ) (at n v e : ℕ) (r : Step) (t : r ≡ stepAt s at) (q :
   pub name-upto : n ≤ length s
   name-upto = omega (arith, field-places)
 
-  pub value-from : v ≤ e
-  value-from = field-places .behind
-
-  pub value-upto : e ≤ length s
-  value-upto = field-places .upto
-
-  pub value-fits : (room : ℕ) → length s ≤ room → length (take (e - v) (drop v s)) ≤ room
-  value-fits room h = simp (length-take, length-drop) (omega arith)
-
   pub field-less : length s - e < length s - at
   field-less = omega (arith, field-places)
-
-pub ruleset placing = (name-from, name-upto, value-from, value-upto, value-fits, field-less)

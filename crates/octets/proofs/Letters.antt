@@ -5,10 +5,9 @@
 --     lower-octet, lowered-octets                an octet stays one
 --     length-lowered, getD-lowered               a list's length stays, and each element is lower-cased
 -- Assumes nothing.
-use Prim.Native.Nat.{ℕ, suc, zero, _+_, _<_, _≤_}
-use mathlib.Core.Path.{_≡_, refl, sym, ap, _∙_}
+use Prim.Native.Nat.{ℕ, _+_, _<_, _≤_}
+use mathlib.Core.Path.{_≡_, refl, sym}
 use mathlib.Core.Logic.{⊎-elim}
-use mathlib.Core.Bool.{Bool, true, false}
 use mathlib.Core.List.{List, [], _∷_}
 use native.Mathlib.Omega.{arith}
 use borrow.Author.Tests.{le-leb, lt-leb}

@@ -5,7 +5,7 @@
 --     reading-begin .. reading-end    the loop's steps
 -- Assumes nothing.
 use Prim.Native.Nat.{ℕ, suc, zero, _+_, _-_, _*_, _/_, _%_, _^_, _<_, _≤_}
-use mathlib.Core.Path.{_≡_, refl, sym, ap, _∙_}
+use mathlib.Core.Path.{_≡_, refl}
 use mathlib.Core.List.{List, [], _∷_}
 use native.Mathlib.Nat.{pow-succ', one-le-pow, sub-self}
 use native.Mathlib.Numerals.{add-one}
@@ -13,8 +13,7 @@ use native.Mathlib.Omega.{arith}
 use borrow.Author.Needs.{needs}
 use mir.Syntax.{w8, w64}
 use mir.Val.{Fits}
-use lib.ListN.{length, getD, take, drop, length-take, length-drop}
-use lib.Seq.{getD-take, getD-drop}
+use lib.ListN.{length, getD, take, drop, length-take}
 use Rattle.octets.specs.Octets.{AllOctets}
 use Rattle.octets.specs.Numbers.{number, digits}
 use Rattle.octets.proofs.Lists.{drop-one, given-octets, take-octets, drop-octets}

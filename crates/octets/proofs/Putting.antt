@@ -12,7 +12,7 @@ use mathlib.Core.List.{List, [], _∷_, _++_, append-nil}
 use native.Mathlib.Nat.{add-zero}
 use native.Mathlib.Omega.{arith}
 use borrow.Author.Needs.{needs}
-use lib.ListN.{length, take, drop, set, take-append-drop, length-append, length-take, length-drop}
+use lib.ListN.{length, take, set, take-append-drop, length-append, length-take, length-drop}
 use Rattle.octets.specs.Written.{putAt}
 use Rattle.octets.proofs.Writing.{Wrote, begin-at, kept, counted, put, puts, done-at}
 

@@ -5,16 +5,14 @@
 --     put, puts               one element more; several
 --     done, done-at           all is written
 -- Assumes nothing.
-use Prim.Native.Nat.{ℕ, suc, zero, _+_, _-_, _<_, _≤_}
+use Prim.Native.Nat.{ℕ, _+_, _-_, _<_, _≤_}
 use mathlib.Core.Path.{_≡_, refl, sym, ap, _∙_}
 use mathlib.Core.List.{List, [], _∷_, _++_, append-assoc}
 use native.Mathlib.Numerals.{add-one}
-use native.Mathlib.Nat.{zero-add, add-zero, add-assoc}
 use native.Mathlib.Omega.{arith}
-use lib.ListN.{length, getD, take, drop, set, length-append, length-take, length-drop, length-set, take-append-drop}
+use lib.ListN.{length, take, drop, set, length-append, length-take, length-drop, take-append-drop}
 use lib.Seq.{take-at, drop-at, drop-drop, set-split, length-take-le, take-length, take-add}
 use Rattle.octets.specs.Written.{putAt, onto}
-use Rattle.octets.proofs.Lists.{drop-one, drop-done}
 
 pub record Wrote (w d out : List ℕ) (o : ℕ) (rest : List ℕ) : Type 0 where
   pub text : out ≡ take o w ++ drop o d

@@ -3,10 +3,9 @@
 --     behind-over .. behind-field    where the reader goes on
 --     Ahead s at k i l               what comes after k others from the place `at` on comes after l others from i on
 --     ahead-begin .. ahead-next      the steps of a loop over the fields
---     handed-places                  how the places of a field that is handed out lie
 -- Assumes nothing.
 use Prim.Native.Nat.{ℕ, zero, suc, _+_, _-_}
-use mathlib.Core.Path.{_≡_, refl, sym, ap, _∙_, subst}
+use mathlib.Core.Path.{_≡_, refl, sym, ap, _∙_}
 use mathlib.Core.List.{List}
 use native.Mathlib.Omega.{arith}
 use native.Mathlib.Numerals.{add-one}
@@ -14,7 +13,6 @@ use borrow.Author.Needs.{needs}
 use Rattle.header.specs.Answers.{stepAt}
 use Rattle.header.specs.declared.Step.{Step}
 use Rattle.header.specs.declared.Step.the-variants as step
-use Rattle.header.proofs.Stepping.{Places, field-places}
 use Rattle.reader.specs.Reading.{handed, handedAt, placeBehind, handedAfter, takenAt}
 use Rattle.reader.specs.declared.Handed.{Handed}
 use Rattle.reader.specs.declared.Taken.{Taken}
@@ -87,26 +85,3 @@ module _ (s : List ℕ) (at k i l : ℕ) (a : Ahead s at k i l) (r : Taken) (t :
       record { same = a .same ∙ ap (λ (x : ℕ). handedAfter x s i) (p ∙ add-one (l - 1)) ∙ ap (λ (x : Taken). handedAfter (l - 1) s (x .at)) (sym t) }
 
 pub ruleset reading-on = (ahead-begin, ahead-over, ahead-broken, ahead-here, ahead-next, needs)
-
--- the places of a field that is handed out
-abbrev Lies : List ℕ → Handed → Type 0
-Lies s Over = Unit
-Lies s Broken = Unit
-Lies s (Field m n v e) = Places s m n v e
-
-lies-at : (s : List ℕ) (at : ℕ) → Lies s (handedAt s at)
-unfolding handedAt handed
-lies-at s at = go (stepAt s at) refl
-  where
-    go : (r : Step) → r ≡ stepAt s at → Lies s (handed at r)
-    go step.Over t = tt
-    go step.Broken t = tt
-    go (step.Field n v e) t = field-places s at n v e (step.Field n v e) t refl
-
-lies : (k : ℕ) (s : List ℕ) (at : ℕ) → Lies s (handedAfter k s at)
-unfolding handedAfter
-lies zero s at = lies-at s at
-lies (suc k) s at = lies k s (placeBehind (handedAt s at) at)
-
-pub handed-places : (k : ℕ) (s : List ℕ) (at : ℕ) (r : Handed) (m n v e : ℕ) → r ≡ handedAfter k s at → r ≡ Field m n v e → Places s m n v e
-handed-places k s at r m n v e t q = subst (λ (x : Handed). Lies s x) (sym t ∙ q) (lies k s at)
