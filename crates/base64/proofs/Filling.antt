@@ -19,17 +19,18 @@ use Rattle.octets.specs.Octets.{blank, withoutBlanks}
 use Rattle.octets.proofs.Without.{without-none}
 use Rattle.runs.specs.Runs.{runLength}
 use Rattle.runs.specs.declared.Class.the-variants.{Blank}
-use Rattle.base64.proofs.Blanks.{NextPlace, next-place}
+use Rattle.groups.proofs.Blanks.{NextPlace, next-place}
 use Rattle.octets.proofs.Putting.{put-long, put-both, over-none, over-one, over-two}
 use Rattle.letters.specs.Base64.{before, decode, octetsIn}
 use Rattle.letters.proofs.Standing.{behind-three}
 use Rattle.base64.specs.Answers.{decodedOf, Decodes}
-use Rattle.base64.specs.Steps.{NextGroup, WholeGroup, Run, NoneFit, Onward, TurnedTo, Turned}
-use Rattle.base64.proofs.Nexts.{nearer-whole, read-whole, read-three, read-two, read-one, read-end, read-broken}
-use Rattle.base64.specs.declared.Next.{Next}
-use Rattle.base64.specs.declared.Next.the-variants.{Three, Two, One, End, Broken}
-use Rattle.base64.specs.declared.Whole.{Whole}
-use Rattle.base64.specs.declared.Whole.the-variants.{Three as WThree}
+use Rattle.groups.specs.Steps.{NextGroup, WholeGroup}
+use Rattle.base64.specs.Steps.{Run, NoneFit, Onward, TurnedTo, Turned}
+use Rattle.groups.proofs.Nexts.{nearer-whole, read-whole, read-three, read-two, read-one, read-end, read-broken}
+use Rattle.groups.specs.declared.Next.{Next}
+use Rattle.groups.specs.declared.Next.the-variants.{Three, Two, One, End, Broken}
+use Rattle.groups.specs.declared.Whole.{Whole}
+use Rattle.groups.specs.declared.Whole.the-variants.{Three as WThree}
 use Rattle.base64.specs.declared.Turn.{Turn}
 use Rattle.base64.specs.declared.Turn.the-variants.{On, Last, Refused as TRefused}
 use Rattle.base64.specs.declared.Decoded.the-variants.{Octets, Refused}

@@ -1,4 +1,2 @@
-pub mod Blanks
-pub mod Nexts
 pub mod Filling
 pub mod Answered

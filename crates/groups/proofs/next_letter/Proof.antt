@@ -1,7 +1,7 @@
--- `base64::next_letter` meets its contract: the laws of `Blanks` answer every need. Assumes nothing.
-use Rattle.base64.proofs.Blanks.{lettered}
-use Rattle.base64.proofs.next_letter.Statement.{statement}
-use Rattle.base64.proofs.next_letter.Tie as tie
+-- `groups::next_letter` meets its contract: the laws of `Blanks` answer every need. Assumes nothing.
+use Rattle.groups.proofs.Blanks.{lettered}
+use Rattle.groups.proofs.next_letter.Statement.{statement}
+use Rattle.groups.proofs.next_letter.Tie as tie
 
 run-end-requires : tie.Need-run-end-requires
 run-end-requires c κs = search lettered

@@ -19,8 +19,8 @@ use Rattle.octets.proofs.Without.{without-none, without-passing, without-other}
 use Rattle.runs.specs.Runs.{belongs, run, runLength}
 use Rattle.runs.specs.declared.Class.the-variants.{Blank}
 use Rattle.runs.proofs.Running.{run-in, run-out, run-upto, run-stop, run-zero}
-use Rattle.base64.specs.Steps.{NextLetter}
-use Rattle.base64.specs.declared.Letter.the-variants.{End, At}
+use Rattle.groups.specs.Steps.{NextLetter}
+use Rattle.groups.specs.declared.Letter.the-variants.{End, At}
 
 -- a run goes where it is of what goes
 without-run : (test : ℕ → Bool) (s : List ℕ) → without test s ≡ without test (drop (run test s) s)

@@ -1,7 +1,7 @@
--- `base64::next_group` meets its contract: the laws of `Nexts` answer every need. Assumes nothing.
-use Rattle.base64.proofs.Nexts.{spacing}
-use Rattle.base64.proofs.next_group.Statement.{statement}
-use Rattle.base64.proofs.next_group.Tie as tie
+-- `groups::next_group` meets its contract: the laws of `Nexts` answer every need. Assumes nothing.
+use Rattle.groups.proofs.Nexts.{spacing}
+use Rattle.groups.proofs.next_group.Statement.{statement}
+use Rattle.groups.proofs.next_group.Tie as tie
 
 next-letter-requires : tie.Need-next-letter-requires
 next-letter-requires c κs = search spacing

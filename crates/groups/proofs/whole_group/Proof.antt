@@ -1,7 +1,7 @@
--- `base64::whole_group` meets its contract: the laws of `Nexts` answer every need. Assumes nothing.
-use Rattle.base64.proofs.Nexts.{nearing}
-use Rattle.base64.proofs.whole_group.Statement.{statement}
-use Rattle.base64.proofs.whole_group.Tie as tie
+-- `groups::whole_group` meets its contract: the laws of `Nexts` answer every need. Assumes nothing.
+use Rattle.groups.proofs.Nexts.{nearing}
+use Rattle.groups.proofs.whole_group.Statement.{statement}
+use Rattle.groups.proofs.whole_group.Tie as tie
 
 sub-if1 : tie.Need-sub-if1
 sub-if1 c = search nearing

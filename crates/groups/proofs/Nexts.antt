@@ -20,16 +20,16 @@ use Rattle.letters.specs.Base64.{signOf, closed, grouped, groupOf, before, atEn
 use Rattle.letters.specs.Tables.{codeOf}
 use Rattle.letters.proofs.Alphabet.{found-value}
 use Rattle.letters.proofs.Alphabetic.{blank-other}
-use Rattle.base64.specs.Steps.{NextLetter, stepOf, NextGroup, WholeGroup}
+use Rattle.groups.specs.Steps.{NextLetter, stepOf, NextGroup, WholeGroup}
 use Rattle.letters.specs.declared.Sign.the-variants.{Value}
 use Rattle.letters.specs.declared.Group.{Group}
 use Rattle.letters.specs.declared.Group.the-variants.{Three as GThree, Two as GTwo, One as GOne, Broken as GBroken}
-use Rattle.base64.specs.declared.Whole.{Whole}
-use Rattle.base64.specs.declared.Whole.the-variants.{Three as WThree, Other as WOther}
-use Rattle.base64.specs.declared.Letter.{Letter}
-use Rattle.base64.specs.declared.Letter.the-variants.{End as Over, At}
-use Rattle.base64.specs.declared.Next.{Next}
-use Rattle.base64.specs.declared.Next.the-variants.{Three, Two, One, End, Broken}
+use Rattle.groups.specs.declared.Whole.{Whole}
+use Rattle.groups.specs.declared.Whole.the-variants.{Three as WThree, Other as WOther}
+use Rattle.groups.specs.declared.Letter.{Letter}
+use Rattle.groups.specs.declared.Letter.the-variants.{End as Over, At}
+use Rattle.groups.specs.declared.Next.{Next}
+use Rattle.groups.specs.declared.Next.the-variants.{Three, Two, One, End, Broken}
 
 -- `next_letter`'s answer, read
 module _ (s : List ℕ) (at : ℕ) (r : Letter) (h : NextLetter s at r) where

@@ -1,7 +1,7 @@
--- `base64::step` meets its contract: the laws of `Nexts` answer every need. Assumes nothing.
-use Rattle.base64.proofs.Nexts.{stepping}
-use Rattle.base64.proofs.step.Statement.{statement}
-use Rattle.base64.proofs.step.Tie as tie
+-- `groups::step` meets its contract: the laws of `Nexts` answer every need. Assumes nothing.
+use Rattle.groups.proofs.Nexts.{stepping}
+use Rattle.groups.proofs.step.Statement.{statement}
+use Rattle.groups.proofs.step.Tie as tie
 
 enum-known-group : tie.Need-enum-known-group
 enum-known-group c = search stepping
