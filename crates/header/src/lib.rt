@@ -4,6 +4,7 @@ ghost use Prim.Native.Nat.{_+_, _≤_, _<_};
 ghost use mathlib.Core.Path.{_≡_};
 ghost use lib.ListN.{length, getD, drop};
 ghost use Rattle.octets.specs.Written.{onto};
+ghost use Rattle.runs.specs.Runs.{runLength};
 ghost use Rattle.header.specs.Header.{ofEnding, over, closes, rawLength, unfolded, readable as readableOf, mayFollow, isReport};
 ghost use Rattle.header.specs.Lines.{lineLength, textLength};
 ghost use Rattle.header.specs.Answers.{stepAt};
@@ -80,6 +81,14 @@ fn over_at(block: &[u8], at: usize) -> bool
     ends_at(block, at)
 }
 
+// The end of the name that begins at the place `at`. It is a function of its own so that, compiled into the next one, its loop
+// knows the class: of all loops over a block, this is the one that looks at each octet by itself.
+fn name_end(s: &[u8], at: usize) -> usize
+    ensures { λ r. ⌜ r ≡ at + runLength Class.Name (drop at (now (s .entry))) ⌝ }
+{
+    runs::run_end(s, at, Class::Name)
+}
+
 // What stands at the place `at`, where a line begins. A continuation with no field above has no name: neither space
 // nor tab is of one.
 pub fn field_at(block: &[u8], at: usize) -> Step
@@ -88,7 +97,7 @@ pub fn field_at(block: &[u8], at: usize) -> Step
     if over_at(block, at) {
         return Step::Over;
     }
-    let name_end = runs::run_end(block, at, Class::Name);
+    let name_end = name_end(block, at);
     if name_end == at {
         return Step::Broken;
     }

@@ -9,8 +9,8 @@ over-at-requires c κs = search stepping
 returns : tie.Need-returns
 returns c = search stepping
 
-run-end-requires : tie.Need-run-end-requires
-run-end-requires c κs = search stepping
+name-end-requires : tie.Need-name-end-requires
+name-end-requires c κs = search stepping
 
 returns-2 : tie.Need-returns-2
 returns-2 c = search stepping
@@ -36,7 +36,7 @@ field-at-spec =
     (tie.spec
     over-at-requires
     returns
-    run-end-requires
+    name-end-requires
     returns-2
     peek-requires
     returns-3
