@@ -1,28 +1,20 @@
 -- What single octets are, and whether a run holds an "@".
---     in-run                    an octet of a run
 --     opens-run .. opens-nothing    what an octet opens, by the tests in their order
 --     Looks s i                 whether s holds an "@" comes to whether it does from i on
 --     looks-begin .. looks-end      the steps of a loop that looks for it
 -- Assumes nothing.
 use Prim.Native.Nat.{ℕ, _+_, _<_, _≤_}
 use mathlib.Core.Path.{_≡_, refl, sym, _∙_}
-use mathlib.Core.Bool.{Bool, true, false, _||_}
+use mathlib.Core.Bool.{Bool, true, false}
 use mathlib.Core.List.{List}
 use borrow.Author.Needs.{needs}
 use borrow.Author.Tests.{eq-eqb, ne-eqb}
-use lib.Dec.{eqb}
 use lib.ListN.{length, getD, drop}
 use Rattle.octets.proofs.Lists.{drop-one, drop-done}
-use Rattle.runs.specs.Runs.{belongs}
-use Rattle.runs.specs.declared.Class.the-variants.{Atom}
 use Rattle.address.specs.Address.{addressOctet}
 use Rattle.list.specs.List.{markOf, openingOf, holdsAt}
 use Rattle.list.specs.declared.token.Opening.{Opening}
 use Rattle.list.specs.declared.token.Opening.the-variants.{Run, Nothing}
-
-pub in-run : (x : ℕ) (a : Bool) → a ≡ belongs Atom x → ((a || eqb x 46) || eqb x 64) ≡ addressOctet x
-unfolding belongs
-in-run x a e = rw e
 
 -- what an octet opens; b is what a call answered of it
 module _ (x : ℕ) (b : Bool) (e : b ≡ addressOctet x) where
@@ -40,7 +32,7 @@ module _ (x : ℕ) (b : Bool) (e : b ≡ addressOctet x) where
   opens-nothing p q c l g o s =
       rw (sym e ∙ p, ne-eqb x 34 q, ne-eqb x 44 c, ne-eqb x 60 l, ne-eqb x 62 g, ne-eqb x 58 o, ne-eqb x 59 s)
 
-pub ruleset telling = (in-run, opens-run, opens-mark, opens-nothing, needs)
+pub ruleset telling = (opens-run, opens-mark, opens-nothing, needs)
 
 pub record Looks (s : List ℕ) (i : ℕ) : Type 0 where
   pub so-far : holdsAt s ≡ holdsAt (drop i s)

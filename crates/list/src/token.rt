@@ -2,11 +2,10 @@
 // A long run costs its length.
 use runs::Class;
 use tokens::Reached;
-ghost use Prim.Native.Nat.{_+_, _<_};
+ghost use Prim.Native.Nat.{_<_};
 ghost use mathlib.Core.Path.{_≡_};
 ghost use mathlib.Core.Bool.{true};
 ghost use lib.ListN.{length, getD, drop};
-ghost use Rattle.runs.specs.Runs.{run as runOf};
 ghost use Rattle.address.specs.Address.{addressOctet};
 ghost use Rattle.list.specs.List.{holdsAt, openingOf, runToken, quotedToken, tokenAt, firstToken};
 ghost use Rattle.list.specs.Answers.{foundIn, Inside};
@@ -37,27 +36,6 @@ pub enum Found {
     Unreadable,
 }
 
-// Does the octet belong to a run: of atoms, dots and `@`?
-fn in_run(x: u8) -> bool
-    ensures { λ r. ⌜ r ≡ addressOctet x ⌝ }
-{
-    runs::within(Class::Atom, x) | (x == b'.') | (x == b'@')
-}
-
-// The end of the run that begins at the place `at`.
-fn run_end(list: &[u8], at: usize) -> usize
-    ensures { λ r. ⌜ r ≡ at + runOf addressOctet (drop at (now (list .entry))) ⌝ }
-{
-    let mut i = at;
-    while i < list.len() {
-        if !in_run(list[i]) {
-            return i;
-        }
-        i += 1;
-    }
-    i
-}
-
 fn holds_at(text: &[u8]) -> bool
     ensures { λ r. ⌜ r ≡ holdsAt (now (text .entry)) ⌝ }
 {
@@ -74,7 +52,7 @@ fn holds_at(text: &[u8]) -> bool
 pub fn opened_by(x: u8) -> Opening
     ensures { λ r. ⌜ r ≡ openingOf x ⌝ }
 {
-    if in_run(x) {
+    if runs::within(Class::Address, x) {
         return Opening::Run;
     }
     match x {
@@ -94,7 +72,7 @@ fn run(list: &[u8], from: usize) -> Found
     ensures { λ r. ⌜ foundIn (now (list .entry)) r ≡ runToken (drop from (now (list .entry))) ⌝ }
     ensures { λ r. ⌜ Inside (now (list .entry)) from r ⌝ }
 {
-    let to = run_end(list, from);
+    let to = runs::run_end(list, from, Class::Address);
     let text = &list[from..to];
     if address::is_plain(text) {
         return Found::Address { from, to };

@@ -3,8 +3,8 @@ use Rattle.list.proofs.token.opened_by.Statement.{statement}
 use Rattle.list.proofs.token.opened_by.Tie as tie
 use Rattle.list.proofs.Telling.{telling}
 
-in-run-requires : tie.Need-in-run-requires
-in-run-requires c κs = search telling
+within-requires : tie.Need-within-requires
+within-requires c κs = search telling
 
 returns : tie.Need-returns
 returns c = search telling
@@ -34,7 +34,7 @@ pub opened-by-spec : {M : Type 1} → statement M
 opened-by-spec =
     tie.close
     (tie.spec
-    in-run-requires
+    within-requires
     returns
     returns-2
     returns-3
