@@ -12,8 +12,10 @@ use mathlib.Core.Bool.{Bool, true, false, false≢true}
 use mathlib.Core.List.{List, [], _∷_}
 use mathlib.Core.Option.{Option, some, none}
 use borrow.Author.Needs.{needs}
+use Rattle.octets.specs.Options.{inFront, orElse, isSome}
+use Rattle.octets.proofs.Options.{some-front, else-front}
 use Rattle.address.proofs.Every.{by-test}
-use Rattle.list.specs.List.{inFront, addresses, given, isGiven}
+use Rattle.list.specs.List.{addresses}
 use Rattle.list.specs.Answers.{between, beginning, left, Hands}
 use Rattle.list.specs.declared.Cursor.{Cursor}
 use Rattle.list.specs.declared.Handed.{Handed}
@@ -85,51 +87,40 @@ overall-two Available Available rest = refl
 overall-two Available Encrypt rest = refl
 overall-two Encrypt b rest = refl
 
--- an address in front of a readable list
-front-given : (a : List ℕ) (o : Option (List (List ℕ))) → isGiven (inFront a o) ≡ true → isGiven o ≡ true
-unfolding inFront isGiven
-front-given a none e = e
-front-given a (some rest) e = refl
-
-front-first : (a : List ℕ) (o : Option (List (List ℕ))) → isGiven o ≡ true → given (inFront a o) ≡ a ∷ given o
-unfolding inFront isGiven given
-front-first a none e = cc
-front-first a (some rest) e = refl
-
 module _ (s : List ℕ) (here : Cursor) (k : Handed) (p : Hands s here k) where
-  module _ (r : isGiven (left s here) ≡ true) (from to : ℕ) (next : Cursor) (q : k ≡ Address from to next) where
-    pub handed-rest : isGiven (left s next) ≡ true
-    handed-rest = front-given (between s from to) (left s next) (rw (hand-gives s here k p from to next q) at r)
+  module _ (r : isSome (left s here) ≡ true) (from to : ℕ) (next : Cursor) (q : k ≡ Address from to next) where
+    pub handed-rest : isSome (left s next) ≡ true
+    handed-rest = sym (some-front (between s from to) (left s next)) ∙ rw (hand-gives s here k p from to next q) at r
 
-    pub handed-given : given (left s here) ≡ between s from to ∷ given (left s next)
+    pub handed-given : orElse [] (left s here) ≡ between s from to ∷ orElse [] (left s next)
     handed-given =
-        ap given (hand-gives s here k p from to next q)
-        ∙ front-first (between s from to) (left s next) handed-rest
+        ap (orElse []) (hand-gives s here k p from to next q)
+        ∙ else-front (between s from to) (left s next) handed-rest
 
-  pub handed-end : k ≡ End → given (left s here) ≡ []
-  unfolding given
+  pub handed-end : k ≡ End → orElse [] (left s here) ≡ []
+  unfolding orElse
   handed-end q = rw (hand-end s here k p q)
 
-  pub handed-unread : k ≡ Unreadable → given (left s here) ≡ []
-  unfolding given
+  pub handed-unread : k ≡ Unreadable → orElse [] (left s here) ≡ []
+  unfolding orElse
   handed-unread q = rw (hand-unread s here k p q)
 
 -- The loop: all of the list comes to what is left of it, behind the lowest so far.
 pub record Lowest (t s : List ℕ) (m reply : Bool) (least : Advice) (here : Cursor) : Type 0 where
-  pub readable : isGiven (left s here) ≡ true
-  pub so-far : overall (advised t m reply (given (addresses s))) ≡ overall (least ∷ advised t m reply (given (left s here)))
+  pub readable : isSome (left s here) ≡ true
+  pub so-far : overall (advised t m reply (orElse [] (addresses s))) ≡ overall (least ∷ advised t m reply (orElse [] (left s here)))
 
 module _ (t s : List ℕ) (m reply : Bool) where
   encrypt-first : (list : List Advice) → overall list ≡ overall (Encrypt ∷ list)
   unfolding overall anyDisable allEncrypt anyDiscourage
   encrypt-first list = refl
 
-  pub lowest-begin : (here : Cursor) → here ≡ beginning → isGiven (addresses s) ≡ true → Lowest t s m reply Encrypt here
+  pub lowest-begin : (here : Cursor) → here ≡ beginning → isSome (addresses s) ≡ true → Lowest t s m reply Encrypt here
   lowest-begin here e g =
       let b : left s here ≡ addresses s = left-beginning s here e in
       record {
         readable = rw b g;
-        so-far = rw b (encrypt-first (advised t m reply (given (addresses s))));
+        so-far = rw b (encrypt-first (advised t m reply (orElse [] (addresses s))));
       }
 
   module _ (least : Advice) (here : Cursor) (k : Handed) (h : Lowest t s m reply least here) (p : Hands s here k) where
@@ -143,14 +134,14 @@ module _ (t s : List ℕ) (m reply : Bool) where
           so-far =
               h .so-far
               ∙ rw (handed-given s here k p (h .readable) from to next q, f, e)
-              (overall-two least (adviceIn t m reply (between s from to)) (advised t m reply (given (left s next))));
+              (overall-two least (adviceIn t m reply (between s from to)) (advised t m reply (orElse [] (left s next))));
         }
 
-    pub lowest-end : k ≡ End → least ≡ overall (advised t m reply (given (addresses s)))
+    pub lowest-end : k ≡ End → least ≡ overall (advised t m reply (orElse [] (addresses s)))
     unfolding advised
     lowest-end q = sym (h .so-far ∙ rw (handed-end s here k p q) (overall-one least))
 
-    pub lowest-unread : k ≡ Unreadable → least ≡ overall (advised t m reply (given (addresses s)))
+    pub lowest-unread : k ≡ Unreadable → least ≡ overall (advised t m reply (orElse [] (addresses s)))
     unfolding advised
     lowest-unread q = sym (h .so-far ∙ rw (handed-unread s here k p q) (overall-one least))
 

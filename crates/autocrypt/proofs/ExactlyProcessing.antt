@@ -14,10 +14,11 @@ use mathlib.Core.Bool.{true, false}
 use mathlib.Core.List.{List, []}
 use mathlib.Core.Option.{Option, some, none}
 use Rattle.octets.specs.Octets.{AllOctets}
+use Rattle.octets.specs.Options.{Each}
 use Rattle.octets.proofs.Lists.{lt-or-le}
 use Rattle.address.proofs.Every.{by-test}
 use Rattle.header.specs.Header.{FieldText, fieldsOf}
-use Rattle.header.proofs.Octetwise.{ValuesOctets, block-octets}
+use Rattle.header.proofs.Values.{ValuesOctets, block-octets}
 use Rattle.slots.specs.Slot.{timeLimit}
 use Rattle.table.specs.Table.{whole, checked}
 use Rattle.table.specs.declared.Checked.{Checked as OfTable}
@@ -43,7 +44,7 @@ use Rattle.autocrypt.proofs.Processing.{put-refused, put-room, put-full
 
 -- the fields in which gossip is looked for
 pub payload-octets : (g : Gossip) (payload : List ℕ) → AllOctets payload → (ps : List FieldText) → payloadFields g payload ≡ some ps → ValuesOctets ps
-unfolding ValuesOctets
+unfolding Each
 payload-octets g payload o ps e =
     by-test (taken g)
     (λ k. block-octets payload o ps (sym (fields-taken g payload k) ∙ e))

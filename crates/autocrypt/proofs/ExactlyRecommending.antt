@@ -7,11 +7,12 @@ use Prim.Native.Nat.{ℕ}
 use mathlib.Core.Path.{_≡_, refl, sym, ap, subst}
 use mathlib.Core.Logic.{_↔_}
 use mathlib.Core.Bool.{Bool, true, false}
-use mathlib.Core.List.{List}
+use mathlib.Core.List.{List, []}
 use mathlib.Core.Option.{some, none}
 use native.Mathlib.Omega.{arith}
+use Rattle.octets.specs.Options.{orElse}
 use Rattle.address.proofs.Every.{by-test}
-use Rattle.list.specs.List.{addresses, given}
+use Rattle.list.specs.List.{addresses}
 use Rattle.table.specs.Table.{whole, checked}
 use Rattle.table.specs.Slotwise.{SoundTable, Broken}
 use Rattle.table.proofs.Judging.{checked-length}
@@ -86,7 +87,7 @@ module _ (t s : List ℕ) where
         let p : j ≡ i = cc (refused-advice t s m reply (BrokenSlot j) (slot-refused j b)) in
         rw p at b)
 
-    pub done-advised : (a : Advice) → Done a ≡ recommendedOf t s m reply → a ≡ overall (advised t m reply (given (addresses s)))
+    pub done-advised : (a : Advice) → Done a ≡ recommendedOf t s m reply → a ≡ overall (advised t m reply (orElse [] (addresses s)))
     done-advised a e =
         by-refusal (refusedRecommending t s)
         (λ r q. absurd (let z : _≡_ {A = ℕ} 0 1 = cc (refused-advice t s m reply r q) in omega arith))

@@ -15,7 +15,8 @@ use borrow.Author.Needs.{needs}
 use borrow.Author.Tests.{le-leb, lt-leb, leb-true, not-true, not-false}
 use lib.Dec.{leb}
 use lib.ListN.{length, take, drop}
-use Rattle.header.specs.Header.{FieldText, isSome, fieldsOf, readable, limit}
+use Rattle.octets.specs.Options.{isSome}
+use Rattle.header.specs.Header.{FieldText, fieldsOf, readable, limit}
 use Rattle.header.proofs.Fields.{fields-empty, unclear}
 use Rattle.address.specs.Address.{isCanonical}
 use Rattle.address.proofs.Every.{and-left, and-right}

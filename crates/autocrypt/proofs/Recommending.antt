@@ -10,7 +10,7 @@
 use Prim.Native.Nat.{ℕ, _+_, _-_, _^_, _<_, _≤_, zero-le}
 use mathlib.Core.Path.{_≡_, refl, sym, ap, _∙_}
 use mathlib.Core.Bool.{Bool, true, false, not, _&&_}
-use mathlib.Core.List.{List}
+use mathlib.Core.List.{List, []}
 use mathlib.Core.Option.{Option, some, none}
 use native.Mathlib.Omega.{arith}
 use borrow.Author.Needs.{needs}
@@ -19,7 +19,8 @@ use lib.Dec.{leb}
 use lib.ListN.{length, take, drop}
 use mir.Syntax.{w64}
 use mir.Val.{Fits}
-use Rattle.list.specs.List.{addresses, given, isGiven}
+use Rattle.octets.specs.Options.{orElse, isSome}
+use Rattle.list.specs.List.{addresses}
 use Rattle.list.specs.Answers.{countedOf}
 use Rattle.list.specs.declared.Counted.{Counted}
 use Rattle.list.specs.declared.Counted.the-variants.{Count, Unreadable}
@@ -56,8 +57,8 @@ module _ (o : Option (List (List ℕ))) (k : Counted) (e : k ≡ countedOf o) wh
 
 pub ruleset counting = (list-none, list-counted, needs)
 
-list-readable : (o : Option (List (List ℕ))) → recipientList o ≡ true → isGiven o ≡ true
-unfolding recipientList isGiven
+list-readable : (o : Option (List (List ℕ))) → recipientList o ≡ true → isSome o ≡ true
+unfolding recipientList isSome
 list-readable none e = e
 list-readable (some list) e = refl
 
@@ -92,7 +93,7 @@ module _ (t s : List ℕ) where
     unfolding recommendedOf recommendedBy
     refused-advice r e = rw e
 
-    pub done-advice : refusedRecommending t s ≡ none → Done (overall (advised t m reply (given (addresses s)))) ≡ recommendedOf t s m reply
+    pub done-advice : refusedRecommending t s ≡ none → Done (overall (advised t m reply (orElse [] (addresses s)))) ≡ recommendedOf t s m reply
     unfolding recommendedOf recommendedBy
     done-advice e = rw e
 
@@ -101,7 +102,7 @@ module _ (t s : List ℕ) where
     unfolding targetPartOf unlessRefused
     refused-part r e = rw e
 
-    pub done-part : refusedRecommending t s ≡ none → targetAt t (given (addresses s)) place ≡ targetPartOf t s place
+    pub done-part : refusedRecommending t s ≡ none → targetAt t (orElse [] (addresses s)) place ≡ targetPartOf t s place
     unfolding targetPartOf unlessRefused
     done-part e = rw e
 
@@ -126,17 +127,17 @@ module _ (t s : List ℕ) (k : Checked) (e : k ≡ checkedAs (checked t)) where
       list-empty place = refused-part t s place Recipients unlisted
 
     module _ (n : not b ≡ false) where
-      pub list-given : isGiven (addresses s) ≡ true
+      pub list-given : isSome (addresses s) ≡ true
       list-given = list-readable (addresses s) (sym f ∙ not-false b n)
 
       taken : refusedRecommending t s ≡ none
       taken = in-order t s k e q (sym f ∙ not-false b n)
 
       pub advice-answered :
-          (m reply : Bool) (a : Advice) → a ≡ overall (advised t m reply (given (addresses s))) → Done a ≡ recommendedOf t s m reply
+          (m reply : Bool) (a : Advice) → a ≡ overall (advised t m reply (orElse [] (addresses s))) → Done a ≡ recommendedOf t s m reply
       advice-answered m reply a h = ap Done h ∙ done-advice t s m reply taken
 
-      pub part-answered : (place : ℕ) (p : Part) → p ≡ targetAt t (given (addresses s)) place → p ≡ targetPartOf t s place
+      pub part-answered : (place : ℕ) (p : Part) → p ≡ targetAt t (orElse [] (addresses s)) place → p ≡ targetPartOf t s place
       part-answered place p h = h ∙ done-part t s place taken
 
 pub ruleset recommending = (table-answered, table-taken, list-answered, list-given, advice-answered, needs)
@@ -159,14 +160,14 @@ module _ (t s : List ℕ) where
     part-within =
         by-refusal (refusedRecommending t s)
         (λ r e. rw (← refused-part t s place r e) zero-le)
-        (λ e. rw (← done-part t s place e) (place-within t (unrefused-sound e) (given (addresses s)) place))
+        (λ e. rw (← done-part t s place e) (place-within t (unrefused-sound e) (orElse [] (addresses s)) place))
 
     pub part-key : octetsAt t (targetPartOf t s place) ≡ targetKeyOf t s place
     unfolding targetKeyOf unlessRefused octetsAt
     part-key =
         by-refusal (refusedRecommending t s)
         (λ r e. rw (← refused-part t s place r e, targetKeyOf, e))
-        (λ e. rw (← done-part t s place e, targetKeyOf, e) (place-octets t (unrefused-sound e) (given (addresses s)) place))
+        (λ e. rw (← done-part t s place e, targetKeyOf, e) (place-octets t (unrefused-sound e) (orElse [] (addresses s)) place))
 
     module _ (p : Part) (h : p ≡ targetPartOf t s place) where
       pub part-end : p .start + p .length ≤ length t

@@ -12,8 +12,9 @@ use mathlib.Core.Bool.{Bool, true, false}
 use mathlib.Core.List.{List, []}
 use mathlib.Core.Option.{Option, some, none}
 use lib.ListN.{length, getD}
+use Rattle.octets.specs.Options.{orElse}
 use Rattle.address.specs.Address.{oneTo}
-use Rattle.list.specs.List.{addresses, given}
+use Rattle.list.specs.List.{addresses}
 use Rattle.table.specs.Table.{whole, checked}
 use Rattle.table.specs.Slotwise.{SoundTable, Broken}
 use Rattle.advice.specs.Advice.{overall, advised, targets}
@@ -53,7 +54,7 @@ recommendedBy none advice = Done advice
 -- what the first call answers
 unfoldable pub recommendedOf : List ℕ → List ℕ → Bool → Bool → Recommended
 recommendedOf table recipients isMutual reply =
-    recommendedBy (refusedRecommending table recipients) (overall (advised table isMutual reply (given (addresses recipients))))
+    recommendedBy (refusedRecommending table recipients) (overall (advised table isMutual reply (orElse [] (addresses recipients))))
 
 -- "A second call .. hands back that recipient's target key as a part of the lent table, an empty part without one, past the list or where the
 -- first call refuses."
@@ -62,11 +63,11 @@ unlessRefused (some r) empty x = empty
 unlessRefused none empty x = x
 
 unfoldable pub targetPartOf : List ℕ → List ℕ → ℕ → Part
-targetPartOf table recipients place = unlessRefused (refusedRecommending table recipients) noPart (targetAt table (given (addresses recipients)) place)
+targetPartOf table recipients place = unlessRefused (refusedRecommending table recipients) noPart (targetAt table (orElse [] (addresses recipients)) place)
 
 -- the key that this part is: that of the entry
 unfoldable pub targetKeyOf : List ℕ → List ℕ → ℕ → List ℕ
-targetKeyOf table recipients place = unlessRefused (refusedRecommending table recipients) [] (getD (targets table (given (addresses recipients))) place [])
+targetKeyOf table recipients place = unlessRefused (refusedRecommending table recipients) [] (getD (targets table (orElse [] (addresses recipients))) place [])
 
 -- the number of an answer
 abbrev pub numberRecommended : Recommended → ℕ

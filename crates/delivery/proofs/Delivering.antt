@@ -15,6 +15,7 @@ use borrow.Author.Tests.{not-true, not-false}
 use lib.Dec.{leb}
 use lib.ListN.{length, take, drop}
 use Rattle.octets.specs.Written.{onto}
+use Rattle.octets.specs.Options.{orElse, onlyOne}
 use Rattle.header.specs.Header.{FieldText, readable, limit}
 use Rattle.header.proofs.Fields.{fields-empty, clear-fits}
 use Rattle.date.specs.Date.{effectiveDate}
@@ -26,7 +27,7 @@ use Rattle.table.specs.Table.{freeCount}
 use Rattle.roll.specs.Roll.{rolled, unrolled}
 use Rattle.update.specs.Update.{updated, put}
 use Rattle.update.specs.Message.{Message, Gossiped, gossipAddresses, newcomers, addressesOf, hasRoom, heardAll, applied}
-use Rattle.fields.specs.Fields.{fieldsIn, readFields, valuesOf, onlyValue}
+use Rattle.fields.specs.Fields.{fieldsIn, valuesOf}
 use Rattle.fields.specs.declared.Kind.the-variants.{Date}
 use Rattle.fields.proofs.Values.{block-begin}
 use Rattle.fields.proofs.Walking.{survey-readable}
@@ -74,7 +75,7 @@ module _ (t : List ℕ) (receipt : ℕ) (sender outer : List ℕ) where
     unfolding hasRoom addressesOf messageBy
     room-for b e = rw g at e
 
-    dated : (r : Dated) → r ≡ datedOf (dateBy (onlyValue (valuesOf Date (fieldsIn outer)))) → (date : ℕ) → date ≡ effectiveDate (optionOf r) receipt → (u : List ℕ)
+    dated : (r : Dated) → r ≡ datedOf (dateBy (onlyOne (valuesOf Date (fieldsIn outer)))) → (date : ℕ) → date ≡ effectiveDate (optionOf r) receipt → (u : List ℕ)
         → u ≡ heardAll date gs (put t sender (updated date (directBy date (countedIn (fieldsIn outer) sender))))
         → u ≡ applied t (messageBy receipt sender (fieldsIn outer) payload)
     unfolding applied messageBy
@@ -91,7 +92,7 @@ module _ (t : List ℕ) (receipt : ℕ) (sender outer : List ℕ) where
     room-told = room-for (fieldsIn payload) (gossipFrom (unrolled recipients) payload 0) gossip-is
 
     pub put-dated :
-        (r : Dated) → r ≡ datedOf (dateBy (onlyValue (valuesOf Date (fieldsIn outer)))) → (date : ℕ) → date ≡ effectiveDate (optionOf r) receipt → (u : List ℕ)
+        (r : Dated) → r ≡ datedOf (dateBy (onlyOne (valuesOf Date (fieldsIn outer)))) → (date : ℕ) → date ≡ effectiveDate (optionOf r) receipt → (u : List ℕ)
         → u ≡ heardAll date (gossipFrom (unrolled recipients) payload 0) (put t sender (updated date (directBy date (countedIn (fieldsIn outer) sender))))
         → u ≡ applied t (messageBy receipt sender (fieldsIn outer) (fieldsIn payload))
     put-dated = dated (fieldsIn payload) (gossipFrom (unrolled recipients) payload 0) gossip-is
@@ -106,14 +107,14 @@ module _ (t : List ℕ) (receipt : ℕ) (sender outer : List ℕ) where
   alone-told = room-for [] [] none-said
 
   pub alone-dated :
-      (r : Dated) → r ≡ datedOf (dateBy (onlyValue (valuesOf Date (fieldsIn outer)))) → (date : ℕ) → date ≡ effectiveDate (optionOf r) receipt → (u : List ℕ)
+      (r : Dated) → r ≡ datedOf (dateBy (onlyOne (valuesOf Date (fieldsIn outer)))) → (date : ℕ) → date ≡ effectiveDate (optionOf r) receipt → (u : List ℕ)
       → u ≡ put t sender (updated date (directBy date (countedIn (fieldsIn outer) sender))) → u ≡ applied t (messageBy receipt sender (fieldsIn outer) [])
   unfolding heardAll
   alone-dated = dated [] [] none-said
 
   module _ (payload : List ℕ) (e : length payload ≡ 0) where
     no-fields : (s : List ℕ) → length s ≡ 0 → [] ≡ fieldsIn s
-    unfolding fieldsIn readFields
+    unfolding fieldsIn orElse
     no-fields [] q = rw fields-empty
     no-fields (x ∷ s) q = absurd (omega arith)
 

@@ -17,8 +17,8 @@ use lib.Dec.{leb, ltb}
 use lib.ListN.{length, take, drop, length-append}
 use native.Mathlib.Numerals.{add-one}
 use Rattle.octets.specs.Written.{putAt}
+use Rattle.octets.specs.Options.{isSome}
 use Rattle.octets.proofs.Lists.{lt-or-le}
-use Rattle.header.specs.Header.{isSome}
 use Rattle.header.specs.Answers.{fieldsFrom}
 use Rattle.address.specs.Address.{isCanonical}
 use Rattle.list.specs.List.{among}
@@ -28,7 +28,7 @@ use Rattle.table.specs.declared.Checked.the-variants.{Sound}
 use Rattle.table.specs.declared.Found.{Found}
 use Rattle.table.specs.declared.Found.the-variants.{At, Nothing}
 use Rattle.table.proofs.Entries.{slots-most}
-use Rattle.table.proofs.Replaced.{free-most}
+use Rattle.table.proofs.Lowest.{free-most}
 use Rattle.roll.specs.Roll.{entry, rolled, unrolled}
 use Rattle.roll.proofs.Rolls.{entry-length, rolled-none, unrolled-none, unrolled-taken}
 use Rattle.roll.proofs.Growing.{add-rolled}

@@ -13,7 +13,8 @@ use lib.Dec.{leb, eqb}
 use lib.ListN.{length, getD}
 use lib.Seq.{take-append-seam, drop-append-seam, drop-append-add, getD-append-seam}
 use Rattle.octets.specs.Octets.{octet}
-use Rattle.header.specs.Header.{lf, ofEnding, over, belongs, runLength, closes, rawLength, opensField, nameOf, afterColon, rawOf, restOf, unfolded, inFront, fields}
+use Rattle.octets.specs.Options.{inFront}
+use Rattle.header.specs.Header.{lf, ofEnding, over, belongs, runLength, closes, rawLength, opensField, nameOf, afterColon, rawOf, restOf, unfolded, fields}
 use Rattle.header.specs.Blocks.{isRaw}
 use Rattle.header.specs.declared.Class.{Class}
 use Rattle.header.specs.declared.Class.the-variants.{Name, Blank}

@@ -13,9 +13,11 @@ use mathlib.Core.List.{List, [], _∷_, _++_}
 use mathlib.Core.Option.{Option, some, none}
 use native.Mathlib.Omega.{arith}
 use Rattle.octets.specs.Octets.{sameOctets}
+use Rattle.octets.specs.Options.{onlyOne}
+use Rattle.octets.proofs.Options.{only-one}
 use Rattle.octets.proofs.Comparing.{same-true, same-refl}
 use Rattle.address.proofs.Every.{by-test}
-use Rattle.keyfield.specs.Field.{Field, fieldOf, naming, validFor, validFields, onlyOne, counted}
+use Rattle.keyfield.specs.Field.{Field, fieldOf, naming, validFor, validFields, counted}
 
 module _ (sender s : List ℕ) where
   pub naming-sender : (f : Field) → fieldOf s ≡ some f → f .address ≡ sender → validFor sender s ≡ some f
@@ -63,12 +65,6 @@ valid-append sender (x ∷ s) t = go (validFor sender x) refl (valid-append send
     go none e h = rw (validFields, validFields, e, h)
     go (some f) e h = rw (validFields, validFields, e, h)
 
-only-is : (fs : List Field) (f : Field) → onlyOne fs ≡ some f → fs ≡ f ∷ []
-unfolding onlyOne
-only-is [] f q = let z : _≡_ {A = ℕ} 0 1 = cc in absurd (omega arith)
-only-is (g ∷ []) f q = cc
-only-is (g ∷ h ∷ rest) f q = let z : _≡_ {A = ℕ} 0 1 = cc in absurd (omega arith)
-
 -- where one is valid, it is that of one of the values
 valid-all : (sender : List ℕ) (values : List (List ℕ)) (f : Field) → validFields sender values ≡ f ∷ []
     → (v : List ℕ) × ((fieldOf v ≡ some f) × (f .address ≡ sender))
@@ -101,7 +97,7 @@ module _ (sender : List ℕ) (values : List (List ℕ)) where
   -- what counts is the one that is valid
   pub counted-is : (f : Field) → counted values sender ≡ some f → validFields sender values ≡ f ∷ []
   unfolding counted
-  counted-is f e = only-is (validFields sender values) f e
+  counted-is f e = only-one (validFields sender values) f e
 
   pub counted-value : (f : Field) → counted values sender ≡ some f → (v : List ℕ) × (fieldOf v ≡ some f)
   counted-value f e = let h = valid-all sender values f (counted-is f e) in (h .0, h .1 .0)

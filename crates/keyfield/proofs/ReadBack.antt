@@ -16,7 +16,10 @@ use native.Mathlib.Omega.{arith}
 use borrow.Author.Tests.{lt-ltb, eq-eqb, ne-eqb, not-true}
 use lib.Dec.{eqb}
 use lib.ListN.{length, length-append}
+use Rattle.keyfield.proofs.Cutting.{holds-some}
 use Rattle.octets.specs.Octets.{ascii, sameOctets}
+use Rattle.octets.specs.Finding.{holds}
+use Rattle.octets.proofs.Finding.{by}
 use Rattle.tokens.specs.Tokens.{blank, belongs}
 use Rattle.base64.specs.Base64.{without, withoutBlanks, blank as blankIn}
 use Rattle.base64.proofs.Blanks.{without-passing, without-other}
@@ -25,7 +28,7 @@ use Rattle.address.specs.Address.{plain, canonical, addressOctet}
 use Rattle.address.proofs.Every.{and-left, every-weaker}
 use Rattle.address.proofs.Pieces.{others, before-into, behind-into, pieces-into, pieces-whole}
 use Rattle.address.proofs.Sides.{plain-octets, low-apart}
-use Rattle.keyfield.specs.Field.{trimmedFront, trimmedBack, trimmed, nameOf, addr, preferEncrypt, keydata, attribute, holds, attributeOf, on, last, withAddress, withPreference, step, saidWith, ifLast, saidFrom, saidOf, keyOf, withKey, fieldBy, fieldOf}
+use Rattle.keyfield.specs.Field.{trimmedFront, trimmedBack, trimmed, nameOf, addr, preferEncrypt, keydata, attribute, attributeOf, on, last, withAddress, withPreference, step, saidWith, ifLast, saidFrom, saidOf, keyOf, withKey, fieldBy, fieldOf}
 use Rattle.keyfield.specs.declared.Name.the-variants.{Keydata}
 use Rattle.keyfield.proofs.Trimming.{front-blank, front-other, every-reverse}
 
@@ -54,8 +57,7 @@ module _ (n v : List ℕ) (e : every (other 61) n ≡ true) where
   joined-behind = behind-into (other 61) 61 (other-self 61) n (61 ∷ v) e
 
   joined-holds : holds 61 (n ++ (61 ∷ v)) ≡ true
-  unfolding holds
-  joined-holds = rw joined-before (lt-ltb (length n) (length (n ++ (61 ∷ v))) (simp length-append (omega arith)))
+  joined-holds = holds-some 61 (by 61 (n ++ (61 ∷ v))) (rw joined-before (simp length-append (omega arith)))
 
   pub attribute-joined : attributeOf (n ++ (61 ∷ v)) ≡ attribute (nameOf (trimmed n)) (trimmed v)
   unfolding attributeOf

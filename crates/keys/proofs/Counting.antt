@@ -9,7 +9,7 @@ use mathlib.Core.List.{List, [], _∷_}
 use mathlib.Core.Option.{Option, some, none}
 use borrow.Author.Needs.{needs}
 use lib.ListN.{length, take}
-use Rattle.header.specs.Header.{isSome}
+use Rattle.octets.specs.Options.{isSome}
 use Rattle.header.specs.Answers.{fieldsFrom}
 use Rattle.slots.specs.Slot.{keyLimit}
 use Rattle.keyfield.specs.Field.{Field, validFields}

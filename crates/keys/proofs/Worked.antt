@@ -6,40 +6,17 @@ use mathlib.Core.Bool.{false}
 use mathlib.Core.List.{[], _∷_, map}
 use mathlib.Core.Option.{Option, some, none}
 use Rattle.octets.specs.Octets.{ascii, lower, lowered, sameName, sameOctets, startsWith}
+use Rattle.octets.specs.Options.{onlyOne, orElse, inFront}
+use Rattle.octets.specs.Finding.{holds}
 use Rattle.header.specs.Header as header
 use Rattle.tokens.specs.Tokens.{blank, belongs}
 use Rattle.base64.specs.Base64 as base64
 use Rattle.address.specs.Pieces.{every, onFirst, pieces, before, behind}
 use Rattle.address.specs.Address.{atom, localPart, labelOctet, freeEnds, label, domain, plain, canonical}
 use Rattle.list.specs.List.{among}
-use Rattle.keyfield.specs.Field.{
-  Field,
-  trimmedFront,
-  trimmedBack,
-  trimmed,
-  nameOf,
-  attribute,
-  holds,
-  attributeOf,
-  withAddress,
-  withPreference,
-  step,
-  saidWith,
-  ifLast,
-  saidFrom,
-  saidOf,
-  limited,
-  keyOf,
-  withKey,
-  fieldBy,
-  fieldOf,
-  naming,
-  validFields,
-  onlyOne,
-  counted,
-}
+use Rattle.keyfield.specs.Field.{Field, trimmedFront, trimmedBack, trimmed, nameOf, attribute, attributeOf, withAddress, withPreference, step, saidWith, ifLast, saidFrom, saidOf, limited, keyOf, withKey, fieldBy, fieldOf, naming, validFields, counted}
 use Rattle.update.specs.Message.{Gossiped}
-use Rattle.fields.specs.Fields.{readFields, fieldsIn, isKind, valuesOf}
+use Rattle.fields.specs.Fields.{fieldsIn, isKind, valuesOf}
 use Rattle.keys.specs.Keys.{countedIn, acceptedBy, accepted, gossipIn}
 
 abbrev countedOf : String → Option Field
@@ -59,7 +36,7 @@ counts :
     ∷ "Autocrypt: addr=c@d; keydata=Zg=="
     ∷ [])
     ≡ key "f" ∷ key "f" ∷ none ∷ none ∷ none ∷ []
-unfolding header.fieldsOf header.fields header.fieldsWithin header.inFront header.unfolded header.over header.ofEnding header.opensField header.runLength header.rawLength header.belongs header.closes sameName sameOctets startsWith lowered lower trimmedFront trimmedBack trimmed nameOf attribute holds attributeOf withAddress withPreference step saidWith ifLast saidFrom saidOf limited keyOf withKey fieldBy fieldOf naming validFields onlyOne counted base64.decode base64.follow base64.before base64.atEnd base64.grouped base64.closed base64.signOf base64.without base64.blank blank belongs every onFirst pieces before behind atom localPart labelOctet freeEnds label domain plain canonical readFields fieldsIn isKind valuesOf countedIn
+unfolding header.fieldsOf header.fields header.fieldsWithin inFront header.unfolded header.over header.ofEnding header.opensField header.runLength header.rawLength header.belongs header.closes sameName sameOctets startsWith lowered lower trimmedFront trimmedBack trimmed nameOf attribute holds attributeOf withAddress withPreference step saidWith ifLast saidFrom saidOf limited keyOf withKey fieldBy fieldOf naming validFields onlyOne counted base64.decode base64.follow base64.before base64.atEnd base64.grouped base64.closed base64.signOf base64.without base64.blank blank belongs every onFirst pieces before behind atom localPart labelOctet freeEnds label domain plain canonical orElse fieldsIn isKind valuesOf countedIn
 counts = refl
 
 abbrev gossip : String → String → Gossiped
@@ -72,5 +49,5 @@ heard :
     (ascii
     "Autocrypt-Gossip: addr=a@B; keydata=Zg==\nAutocrypt-Gossip: addr=x@y; keydata=Zg==\nautocrypt-gossip: addr=c@d; prefer-encrypt=mutual; keydata=Zm9v\nAutocrypt: addr=a@b; keydata=Zm9v\nAutocrypt-Gossip: addr=c@d\nAutocrypt-Gossip: addr=a@b; keydata=Zm9v"))
     ≡ gossip "a@b" "f" ∷ gossip "c@d" "foo" ∷ gossip "a@b" "foo" ∷ []
-unfolding header.fieldsOf header.fields header.fieldsWithin header.inFront header.unfolded header.over header.ofEnding header.opensField header.runLength header.rawLength header.belongs header.closes sameName sameOctets startsWith lowered lower trimmedFront trimmedBack trimmed nameOf attribute holds attributeOf withAddress withPreference step saidWith ifLast saidFrom saidOf limited keyOf withKey fieldBy fieldOf base64.decode base64.follow base64.before base64.atEnd base64.grouped base64.closed base64.signOf base64.without base64.blank blank belongs every onFirst pieces before behind atom localPart labelOctet freeEnds label domain plain canonical among readFields fieldsIn isKind valuesOf acceptedBy accepted gossipIn
+unfolding header.fieldsOf header.fields header.fieldsWithin inFront header.unfolded header.over header.ofEnding header.opensField header.runLength header.rawLength header.belongs header.closes sameName sameOctets startsWith lowered lower trimmedFront trimmedBack trimmed nameOf attribute holds attributeOf withAddress withPreference step saidWith ifLast saidFrom saidOf limited keyOf withKey fieldBy fieldOf base64.decode base64.follow base64.before base64.atEnd base64.grouped base64.closed base64.signOf base64.without base64.blank blank belongs every onFirst pieces before behind atom localPart labelOctet freeEnds label domain plain canonical among orElse fieldsIn isKind valuesOf acceptedBy accepted gossipIn
 heard = refl

@@ -9,13 +9,12 @@ use mathlib.Core.Bool.{Bool, true}
 use mathlib.Core.List.{List, [], _∷_}
 use mathlib.Core.Option.{Option, some, none}
 use lib.ListN.{length, take}
-use Rattle.header.specs.Header.{isSome}
+use Rattle.octets.specs.Options.{isSome, orElse}
 use Rattle.header.specs.Answers.{fieldsFrom}
 use Rattle.address.specs.Address.{isCanonical}
 use Rattle.slots.specs.Slot.{keyLimit}
 use Rattle.keyfield.specs.Field.{Field, validFields}
 use Rattle.update.specs.Message.{Gossiped}
-use Rattle.fields.specs.Fields.{readFields}
 use Rattle.fields.specs.Answers.{valuesFrom}
 use Rattle.fields.specs.declared.Kind.the-variants.{Autocrypt}
 use Rattle.keys.specs.Keys.{gossipIn}
@@ -68,7 +67,7 @@ AcceptedAs gossip address key (Gossip n k) = AcceptedAt gossip address key n k
 AcceptedAs gossip address key NotAccepted = gossip ≡ none
 
 unfoldable pub gossipFrom : List (List ℕ) → List ℕ → ℕ → List Gossiped
-gossipFrom recipients payload at = gossipIn recipients (readFields (fieldsFrom payload at))
+gossipFrom recipients payload at = gossipIn recipients (orElse [] (fieldsFrom payload at))
 
 -- The first accepted gossip has this address, in canonical form, and this key, which open the two lent memories, and the rest stand from e on.
 pub record HeardAt (recipients : List (List ℕ)) (payload : List ℕ) (at : ℕ) (address key : List ℕ) (e n k : ℕ) : Type 0 where

@@ -8,7 +8,7 @@ ghost use mathlib.Core.Path.{_≡_};
 ghost use mathlib.Core.Bool.{true};
 ghost use mathlib.Core.List.{[]};
 ghost use lib.ListN.{length};
-ghost use Rattle.header.specs.Header.{isSome};
+ghost use Rattle.octets.specs.Options.{isSome};
 ghost use Rattle.header.specs.Answers.{fieldsFrom};
 ghost use Rattle.address.specs.Address.{isCanonical};
 ghost use Rattle.slots.specs.Slot.{addressRoom, keyLimit};

@@ -17,6 +17,8 @@ use native.Mathlib.Nat.{sub-zero}
 use borrow.Author.Needs.{needs}
 use lib.ListN.{length, getD, take, drop}
 use lib.Seq.{drop-drop}
+use Rattle.octets.specs.Finding.{holds}
+use Rattle.octets.specs.Octets.{octet}
 use Rattle.octets.proofs.Lists.{lt-or-le, drop-one, drop-done}
 use Rattle.tokens.specs.Tokens.{past, skipped, afterQuote}
 use Rattle.tokens.specs.Answers.{reached}
@@ -28,7 +30,7 @@ use Rattle.tokens.proofs.Quoting.{quoted-to, quoted-unreadable}
 use Rattle.address.specs.Pieces.{run}
 use Rattle.address.specs.Address.{addressOctet, plain}
 use Rattle.address.proofs.Running.{Ran, ran}
-use Rattle.list.specs.List.{openingOf, holdsAt, Token, runToken, quotedToken, tokenAt, firstToken}
+use Rattle.list.specs.List.{openingOf, Token, runToken, quotedToken, tokenAt, firstToken}
 use Rattle.list.specs.Answers.{between, foundIn, Inside}
 use Rattle.list.specs.declared.token.Sort.{Sort}
 use Rattle.list.specs.declared.token.Sort.the-variants.{Word}
@@ -65,7 +67,7 @@ module _ (s : List ℕ) (from to : ℕ) (l : from < length s) (e : to ≡ from +
     unfolding foundIn runToken
     run-address t = rw (runToken, octets-run, sym p ∙ t, octets-run, behind-run)
 
-    module _ (f : b ≡ false) (h : Bool) (q : h ≡ holdsAt (between s from to)) where
+    module _ (f : b ≡ false) (h : Bool) (q : h ≡ holds (octet "@") (between s from to)) where
       pub run-unread : h ≡ true → foundIn s Unfound ≡ runToken (drop from s)
       unfolding foundIn runToken
       run-unread t = rw (runToken, octets-run, sym p ∙ f, octets-run, sym q ∙ t)

@@ -24,7 +24,7 @@ use Rattle.list.specs.declared.Handed.{Handed}
 use Rattle.list.specs.declared.Handed.the-variants.{Address, End, Unreadable}
 use Rattle.list.specs.declared.Move.{Move}
 use Rattle.list.specs.declared.Move.the-variants.{On, Done}
-use Rattle.list.proofs.Listing.{shorter, listed-address, listed-address-wrong, listed-other, listed-other-wrong, listed-end, listed-unread}
+use Rattle.list.proofs.Listing.{stands, listed-address, listed-address-wrong, listed-other, listed-other-wrong, listed-end, listed-unread}
 
 module _ (s : List ℕ) (c : Cursor) (g : Found) (e : foundIn s g ≡ firstToken (drop (c .at) s)) where
   found : (k : Found) → g ≡ k → firstToken (drop (c .at) s) ≡ foundIn s k
@@ -43,7 +43,7 @@ module _ (s : List ℕ) (c : Cursor) (g : Found) (e : foundIn s g ≡ firstToken
         let h : Inside s (c .at) (AddressAt from to) = rw q at i in
         record {
           gives = listed-address (c .stage) (c .inside) (drop (c .at) s) (between s from to) (drop to s) first next inner (sym p ∙ t);
-          whole = shorter (drop (c .at) s) (address (between s from to) (drop to s)) first .1;
+          whole = stands (drop (c .at) s) (address (between s from to) (drop to s)) first .1;
           behind = h .0;
           long = h .1;
           upto = h .2;

@@ -12,11 +12,13 @@ use borrow.Author.Needs.{needs}
 use borrow.Author.Tests.{eq-eqb, ne-eqb}
 use lib.Dec.{eqb}
 use lib.ListN.{length, getD, drop}
+use Rattle.octets.specs.Finding.{holds}
+use Rattle.octets.specs.Octets.{octet}
 use Rattle.octets.proofs.Lists.{drop-one, drop-done}
 use Rattle.tokens.specs.Tokens.{belongs}
 use Rattle.tokens.specs.declared.Class.the-variants.{Atom}
 use Rattle.address.specs.Address.{addressOctet}
-use Rattle.list.specs.List.{markOf, openingOf, holdsAt}
+use Rattle.list.specs.List.{markOf, openingOf}
 use Rattle.list.specs.declared.token.Opening.{Opening}
 use Rattle.list.specs.declared.token.Opening.the-variants.{Run, Nothing}
 
@@ -43,22 +45,22 @@ module _ (x : ℕ) (b : Bool) (e : b ≡ addressOctet x) where
 pub ruleset telling = (in-run, opens-run, opens-mark, opens-nothing, needs)
 
 pub record Looks (s : List ℕ) (i : ℕ) : Type 0 where
-  pub so-far : holdsAt s ≡ holdsAt (drop i s)
+  pub so-far : holds (octet "@") s ≡ holds (octet "@") (drop i s)
 
 pub looks-begin : (s : List ℕ) → Looks s 0
 looks-begin s = record { so-far = refl }
 
 module _ (s : List ℕ) (i : ℕ) (h : Looks s i) where
-  pub looks-end : length s ≤ i → false ≡ holdsAt s
-  unfolding holdsAt
+  pub looks-end : length s ≤ i → false ≡ holds (octet "@") s
+  unfolding holds
   looks-end l = sym (h .so-far ∙ rw (drop-done s i l))
 
-  pub looks-found : i < length s → getD s i 0 ≡ 64 → true ≡ holdsAt s
-  unfolding holdsAt
+  pub looks-found : i < length s → getD s i 0 ≡ 64 → true ≡ holds (octet "@") s
+  unfolding holds
   looks-found l e = sym (h .so-far ∙ rw (drop-one s i l, eq-eqb (getD s i 0) 64 e))
 
   pub looks-on : i < length s → (getD s i 0 ≡ 64 → ⊥) → Looks s (i + 1)
-  unfolding holdsAt
+  unfolding holds
   looks-on l n = record { so-far = h .so-far ∙ rw (drop-one s i l, ne-eqb (getD s i 0) 64 n) }
 
 pub ruleset looking = (looks-begin, looks-end, looks-found, looks-on, needs)

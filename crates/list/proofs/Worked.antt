@@ -7,10 +7,12 @@ use mathlib.Core.List.{List, [], _∷_, _++_, map}
 use mathlib.Core.Option.{some, none}
 use lib.ListN.{replicate}
 use Rattle.octets.specs.Octets.{ascii, octet}
+use Rattle.octets.specs.Options.{inFront}
+use Rattle.octets.specs.Finding.{holds}
 use Rattle.tokens.specs.Tokens.{control, blank, kindOf, past, afterQuote, belongs}
 use Rattle.address.specs.Pieces.{every, onFirst, pieces, before, behind, run}
 use Rattle.address.specs.Address.{addressOctet, atom, localPart, labelOctet, freeEnds, label, domain, plain}
-use Rattle.list.specs.List.{openingOf, holdsAt, runToken, quotedToken, tokenAt, firstToken, afterAddress, after, inFront, listedBy, listed, addresses}
+use Rattle.list.specs.List.{openingOf, runToken, quotedToken, tokenAt, firstToken, afterAddress, after, listedBy, listed, addresses}
 
 abbrev Readable : String → List String → Type 0
 Readable s list = addresses (ascii s) ≡ some (map ascii list)
@@ -60,5 +62,5 @@ pub worked :
     × Unread "\"c <a@b>"
     × (addresses (nested 16) ≡ some (ascii "a@b" ∷ []))
     × (addresses (nested 17) ≡ none)
-unfolding openingOf holdsAt runToken quotedToken tokenAt firstToken afterAddress after inFront listedBy listed addresses addressOctet atom localPart labelOctet freeEnds label domain plain every onFirst pieces before behind run control blank kindOf past afterQuote belongs
+unfolding openingOf holds runToken quotedToken tokenAt firstToken afterAddress after inFront listedBy listed addresses addressOctet atom localPart labelOctet freeEnds label domain plain every onFirst pieces before behind run control blank kindOf past afterQuote belongs
 worked = (refl, refl, refl, refl, refl, refl, refl, refl, refl, refl, refl, refl, refl, refl, refl, refl, refl, refl, refl, refl, refl, refl, refl, refl, refl, refl, refl, refl, refl, refl, refl, refl, refl, refl, refl, refl, refl)

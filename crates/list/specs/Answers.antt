@@ -3,15 +3,16 @@
 --     beginning, left      the first cursor, and what the list still gives from a cursor on
 --     Hands, Moved         what is handed out from a cursor, and what one token brings
 --     countedOf            how many addresses there are
---     onlyIn, onlyOf       the one address of a list that has no other
+--     onlyIn, Within       the one address of a list that has no other, and that it lies in the list
 use Prim.Native.Nat.{ℕ, _-_, _<_, _≤_}
 use mathlib.Core.Path.{_≡_}
 use mathlib.Core.Bool.{true, false}
 use mathlib.Core.List.{List, [], _∷_}
 use mathlib.Core.Option.{Option, some, none}
 use lib.ListN.{length, take, drop}
+use Rattle.octets.specs.Options.{inFront}
 use Rattle.address.specs.Address.{plain}
-use Rattle.list.specs.List.{Token, address, other, end, unreadable, inFront, listed}
+use Rattle.list.specs.List.{Token, address, other, end, unreadable, listed}
 use Rattle.list.specs.declared.grammar.Stage.the-variants.{Place}
 use Rattle.list.specs.declared.token.Found.{Found}
 use Rattle.list.specs.declared.token.Found.the-variants.{Address as AddressAt, Other as OtherAt, End as Over, Unreadable as Unfound}
@@ -78,13 +79,7 @@ unfoldable pub countedOf : Option (List (List ℕ)) → Counted
 countedOf none = Uncounted
 countedOf (some list) = Count (length list)
 
--- the one address of a list of exactly one
-unfoldable pub onlyOf : Option (List (List ℕ)) → Option (List ℕ)
-onlyOf none = none
-onlyOf (some []) = none
-onlyOf (some (a ∷ [])) = some a
-onlyOf (some (a ∷ b ∷ rest)) = none
-
+-- the one address of a list that has no other, by its places
 unfoldable pub onlyIn : List ℕ → Only → Option (List ℕ)
 onlyIn s (One from to) = some (between s from to)
 onlyIn s Other = none

@@ -4,7 +4,6 @@
 --     afterAddress, after, mayEnd          the grammar
 --     listed, addresses                    the addresses of a list, none where it is unreadable
 --     among                                an address is one of some
---     given, isGiven                       the addresses of a readable list, and whether it is one
 use Prim.Native.Nat.{ℕ, zero, suc}
 use mathlib.Core.Bool.{Bool, true, false, cond, not, _||_}
 use mathlib.Core.List.{List, [], _∷_}
@@ -12,6 +11,8 @@ use mathlib.Core.Option.{Option, some, none}
 use lib.Dec.{eqb}
 use lib.ListN.{length, take, drop}
 use Rattle.octets.specs.Octets.{octet, sameOctets}
+use Rattle.octets.specs.Finding.{holds}
+use Rattle.octets.specs.Options.{inFront}
 use Rattle.tokens.specs.Tokens.{skipped, afterQuote}
 use Rattle.address.specs.Pieces.{run}
 use Rattle.address.specs.Address.{addressOctet, plain, canonical}
@@ -38,11 +39,6 @@ markOf x =
 unfoldable pub openingOf : ℕ → Opening
 openingOf x = cond (addressOctet x) Run (markOf x)
 
--- is there an "@" in it?
-unfoldable pub holdsAt : List ℕ → Bool
-holdsAt [] = false
-holdsAt (x ∷ s) = eqb x (octet "@") || holdsAt s
-
 -- an address, or another token, and the octets behind it; or the end; or what cannot be read
 pub data Token : Type 0 where
   address : List ℕ → List ℕ → Token
@@ -57,7 +53,7 @@ runToken s =
     let n = run addressOctet s in
     elim (plain (take n s)) [
       | true ↦ address (take n s) (drop n s)
-      | false ↦ elim (holdsAt (take n s)) [ true ↦ unreadable | false ↦ other Word (drop n s) ]
+      | false ↦ elim (holds (octet "@") (take n s)) [ true ↦ unreadable | false ↦ other Word (drop n s) ]
     ]
 
 -- "words (.. quoted strings)", the opening quote being the first octet of s
@@ -156,11 +152,6 @@ mayEnd Angle inside = false
 mayEnd Closing inside = false
 mayEnd Behind inside = not inside
 
--- an address in front of those that follow; none where what follows is unreadable
-unfoldable pub inFront : List ℕ → Option (List (List ℕ)) → Option (List (List ℕ))
-inFront a none = none
-inFront a (some rest) = some (a ∷ rest)
-
 -- the addresses that the octets s give from a place of the grammar on, of fewer than n tokens
 unfoldable pub listedBy : ℕ → Stage → Bool → List ℕ → Option (List (List ℕ))
 listedBy zero stage inside s = none
@@ -188,12 +179,3 @@ addresses s = listed Place false s
 unfoldable pub among : List ℕ → List (List ℕ) → Bool
 among a [] = false
 among a (b ∷ rest) = sameOctets (canonical b) (canonical a) || among a rest
-
--- "a readable To, Cc or Reply-To": the addresses of a list that is readable, and whether it is
-unfoldable pub given : Option (List (List ℕ)) → List (List ℕ)
-given none = []
-given (some list) = list
-
-unfoldable pub isGiven : Option (List (List ℕ)) → Bool
-isGiven none = false
-isGiven (some list) = true

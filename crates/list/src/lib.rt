@@ -7,8 +7,10 @@ use grammar::Stage;
 use grammar::Step;
 use token::Found;
 ghost use mathlib.Core.Path.{_≡_};
+ghost use mathlib.Core.List.{[]};
+ghost use Rattle.octets.specs.Options.{onlyOne, orElse};
 ghost use Rattle.list.specs.List.{addresses};
-ghost use Rattle.list.specs.Answers.{beginning, Hands, Moved, countedOf, onlyIn, onlyOf, Within};
+ghost use Rattle.list.specs.Answers.{beginning, Hands, Moved, countedOf, onlyIn, Within};
 
 pub struct Cursor {
     pub at: usize,
@@ -131,7 +133,7 @@ pub fn count(list: &[u8]) -> Counted
 
 // The one address of a list of exactly one.
 pub fn only_address(list: &[u8]) -> Only
-    ensures { λ r. ⌜ onlyIn (now (list .entry)) r ≡ onlyOf (addresses (now (list .entry))) ⌝ }
+    ensures { λ r. ⌜ onlyIn (now (list .entry)) r ≡ onlyOne (orElse [] (addresses (now (list .entry)))) ⌝ }
     ensures { λ r. ⌜ Within (now (list .entry)) r ⌝ }
 {
     match next_address(list, start()) {

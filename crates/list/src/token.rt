@@ -6,9 +6,11 @@ ghost use Prim.Native.Nat.{_+_, _<_};
 ghost use mathlib.Core.Path.{_≡_};
 ghost use mathlib.Core.Bool.{true};
 ghost use lib.ListN.{length, getD, drop};
+ghost use Rattle.octets.specs.Finding.{holds};
+ghost use Rattle.octets.specs.Octets.{octet};
 ghost use Rattle.address.specs.Address.{addressOctet};
 ghost use Rattle.address.specs.Pieces.{run as runOf};
-ghost use Rattle.list.specs.List.{holdsAt, openingOf, runToken, quotedToken, tokenAt, firstToken};
+ghost use Rattle.list.specs.List.{openingOf, runToken, quotedToken, tokenAt, firstToken};
 ghost use Rattle.list.specs.Answers.{foundIn, Inside};
 
 // The sorts of tokens besides addresses.
@@ -59,7 +61,7 @@ fn run_end(list: &[u8], at: usize) -> usize
 }
 
 fn holds_at(text: &[u8]) -> bool
-    ensures { λ r. ⌜ r ≡ holdsAt (now (text .entry)) ⌝ }
+    ensures { λ r. ⌜ r ≡ holds (octet "@") (now (text .entry)) ⌝ }
 {
     let mut i = 0;
     while i < text.len() {

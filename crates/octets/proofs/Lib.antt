@@ -7,3 +7,4 @@ pub mod Finding
 pub mod Copying
 pub mod Numerals
 pub mod Joined
+pub mod Options

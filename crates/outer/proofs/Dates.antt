@@ -11,6 +11,7 @@ use native.Mathlib.Omega.{arith}
 use borrow.Author.Needs.{needs}
 use lib.ListN.{length, take, drop}
 use Rattle.octets.specs.Written.{onto}
+use Rattle.octets.specs.Options.{onlyOne}
 use Rattle.header.specs.Header.{FieldText}
 use Rattle.header.proofs.Unfolding.{value-within, value-there-from}
 use Rattle.date.specs.Date.{dateOf, effectiveDate}
@@ -19,7 +20,7 @@ use Rattle.date.specs.declared.Dated.{Dated}
 use Rattle.date.specs.declared.Dated.the-variants.{Unavailable}
 use Rattle.date.proofs.Effective.{option-dated, effective-upto}
 use Rattle.slots.specs.Slot.{timeLimit}
-use Rattle.fields.specs.Fields.{valuesOf, onlyValue}
+use Rattle.fields.specs.Fields.{valuesOf}
 use Rattle.fields.specs.Answers.{valueAt, valueIn}
 use Rattle.fields.specs.declared.Kind.the-variants.{Date}
 use Rattle.fields.specs.declared.Only.{Only}
@@ -41,12 +42,12 @@ module _ (s : List ℕ) (k : Only) (o : Option (List ℕ)) (p : valueIn s k ≡ 
 pub ruleset dating = (dated-none, dated-by, value-within, valued, needs)
 
 pub date-effective :
-    (fs : List FieldText) (receipt : ℕ) (r : Dated) → r ≡ datedOf (dateBy (onlyValue (valuesOf Date fs))) → effectiveDate (optionOf r) receipt ≡ dateIn fs receipt
+    (fs : List FieldText) (receipt : ℕ) (r : Dated) → r ≡ datedOf (dateBy (onlyOne (valuesOf Date fs))) → effectiveDate (optionOf r) receipt ≡ dateIn fs receipt
 unfolding dateIn
 date-effective fs receipt r h =
-    let o : Option ℕ = dateBy (onlyValue (valuesOf Date fs)) in
+    let o : Option ℕ = dateBy (onlyOne (valuesOf Date fs)) in
     ap (λ (d : Option ℕ). effectiveDate d receipt) (ap optionOf h ∙ option-dated o)
 
 pub date-in-range : (fs : List FieldText) (receipt : ℕ) → receipt ≤ timeLimit → dateIn fs receipt ≤ timeLimit
 unfolding dateIn
-date-in-range fs receipt h = omega (arith, effective-upto (dateBy (onlyValue (valuesOf Date fs))) receipt)
+date-in-range fs receipt h = omega (arith, effective-upto (dateBy (onlyOne (valuesOf Date fs))) receipt)

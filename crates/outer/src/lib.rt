@@ -6,10 +6,11 @@ ghost use Prim.Native.Nat.{_≤_};
 ghost use mathlib.Core.Path.{_≡_};
 ghost use lib.ListN.{length};
 ghost use Rattle.octets.specs.Written.{onto};
+ghost use Rattle.octets.specs.Options.{onlyOne};
 ghost use Rattle.slots.specs.Slot.{addressRoom};
 ghost use Rattle.date.specs.Answers.{datedOf};
 ghost use Rattle.roll.specs.Roll.{rolled};
-ghost use Rattle.fields.specs.Fields.{fieldsIn, valuesOf, onlyValue};
+ghost use Rattle.fields.specs.Fields.{fieldsIn, valuesOf};
 ghost use Rattle.fields.specs.declared.Kind.the-variants.{Date};
 ghost use Rattle.fields.specs.Spans.{SurveyAs};
 ghost use Rattle.outer.specs.Outer.{senderIn, isReported, dateBy, recipientsIn};
@@ -72,7 +73,7 @@ pub fn is_report(block: &[u8], survey: Survey, text: &mut [u8]) -> bool
 // The Date, where there is exactly one Date field.
 pub fn date(block: &[u8], survey: Survey, text: &mut [u8]) -> Dated
     requires { ⌜ SurveyAs (now block) survey × (length (now block) ≤ length (now text)) ⌝ }
-    ensures { λ r. ⌜ r ≡ datedOf (dateBy (onlyValue (valuesOf Date (fieldsIn (now (block .entry)))))) ⌝ }
+    ensures { λ r. ⌜ r ≡ datedOf (dateBy (onlyOne (valuesOf Date (fieldsIn (now (block .entry)))))) ⌝ }
 {
     match fields::only_field(block, survey.date, Kind::Date) {
         Only::One { value, end } => {

@@ -11,8 +11,9 @@ use borrow.Author.Tests.{leb-true, ne-eqb}
 use lib.Dec.{leb, eqb}
 use lib.ListN.{length, getD}
 use Rattle.octets.specs.Octets.{octet}
+use Rattle.octets.specs.Options.{inFront}
 use Rattle.address.proofs.Every.{and-left, by-test}
-use Rattle.header.specs.Header.{belongs, runLength, unfolded, FieldText, inFront, fields}
+use Rattle.header.specs.Header.{belongs, runLength, unfolded, FieldText, fields}
 use Rattle.header.specs.declared.Class.the-variants.{Name, Blank}
 use Rattle.header.proofs.InFront.{field-in-front}
 use Rattle.promises.specs.RoundTrip.{Lines, none, one, inFrontAll}

@@ -11,9 +11,10 @@ use mathlib.Core.Bool.{Bool, true, false}
 use mathlib.Core.List.{List, [], _∷_}
 use mathlib.Core.Option.{Option, some, none}
 use Rattle.octets.specs.Octets.{sameOctets}
+use Rattle.octets.specs.Options.{orElse, IfSome}
 use Rattle.octets.proofs.Comparing.{same-true}
 use Rattle.address.proofs.Every.{by-test}
-use Rattle.slots.specs.Entry.{Direct, Entry, orElse, newcomer, GoodHalf}
+use Rattle.slots.specs.Entry.{Direct, Entry, newcomer}
 use Rattle.update.specs.Update.{updated, heard}
 use Rattle.update.proofs.Halves.{heard-again}
 use Rattle.update.specs.Message.{Gossiped, Message, entryPut, entryHeard, entryAfter}
@@ -74,7 +75,7 @@ entry-parts m b e = heard-all (m .date) b (m .gossip) _ ∙ ap (heardOf b (m .da
 
 -- of an address without an entry nothing has to be known
 unfoldable pub Known : Option Entry → Type 0
-Known e = GoodHalf Timely e
+Known e = IfSome Timely e
 
 known-else : (b : List ℕ) (e : Option Entry) → Known e → Timely (orElse (newcomer b) e)
 unfolding Known Timely newcomer

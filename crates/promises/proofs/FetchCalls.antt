@@ -17,7 +17,7 @@ use borrow.Author.Tests.{leb-true}
 use lib.Dec.{leb}
 use Rattle.octets.specs.Octets.{AllOctets}
 use Rattle.header.specs.Header.{FieldText, fieldsOf}
-use Rattle.header.proofs.Octetwise.{ValuesOctets}
+use Rattle.header.proofs.Values.{ValuesOctets}
 use Rattle.address.proofs.Every.{by-test}
 use Rattle.slots.specs.Slot.{timeLimit}
 use Rattle.table.specs.Table.{checked}

@@ -10,8 +10,9 @@ use mathlib.Core.List.{List, []}
 use mathlib.Core.Option.{Option, some, none}
 use lib.ListN.{getD}
 use Rattle.octets.specs.Octets.{AllOctets}
+use Rattle.octets.specs.Options.{orElse}
 use Rattle.address.specs.Address.{plain, canonical}
-use Rattle.list.specs.List.{addresses, among, given}
+use Rattle.list.specs.List.{addresses, among}
 use Rattle.list.proofs.Readable.{plain-alone}
 use Rattle.keyfield.specs.Field.{validFields}
 use Rattle.slots.specs.Entry.{Direct}
@@ -36,10 +37,10 @@ use Rattle.promises.specs.Standing.{directHalf, gossipHalf, noneAbout}
 use Rattle.promises.proofs.WholeTrip.{left-sound, autocrypt-processed, gossip-processed}
 
 pub alone-taken : (t a : List ℕ) → checked t ≡ Sound → plain a ≡ true → targetKeyOf t a 0 ≡ targetIn t a
-unfolding targetKeyOf refusedRecommending refusedBy checkedAs recipientList unlessRefused given targets
+unfolding targetKeyOf refusedRecommending refusedBy checkedAs recipientList unlessRefused orElse targets
 alone-taken t a s p =
-    ap (λ (c : Checked). unlessRefused (refusedBy (checkedAs c) (addresses a)) [] (getD (targets t (given (addresses a))) 0 [])) s
-    ∙ ap (λ (list : Option (List (List ℕ))). unlessRefused (refusedBy (checkedAs Sound) list) [] (getD (targets t (given list)) 0 [])) (plain-alone a p)
+    ap (λ (c : Checked). unlessRefused (refusedBy (checkedAs c) (addresses a)) [] (getD (targets t (orElse [] (addresses a))) 0 [])) s
+    ∙ ap (λ (list : Option (List (List ℕ))). unlessRefused (refusedBy (checkedAs Sound) list) [] (getD (targets t (orElse [] list)) 0 [])) (plain-alone a p)
 
 module _ (t : List ℕ) (receipt : ℕ) (outer payload : List ℕ) (setting : Gossip) (table-octets : AllOctets t) (outer-octets : AllOctets outer)
     (payload-octets : AllOctets payload) (done : processed t receipt outer payload setting .answer ≡ Done) where

@@ -15,6 +15,7 @@ use lib.ListN.{length, getD, take, drop}
 use lib.Seq.{take-append-seam}
 use Rattle.octets.specs.Octets.{ascii, octet, AllOctets}
 use Rattle.octets.specs.Written.{onto}
+use Rattle.octets.specs.Options.{inFront}
 use Rattle.base64.specs.Base64.{signOf, encode, lines, cr, lf}
 use Rattle.base64.specs.Joined.{ending, spread, Free}
 use Rattle.base64.proofs.Lengths.{length-encode}
@@ -24,7 +25,7 @@ use Rattle.address.specs.Address.{plain, canonical, addressOctet}
 use Rattle.address.proofs.Every.{and-left, and-right, every-append, every-weaker}
 use Rattle.address.proofs.Sides.{plain-octets, low-apart}
 use Rattle.address.proofs.Spelling.{canonical-twice, plain-canonical}
-use Rattle.header.specs.Header.{over, belongs, runLength, inFront, fields}
+use Rattle.header.specs.Header.{over, belongs, runLength, fields}
 use Rattle.header.specs.declared.Class.the-variants.{Name, Blank}
 use Rattle.header.proofs.Unfolding.{NoLf}
 use Rattle.header.proofs.Fields.{fields-over}

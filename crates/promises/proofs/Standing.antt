@@ -10,10 +10,11 @@ use mathlib.Core.List.{List, [], _∷_, _++_}
 use mathlib.Core.Option.{Option, some, none}
 use borrow.Author.Tests.{not-true}
 use Rattle.octets.specs.Octets.{sameOctets}
+use Rattle.octets.specs.Options.{orElse}
 use Rattle.octets.proofs.Comparing.{same-refl}
 use Rattle.address.specs.Pieces.{every}
 use Rattle.address.proofs.Every.{and-left, and-right, by-test}
-use Rattle.slots.specs.Entry.{Direct, Entry, orElse, newcomer, seenBy, withDirect, withGossip}
+use Rattle.slots.specs.Entry.{Direct, Entry, newcomer, seenBy, withDirect, withGossip}
 use Rattle.update.specs.Update.{younger, withField, updated, youngerGossip, heard}
 use Rattle.update.specs.Message.{Gossiped, Message, gossipAddresses, entryPut, entryHeard, entryAfter}
 use Rattle.update.proofs.Writing.{updated-older, updated-now, heard-older, heard-now}

@@ -20,6 +20,8 @@ use lib.ListN.{length}
 use Rattle.octets.specs.Octets as octets
 use Rattle.octets.specs.Octets.{ascii, AllOctets}
 use Rattle.octets.specs.Numbers.{number}
+use Rattle.octets.specs.Options.{isSome, inFront, onlyOne, orElse}
+use Rattle.octets.specs.Finding.{holds}
 use Rattle.octets.proofs.Joined.{replicate-octets}
 use Rattle.tokens.specs.Tokens as tokens
 use Rattle.base64.specs.Base64 as base64
@@ -31,7 +33,7 @@ use Rattle.list.specs.Answers as answered
 use Rattle.date.specs.Date as date
 use Rattle.keyfield.specs.Field as keyfield
 use Rattle.slots.specs.Slot as slots
-use Rattle.slots.specs.Entry.{Entry, isPresent, newcomer, seenBy, withDirect}
+use Rattle.slots.specs.Entry.{Entry, newcomer, seenBy, withDirect}
 use Rattle.table.specs.Table as table
 use Rattle.table.specs.Table.{checked, found, isAt}
 use Rattle.table.specs.Entries.{entryIn}
@@ -87,7 +89,7 @@ abbrev read : Call → Brought
 read c = broughtBy (c .receipt) (c .outer) (c .payload) (c .setting)
 
 reads : (read older ≡ brings (bringing "foo" 1000)) × (read younger ≡ brings (bringing "bar" 2000))
-unfolding broughtBy processing.withOuter processing.withSender processing.withPayload processing.payloadFields processing.taken delivery.messageBy delivery.directBy bind octets.lower octets.lowered octets.sameName octets.sameOctets octets.startsWith tokens.blank tokens.past tokens.kindOf tokens.control tokens.belongs tokens.runLength tokens.afterQuote base64.decode base64.follow base64.before base64.atEnd base64.grouped base64.closed base64.signOf base64.without base64.blank header.fieldsOf header.fields header.fieldsWithin header.inFront header.unfolded header.over header.ofEnding header.opensField header.runLength header.rawLength header.belongs header.closes header.isReport pieces.every pieces.onFirst pieces.pieces pieces.before pieces.behind pieces.run address.addressOctet address.atom address.localPart address.labelOctet address.freeEnds address.label address.domain address.plain address.canonical list.openingOf list.holdsAt list.runToken list.quotedToken list.tokenAt list.firstToken list.afterAddress list.after list.inFront list.listedBy list.listed list.addresses answered.onlyOf date.effectiveDate keyfield.trimmedFront keyfield.trimmedBack keyfield.trimmed keyfield.nameOf keyfield.attribute keyfield.holds keyfield.attributeOf keyfield.withAddress keyfield.withPreference keyfield.step keyfield.saidWith keyfield.ifLast keyfield.saidFrom keyfield.saidOf keyfield.limited keyfield.keyOf keyfield.withKey keyfield.fieldBy keyfield.fieldOf keyfield.naming keyfield.validFields keyfield.onlyOne keyfield.counted fields.readFields fields.fieldsIn fields.isKind fields.valuesOf fields.onlyValue outer-specs.canonicalOf outer-specs.senderBy outer-specs.senderIn outer-specs.anyReport outer-specs.isReported outer-specs.dateBy outer-specs.dateIn keys.countedIn keys.accepted keys.gossipIn
+unfolding broughtBy processing.withOuter processing.withSender processing.withPayload processing.payloadFields processing.taken delivery.messageBy delivery.directBy bind octets.lower octets.lowered octets.sameName octets.sameOctets octets.startsWith tokens.blank tokens.past tokens.kindOf tokens.control tokens.belongs tokens.runLength tokens.afterQuote base64.decode base64.follow base64.before base64.atEnd base64.grouped base64.closed base64.signOf base64.without base64.blank header.fieldsOf header.fields header.fieldsWithin inFront header.unfolded header.over header.ofEnding header.opensField header.runLength header.rawLength header.belongs header.closes header.isReport pieces.every pieces.onFirst pieces.pieces pieces.before pieces.behind pieces.run address.addressOctet address.atom address.localPart address.labelOctet address.freeEnds address.label address.domain address.plain address.canonical list.openingOf holds list.runToken list.quotedToken list.tokenAt list.firstToken list.afterAddress list.after list.listedBy list.listed list.addresses onlyOne orElse date.effectiveDate keyfield.trimmedFront keyfield.trimmedBack keyfield.trimmed keyfield.nameOf keyfield.attribute keyfield.attributeOf keyfield.withAddress keyfield.withPreference keyfield.step keyfield.saidWith keyfield.ifLast keyfield.saidFrom keyfield.saidOf keyfield.limited keyfield.keyOf keyfield.withKey keyfield.fieldBy keyfield.fieldOf keyfield.naming keyfield.validFields keyfield.counted fields.fieldsIn fields.isKind fields.valuesOf outer-specs.canonicalOf outer-specs.senderBy outer-specs.senderIn outer-specs.anyReport outer-specs.isReported outer-specs.dateBy outer-specs.dateIn keys.countedIn keys.accepted keys.gossipIn
 reads = (refl, refl)
 
 free-octets : AllOctets free
@@ -98,13 +100,13 @@ unfolding checked table.whole table.slots table.judged table.right table.slotAt 
 free-sound = refl
 
 free-nobody : entryIn free ann ≡ none
-unfolding entryIn found table.lowest table.holds table.slots table.slotAt slots.marked slots.addressOf number octets.sameOctets
+unfolding entryIn found table.lowest table.hasAddress table.slots table.slotAt slots.marked slots.addressOf number octets.sameOctets
 free-nobody = refl
 
 -- room for Ann in the free slot, and wherever she has an entry
 module _ (key : String) (receipt : ℕ) where
   free-room : hasRoom free (bringing key receipt) ≡ true
-  unfolding hasRoom brought.newcomers brought.addressesOf brought.gossipAddresses found table.lowest table.holds table.freeCount table.howMany table.unused table.slots table.slotAt slots.marked slots.addressOf number octets.sameOctets list.among
+  unfolding hasRoom brought.newcomers brought.addressesOf brought.gossipAddresses found table.lowest table.hasAddress table.freeCount table.howMany table.unused table.slots table.slotAt slots.marked slots.addressOf number octets.sameOctets list.among
   free-room = refl
 
   known-room : (t : List ℕ) → isAt (found t ann) ≡ true → hasRoom t (bringing key receipt) ≡ true
@@ -112,7 +114,7 @@ module _ (key : String) (receipt : ℕ) where
   known-room t e =
       ap (λ (new : List (List ℕ)). leb (length new) (table.freeCount t)) (newcomer-not t [] ann [] (rw e)) ∙ le-leb 0 (table.freeCount t) (omega arith)
 
-  leaves-ann : (e : Option Entry) → isPresent (entryAfter (bringing key receipt) ann e) ≡ true
+  leaves-ann : (e : Option Entry) → isSome (entryAfter (bringing key receipt) ann e) ≡ true
   unfolding entryAfter brought.entryHeard brought.entryPut octets.sameOctets
   leaves-ann e = refl
 
@@ -150,7 +152,7 @@ module _ (c : Call) (o : OctetCall c) (key : String) (at : ℕ) (e : read c ≡ 
 
   module _ (d : Call) (p : OctetCall d) (next : String) (then : ℕ) (f : read d ≡ brings (bringing next then)) where
     next-room : hasRoom first (bringing next then) ≡ true
-    next-room = known-room next then first (stands-present first ann ∙ ap isPresent first-entry ∙ leaves-ann key at none)
+    next-room = known-room next then first (stands-present first ann ∙ ap isSome first-entry ∙ leaves-ann key at none)
 
     next-done : outcome first d ≡ record { answer = Done; table = applied first (bringing next then) }
     next-done = done d (bringing next then) f first first-sound next-room

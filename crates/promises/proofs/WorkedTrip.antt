@@ -14,6 +14,8 @@ use lib.ListN.{replicate}
 use Rattle.octets.specs.Octets as octets
 use Rattle.octets.specs.Octets.{ascii, AllOctets}
 use Rattle.octets.specs.Numbers.{number}
+use Rattle.octets.specs.Options.{inFront, onlyOne, orElse}
+use Rattle.octets.specs.Finding.{holds}
 use Rattle.octets.proofs.Joined.{replicate-octets}
 use Rattle.tokens.specs.Tokens as tokens
 use Rattle.base64.specs.Base64 as base64
@@ -85,7 +87,7 @@ holding =
     }
 
 readied : Readied free 1000 outer [] Unset (fields.fieldsIn outer) (ascii "a@b.example") []
-unfolding table.checked table.whole table.slots table.judged table.right table.slotAt slots.free octets.allZero octets.sameOctets octets.sameName octets.lowered octets.lower header.fieldsOf header.fields header.fieldsWithin header.inFront header.unfolded header.over header.ofEnding header.opensField header.runLength header.rawLength header.belongs header.closes header.isReport list.openingOf list.holdsAt list.runToken list.quotedToken list.tokenAt list.firstToken list.afterAddress list.after list.inFront list.listedBy list.listed list.addresses answers.onlyOf address.addressOctet address.plain address.localPart address.atom address.domain address.label address.labelOctet address.freeEnds address.canonical pieces.every pieces.onFirst pieces.pieces pieces.before pieces.behind pieces.run tokens.blank tokens.past tokens.kindOf tokens.control tokens.belongs tokens.afterQuote fields.readFields fields.fieldsIn fields.isKind fields.valuesOf fields.onlyValue outer-specs.canonicalOf outer-specs.senderBy outer-specs.senderIn outer-specs.anyReport outer-specs.isReported payloadFields taken
+unfolding table.checked table.whole table.slots table.judged table.right table.slotAt slots.free octets.allZero octets.sameOctets octets.sameName octets.lowered octets.lower header.fieldsOf header.fields header.fieldsWithin inFront header.unfolded header.over header.ofEnding header.opensField header.runLength header.rawLength header.belongs header.closes header.isReport list.openingOf holds list.runToken list.quotedToken list.tokenAt list.firstToken list.afterAddress list.after list.listedBy list.listed list.addresses onlyOne orElse address.addressOctet address.plain address.localPart address.atom address.domain address.label address.labelOctet address.freeEnds address.canonical pieces.every pieces.onFirst pieces.pieces pieces.before pieces.behind pieces.run tokens.blank tokens.past tokens.kindOf tokens.control tokens.belongs tokens.afterQuote fields.fieldsIn fields.isKind fields.valuesOf outer-specs.canonicalOf outer-specs.senderBy outer-specs.senderIn outer-specs.anyReport outer-specs.isReported payloadFields taken
 readied =
     record {
       sent = record { opened = record { in-time = record { sound = table-sound free refl; in-range = omega arith }; read = refl }; sent = refl };
@@ -94,7 +96,7 @@ readied =
     }
 
 room : brought.hasRoom free (delivery.messageBy 1000 (ascii "a@b.example") (fields.fieldsIn outer) []) ≡ true
-unfolding brought.hasRoom brought.newcomers brought.addressesOf brought.gossipAddresses delivery.messageBy keys.accepted keys.gossipIn fields.valuesOf table.found table.lowest table.holds table.freeCount table.howMany table.unused table.slots table.slotAt slots.marked slots.addressOf number octets.sameOctets list.among
+unfolding brought.hasRoom brought.newcomers brought.addressesOf brought.gossipAddresses delivery.messageBy keys.accepted keys.gossipIn fields.valuesOf table.found table.lowest table.hasAddress table.freeCount table.howMany table.unused table.slots table.slotAt slots.marked slots.addressOf number octets.sameOctets list.among
 room = refl
 
 done : processed free 1000 outer [] Unset .answer ≡ Done
@@ -102,12 +104,12 @@ done = ap (λ (o : Outcome). o .answer) (done-outcome free 1000 outer [] Unset (
 
 foo-is-there : directHalf (entryIn (processed free 1000 outer [] Unset .table) (ascii "a@b.example"))
     ≡ some (record { timestamp = 1000; key = ascii "foo"; «mutual» = true })
-unfolding holding others behind directHalf entryIn update.younger table.found table.lowest table.holds table.slots table.slotAt slots.marked slots.addressOf number octets.sameOctets octets.sameName octets.lowered octets.lower header.fieldsOf header.fields header.fieldsWithin header.inFront header.unfolded header.over header.ofEnding header.opensField header.runLength header.rawLength header.belongs header.closes list.openingOf list.holdsAt list.runToken list.quotedToken list.tokenAt list.firstToken list.afterAddress list.after list.inFront list.listedBy list.listed list.addresses answers.onlyOf address.addressOctet address.plain address.localPart address.atom address.domain address.label address.labelOctet address.freeEnds address.canonical pieces.every pieces.onFirst pieces.pieces pieces.before pieces.behind pieces.run tokens.blank tokens.past tokens.kindOf tokens.control tokens.belongs tokens.afterQuote date.effectiveDate keyfield.validFields fields.readFields fields.fieldsIn fields.isKind fields.valuesOf fields.onlyValue outer-specs.canonicalOf outer-specs.senderBy outer-specs.senderIn outer-specs.dateBy outer-specs.dateIn
+unfolding holding others behind directHalf entryIn update.younger table.found table.lowest table.hasAddress table.slots table.slotAt slots.marked slots.addressOf number octets.sameOctets octets.sameName octets.lowered octets.lower header.fieldsOf header.fields header.fieldsWithin inFront header.unfolded header.over header.ofEnding header.opensField header.runLength header.rawLength header.belongs header.closes list.openingOf holds list.runToken list.quotedToken list.tokenAt list.firstToken list.afterAddress list.after list.listedBy list.listed list.addresses onlyOne orElse address.addressOctet address.plain address.localPart address.atom address.domain address.label address.labelOctet address.freeEnds address.canonical pieces.every pieces.onFirst pieces.pieces pieces.before pieces.behind pieces.run tokens.blank tokens.past tokens.kindOf tokens.control tokens.belongs tokens.afterQuote date.effectiveDate keyfield.validFields fields.fieldsIn fields.isKind fields.valuesOf outer-specs.canonicalOf outer-specs.senderBy outer-specs.senderIn outer-specs.dateBy outer-specs.dateIn
 foo-is-there =
     let h = autocrypt-processed free 1000 outer [] Unset (replicate-octets 4392 0 (omega arith)) (tested outer refl) (tested [] refl) done address-given (ascii "foo") true writable holding refl refl in
     ap directHalf (h .there) ∙ h .set refl
 
 foo-is-handed-out : targetKeyOf (processed free 1000 outer [] Unset .table) address-given 0 ≡ ascii "foo"
-unfolding holding others behind directHalf entryIn update.younger table.found table.lowest table.holds table.slots table.slotAt slots.marked slots.addressOf number octets.sameOctets octets.sameName octets.lowered octets.lower header.fieldsOf header.fields header.fieldsWithin header.inFront header.unfolded header.over header.ofEnding header.opensField header.runLength header.rawLength header.belongs header.closes list.openingOf list.holdsAt list.runToken list.quotedToken list.tokenAt list.firstToken list.afterAddress list.after list.inFront list.listedBy list.listed list.addresses answers.onlyOf address.addressOctet address.plain address.localPart address.atom address.domain address.label address.labelOctet address.freeEnds address.canonical pieces.every pieces.onFirst pieces.pieces pieces.before pieces.behind pieces.run tokens.blank tokens.past tokens.kindOf tokens.control tokens.belongs tokens.afterQuote date.effectiveDate keyfield.validFields fields.readFields fields.fieldsIn fields.isKind fields.valuesOf fields.onlyValue outer-specs.canonicalOf outer-specs.senderBy outer-specs.senderIn outer-specs.dateBy outer-specs.dateIn
+unfolding holding others behind directHalf entryIn update.younger table.found table.lowest table.hasAddress table.slots table.slotAt slots.marked slots.addressOf number octets.sameOctets octets.sameName octets.lowered octets.lower header.fieldsOf header.fields header.fieldsWithin inFront header.unfolded header.over header.ofEnding header.opensField header.runLength header.rawLength header.belongs header.closes list.openingOf holds list.runToken list.quotedToken list.tokenAt list.firstToken list.afterAddress list.after list.listedBy list.listed list.addresses onlyOne orElse address.addressOctet address.plain address.localPart address.atom address.domain address.label address.labelOctet address.freeEnds address.canonical pieces.every pieces.onFirst pieces.pieces pieces.before pieces.behind pieces.run tokens.blank tokens.past tokens.kindOf tokens.control tokens.belongs tokens.afterQuote date.effectiveDate keyfield.validFields fields.fieldsIn fields.isKind fields.valuesOf outer-specs.canonicalOf outer-specs.senderBy outer-specs.senderIn outer-specs.dateBy outer-specs.dateIn
 foo-is-handed-out =
     key-handed-out free 1000 outer [] Unset (replicate-octets 4392 0 (omega arith)) (tested outer refl) (tested [] refl) done address-given (ascii "foo") true writable holding refl refl refl

@@ -12,12 +12,12 @@ use mathlib.Core.List.{List, [], _∷_, _++_}
 use mathlib.Core.Option.{Option, some}
 use lib.ListN.{length, getD}
 use Rattle.octets.specs.Octets.{octet, AllOctets}
-use Rattle.header.specs.Header.{belongs, runLength, unfolded, FieldText, inFront, fields}
+use Rattle.octets.specs.Options.{inFront, orElse}
+use Rattle.header.specs.Header.{belongs, runLength, unfolded, FieldText, fields}
 use Rattle.header.specs.Blocks.{isRaw}
 use Rattle.header.specs.declared.Class.the-variants.{Name, Blank}
 use Rattle.address.specs.Address.{oneTo, plain, canonical}
 use Rattle.keyfield.specs.Field.{keyLimit, fieldOf}
-use Rattle.fields.specs.Fields.{readFields}
 
 -- what a field can be written for
 pub record Writable (address key : List ℕ) : Type 0 where
@@ -55,7 +55,7 @@ pub record Holding (block octets : List ℕ) : Type 0 where
 
 module _ {block octets : List ℕ} (h : Holding block octets) where
   unfoldable pub behind : List FieldText
-  behind = readFields (fields (h .rest))
+  behind = orElse [] (fields (h .rest))
 
   unfoldable pub others : List FieldText
   others = h .before ++ behind

@@ -5,10 +5,12 @@ use mathlib.Core.Path.{_≡_, refl}
 use mathlib.Core.Bool.{true, false}
 use mathlib.Core.List.{List, [], _∷_, _++_, map}
 use Rattle.octets.specs.Octets.{ascii, sameOctets, lower, lowered}
+use Rattle.octets.specs.Options.{inFront, orElse}
+use Rattle.octets.specs.Finding.{holds}
 use Rattle.tokens.specs.Tokens.{control, blank, kindOf, past, afterQuote, belongs}
 use Rattle.address.specs.Pieces.{every, onFirst, pieces, before, behind, run}
 use Rattle.address.specs.Address.{addressOctet, atom, localPart, labelOctet, freeEnds, label, domain, plain, canonical}
-use Rattle.list.specs.List.{openingOf, holdsAt, runToken, quotedToken, tokenAt, firstToken, afterAddress, after, inFront, listedBy, listed, addresses, among, given}
+use Rattle.list.specs.List.{openingOf, runToken, quotedToken, tokenAt, firstToken, afterAddress, after, listedBy, listed, addresses, among}
 use Rattle.roll.specs.Roll.{entry, rolled, unrolledWithin, unrolled, listedIn}
 
 abbrev two : List ℕ
@@ -30,5 +32,5 @@ pub worked :
     × Lists "A <a@b>, c@de" ("a@b" ∷ "c@de" ∷ [])
     × Lists "g:;" []
     × Lists "a@b," []
-unfolding entry rolled unrolledWithin unrolled listedIn among given canonical sameOctets lower lowered openingOf holdsAt runToken quotedToken tokenAt firstToken afterAddress after inFront listedBy listed addresses addressOctet atom localPart labelOctet freeEnds label domain plain every onFirst pieces before behind run control blank kindOf past afterQuote belongs
+unfolding entry rolled unrolledWithin unrolled listedIn among orElse canonical sameOctets lower lowered openingOf holds runToken quotedToken tokenAt firstToken afterAddress after inFront listedBy listed addresses addressOctet atom localPart labelOctet freeEnds label domain plain every onFirst pieces before behind run control blank kindOf past afterQuote belongs
 worked = (refl, refl, refl, refl, refl, refl, refl, refl, refl, refl, refl, refl)

@@ -7,8 +7,8 @@ ghost use lib.Dec.{eqb};
 ghost use lib.ListN.{length, getD};
 ghost use Rattle.slots.specs.Slot.{slotLength, addressRoom, keyLimit, numbersOf, marked, addressOf, sound};
 ghost use Rattle.slots.specs.Entry.{entryOf, slotOf, newcomer, seenBy, withDirect, withGossip};
-ghost use Rattle.table.specs.Table.{mostSlots, slots as slotsOf, slotAt, withSlot, unused, holds, lowest, found, lowestFree, freeCount, inLower, right, whole, checked};
-ghost use Rattle.table.specs.Digests.{withOctet, digestOf, among, Digests};
+ghost use Rattle.table.specs.Table.{mostSlots, slots as slotsOf, slotAt, withSlot, unused, hasAddress, lowest, found, lowestFree, freeCount, inLower, right, whole, checked};
+ghost use Rattle.table.specs.Digests.{withOctet, digestOf, inFirst, Digests};
 use slots::Slot;
 
 // Whether a table is one: refusal 1 for its length, 2 with the lowest slot that is neither free nor sound.
@@ -52,7 +52,7 @@ fn could_hold(slot: &[u8], length: usize) -> bool
 // differs leads on to the next slot, and the first equal address out of the scan.
 fn search(table: &[u8], address: &[u8], n: usize) -> Found
     requires { ⌜ n ≤ slotsOf (now table) ⌝ }
-    ensures { λ r. ⌜ r ≡ lowest (holds (now (address .entry))) (now (table .entry)) 0 n ⌝ }
+    ensures { λ r. ⌜ r ≡ lowest (hasAddress (now (address .entry))) (now (table .entry)) 0 n ⌝ }
 {
     let mut i = 0;
     let mut found = Found::Nothing;
@@ -159,7 +159,7 @@ fn digest_at(table: &[u8], i: usize) -> u32
 // are compared at once.
 fn is_among_lower(digests: &[u32; Slot::MOST], i: usize) -> bool
     requires { ⌜ i < mostSlots ⌝ }
-    ensures { λ r. ⌜ r ≡ among (getD (now (digests .entry)) i 0) (now (digests .entry)) i ⌝ }
+    ensures { λ r. ⌜ r ≡ inFirst (getD (now (digests .entry)) i 0) (now (digests .entry)) i ⌝ }
 {
     let own = digests[i];
     let mut among = false;
