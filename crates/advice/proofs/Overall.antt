@@ -1,6 +1,5 @@
 -- The advice for a whole list is the lowest of its recipients'.
---     overall-none, overall-more    by `lowerOf` over the list, from its end
---     overall-one, overall-two      and from its front, as the loop goes
+--     overall-one, overall-two      by `lowerOf` over the list, from its front, as the loop goes
 --     handed-given, handed-rest     an address that is handed out of a readable list stands in front of the rest, which is readable
 --     Lowest t s m reply least here     what the loop of `overall_advice` knows
 --     lowest-begin .. lowest-unread     its steps
@@ -8,13 +7,11 @@
 -- Assumes nothing.
 use Prim.Native.Nat.{ℕ}
 use mathlib.Core.Path.{_≡_, refl, sym, ap, _∙_}
-use mathlib.Core.Bool.{Bool, true, false, false≢true}
+use mathlib.Core.Bool.{Bool, true}
 use mathlib.Core.List.{List, [], _∷_}
-use mathlib.Core.Option.{Option, some, none}
 use borrow.Author.Needs.{needs}
-use Rattle.octets.specs.Options.{inFront, orElse, isSome}
+use Rattle.octets.specs.Options.{orElse, isSome}
 use Rattle.octets.proofs.Options.{some-front, else-front}
-use Rattle.address.proofs.Every.{by-test}
 use Rattle.list.specs.List.{addresses}
 use Rattle.list.specs.Answers.{between, beginning, left, Hands}
 use Rattle.list.specs.declared.Cursor.{Cursor}
@@ -25,47 +22,6 @@ use Rattle.advice.specs.Advice.{anyDisable, allEncrypt, anyDiscourage, o
 use Rattle.advice.specs.Places.{lowerOf}
 use Rattle.advice.specs.declared.Advice.{Advice}
 use Rattle.advice.specs.declared.Advice.the-variants.{Disable, Discourage, Available, Encrypt}
-
-pub overall-none : overall [] ≡ Encrypt
-unfolding overall anyDisable allEncrypt
-overall-none = refl
-
-encrypt-only : (list : List Advice) → allEncrypt list ≡ true → anyDiscourage list ≡ false
-unfolding allEncrypt anyDiscourage
-encrypt-only [] e = refl
-encrypt-only (Disable ∷ rest) e = absurd (false≢true e)
-encrypt-only (Discourage ∷ rest) e = absurd (false≢true e)
-encrypt-only (Available ∷ rest) e = absurd (false≢true e)
-encrypt-only (Encrypt ∷ rest) e = encrypt-only rest e
-
--- each of the four answers for a list, to which one recipient more is added
-by-answer : (P : Advice → Type 0) (rest : List Advice)
-    → (anyDisable rest ≡ true → P Disable) → (anyDisable rest ≡ false → allEncrypt rest ≡ true → P Encrypt)
-    → (anyDisable rest ≡ false → allEncrypt rest ≡ false → anyDiscourage rest ≡ true → P Discourage)
-    → (anyDisable rest ≡ false → allEncrypt rest ≡ false → anyDiscourage rest ≡ false → P Available) → P (overall rest)
-unfolding overall
-by-answer P rest disable encrypt discourage available =
-    by-test (anyDisable rest) (λ d. rw (overall, d) (disable d))
-    (λ d.
-    by-test (allEncrypt rest) (λ e. rw (overall, d, e) (encrypt d e))
-    (λ e. by-test (anyDiscourage rest) (λ g. rw (overall, d, e, g) (discourage d e g)) (λ g. rw (overall, d, e, g) (available d e g))))
-
-pub overall-more : (a : Advice) (rest : List Advice) → overall (a ∷ rest) ≡ lowerOf a (overall rest)
-unfolding overall anyDisable allEncrypt anyDiscourage lowerOf
-overall-more Disable rest = refl
-overall-more Discourage rest =
-    by-answer (λ x. overall (Discourage ∷ rest) ≡ lowerOf Discourage x) rest
-    (λ d. rw (overall, d))
-    (λ d e. rw (overall, d))
-    (λ d e g. rw (overall, d))
-    (λ d e g. rw (overall, d))
-overall-more Available rest =
-    by-answer (λ x. overall (Available ∷ rest) ≡ lowerOf Available x) rest
-    (λ d. rw (overall, d))
-    (λ d e. rw (overall, d, encrypt-only rest e))
-    (λ d e g. rw (overall, d, g))
-    (λ d e g. rw (overall, d, g))
-overall-more Encrypt rest = refl
 
 pub overall-one : (a : Advice) → overall (a ∷ []) ≡ a
 unfolding overall anyDisable allEncrypt anyDiscourage

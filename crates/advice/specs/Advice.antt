@@ -111,7 +111,7 @@ adviceIn t isMutual reply a = adviceFor isMutual reply (entryIn t (canonical a))
 unfoldable pub targetIn : List ℕ → List ℕ → List ℕ
 targetIn t a = targetOf (entryIn t (canonical a))
 
--- the same for each address of a list
+-- the advice for each address of a list, in order
 unfoldable pub advised : List ℕ → Bool → Bool → List (List ℕ) → List Advice
 advised t isMutual reply list = map (adviceIn t isMutual reply) list
 

@@ -15,7 +15,7 @@ use lib.ListN.{length, getD, take, drop, length-take, length-drop}
 use Rattle.octets.specs.Octets.{AllOctets}
 use Rattle.octets.specs.Options.{inFront, IfSome, Each, total}
 use Rattle.octets.proofs.Lists.{lt-or-le, drop-octets, take-octets}
-use Rattle.octets.proofs.Options.{each-front, Takes, takes-front, total-none}
+use Rattle.octets.proofs.Options.{each-front, Takes, takes-front}
 use Rattle.header.specs.Header.{FieldText, ofEnding, unfolded, fieldsOf, limit}
 use Rattle.header.specs.Answers.{fieldsFrom, stepAt, fieldAt}
 use Rattle.header.specs.declared.Step.{Step}

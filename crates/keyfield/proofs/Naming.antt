@@ -15,7 +15,7 @@ use Rattle.octets.specs.Octets.{ascii, sameOctets, startsWith}
 use Rattle.names.specs.Names as names
 use Rattle.keyfield.specs.Field.{nameOf, attribute, attributeOf}
 use Rattle.keyfield.specs.Answers.{part, Within, FirstAt, Trimmed, attributeAt, ValueWithin, Tells}
-use Rattle.keyfield.specs.declared.Part.{Part}
+use Rattle.keyfield.specs.declared.Bounds.{Bounds}
 use Rattle.keyfield.specs.declared.Name.{Name}
 use Rattle.keyfield.specs.declared.Name.the-variants.{Addr as NAddr, PreferEncrypt as NPrefer, Keydata as NKeydata, Ignored as NIgnored, Unknown as NUnknown}
 use Rattle.keyfield.specs.declared.Attribute.the-variants.{Addr, PreferEncrypt, Keydata, Ignored, Spoiling}
@@ -59,7 +59,7 @@ module _ (s : List ℕ) (from to cut : ℕ) (w : Within s from to) (f : FirstAt 
     pub value-within : Within s (cut + 1) to
     value-within = record { order = omega arith; upto = w .upto }
 
-    module _ (n v : Part) (p : Trimmed s from cut n) (q : Trimmed s (cut + 1) to v) where
+    module _ (n v : Bounds) (p : Trimmed s from cut n) (q : Trimmed s (cut + 1) to v) where
       pub name-order : n .from ≤ n .to
       name-order = p .order
 

@@ -4,7 +4,7 @@
 --     listed-address .. listed-unread   what the first token makes of it
 --     by-tokens                     what holds at the end, and of a token in front of what it holds of, holds of every list
 -- Assumes nothing.
-use Prim.Native.Nat.{ℕ, zero, suc, _-_, _<_, _≤_}
+use Prim.Native.Nat.{ℕ, zero, suc, _-_, _<_}
 use mathlib.Core.Path.{_≡_, refl, sym, ap, _∙_}
 use mathlib.Core.Bool.{Bool, true, false}
 use mathlib.Core.List.{List, [], _∷_, _++_}
@@ -24,12 +24,12 @@ use Rattle.address.proofs.Every.{by-test}
 use Rattle.address.proofs.Sides.{plain-least}
 use Rattle.list.specs.List.{openingOf, Token, address, other, end, unreadable, runToken, quotedToken, tokenAt, firstToken, afterAddress, after, mayEnd, listedBy, listed, addresses}
 use Rattle.list.specs.declared.token.Sort.{Sort}
-use Rattle.list.specs.declared.token.Opening.{Opening}
-use Rattle.list.specs.declared.token.Opening.the-variants.{Run, Quote, Sign, Nothing}
+use Rattle.list.specs.declared.token.Start.{Start}
+use Rattle.list.specs.declared.token.Start.the-variants.{Run, Quote, Sign, Nothing}
 use Rattle.list.specs.declared.grammar.Stage.{Stage}
 use Rattle.list.specs.declared.grammar.Stage.the-variants.{Place}
-use Rattle.list.specs.declared.grammar.Step.{Step}
-use Rattle.list.specs.declared.grammar.Step.the-variants.{On, Wrong}
+use Rattle.list.specs.declared.grammar.Follow.{Follow}
+use Rattle.list.specs.declared.grammar.Follow.the-variants.{On, Wrong}
 use Rattle.list.proofs.Finding.{opens-run-octet}
 
 -- Where a token stands in a list: an address in front of what is left of it, and any other before that.
@@ -75,7 +75,7 @@ unfolding tokenAt
 at-stands [] = tt
 at-stands (x ∷ s) = go (openingOf x) refl
   where
-    go : (o : Opening) → openingOf x ≡ o → Stands (x ∷ s) (tokenAt (x ∷ s))
+    go : (o : Start) → openingOf x ≡ o → Stands (x ∷ s) (tokenAt (x ∷ s))
     go Run e = rw (tokenAt, e) (run-stands x s (opens-run-octet x e))
     go Quote e = rw (tokenAt, e) (quoted-stands x s)
     go (Sign sort) e = rw (tokenAt, e) (behind x whole, omega arith)
@@ -144,13 +144,13 @@ module _ (stage : Stage) (inside : Bool) (s : List ℕ) where
   turn : Turn stage inside s
   turn = go (firstToken s) refl
     where
-      addressed : (a rest : List ℕ) → firstToken s ≡ address a rest → (r : Step) → afterAddress stage inside ≡ r → Turn stage inside s
+      addressed : (a rest : List ℕ) → firstToken s ≡ address a rest → (r : Follow) → afterAddress stage inside ≡ r → Turn stage inside s
       addressed a rest e (On next inner) p =
           hands a rest next inner (stands s (address a rest) e .0) (stands s (address a rest) e .1) p
           (λ n. by-address n stage inside s a rest e next inner p)
       addressed a rest e Wrong p = unread (λ n. by-address-wrong n stage inside s a rest e p)
 
-      others : (sort : Sort) (rest : List ℕ) → firstToken s ≡ other sort rest → (r : Step) → after stage inside sort ≡ r → Turn stage inside s
+      others : (sort : Sort) (rest : List ℕ) → firstToken s ≡ other sort rest → (r : Follow) → after stage inside sort ≡ r → Turn stage inside s
       others sort rest e (On next inner) p =
           goes rest next inner (stands s (other sort rest) e .0) (stands s (other sort rest) e .1) (λ n. by-other n stage inside s sort rest e next inner p)
       others sort rest e Wrong p = unread (λ n. by-other-wrong n stage inside s sort rest e p)

@@ -5,7 +5,6 @@
 use Prim.Native.Nat.{ℕ}
 use mathlib.Core.Path.{_≡_, sym, ap, _∙_}
 use mathlib.Core.List.{List, []}
-use mathlib.Core.Option.{Option, some, none}
 use borrow.Author.Needs.{needs}
 use Rattle.octets.specs.Options.{inFront, onlyOne, orElse}
 use Rattle.octets.proofs.Options.{only-two}

@@ -4,7 +4,7 @@
 use Prim.Native.Nat.{ℕ, suc, _+_, _≤_, zero-le}
 use mathlib.Core.Path.{_≡_}
 use mathlib.Core.Bool.{Bool}
-use mathlib.Core.List.{List, []}
+use mathlib.Core.List.{List}
 use mathlib.Core.Option.{Option, some}
 use native.Mathlib.Omega.{arith}
 use lib.ListN.{length, length-append}
@@ -14,7 +14,7 @@ use Rattle.tokens.proofs.Places.{suffix-length}
 use Rattle.list.specs.List.{afterAddress, addresses}
 use Rattle.list.specs.declared.grammar.Stage.{Stage}
 use Rattle.list.specs.declared.grammar.Stage.the-variants.{Place, Opened, Phrase, Angle, Closing, Behind}
-use Rattle.list.specs.declared.grammar.Step.the-variants.{On}
+use Rattle.list.specs.declared.grammar.Follow.the-variants.{On}
 use Rattle.list.proofs.Listing.{by-tokens}
 
 -- Behind an address another octet must come before the next one: there its own octet is paid for already.

@@ -19,8 +19,8 @@ use Rattle.tokens.specs.Tokens.{belongs}
 use Rattle.tokens.specs.declared.Class.the-variants.{Atom}
 use Rattle.address.specs.Address.{addressOctet}
 use Rattle.list.specs.List.{markOf, openingOf}
-use Rattle.list.specs.declared.token.Opening.{Opening}
-use Rattle.list.specs.declared.token.Opening.the-variants.{Run, Nothing}
+use Rattle.list.specs.declared.token.Start.{Start}
+use Rattle.list.specs.declared.token.Start.the-variants.{Run, Nothing}
 
 pub in-run : (x : ℕ) (a : Bool) → a ≡ belongs Atom x → ((a || eqb x 46) || eqb x 64) ≡ addressOctet x
 unfolding addressOctet
@@ -32,7 +32,7 @@ module _ (x : ℕ) (b : Bool) (e : b ≡ addressOctet x) where
   unfolding openingOf
   opens-run p = rw (sym e ∙ p)
 
-  pub opens-mark : (k : ℕ) (o : Opening) → b ≡ false → x ≡ k → o ≡ markOf k → o ≡ openingOf x
+  pub opens-mark : (k : ℕ) (o : Start) → b ≡ false → x ≡ k → o ≡ markOf k → o ≡ openingOf x
   unfolding openingOf
   opens-mark k o p q m = rw (sym e ∙ p, q) m
 

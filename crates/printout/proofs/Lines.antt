@@ -32,12 +32,13 @@ use Rattle.printout.specs.Printout.{line, lineOf, slotText, linesFrom}
 use Rattle.printout.specs.Steps.{Room, Put, ended, directPart, gossipPart, numbersPart}
 use Rattle.printout.proofs.Placing.{room-one, room-two, two-put}
 
--- an absent half has no time and one that is there its own; the same of last seen
+-- an absent half has no time and one that is there its own
 half-time : {A : Type 0} (f : A → ℕ) (d : A) (h : Option A) → present (isSome h) (f (orElse d h)) ≡ Option·map f h
 unfolding isSome orElse
 half-time f d none = refl
 half-time f d (some x) = refl
 
+-- last seen, where it is there
 seen-time : (h : Option ℕ) → present (isSome h) (orElse 0 h) ≡ h
 unfolding isSome orElse
 seen-time none = refl

@@ -39,6 +39,7 @@ gossipTime g = g .timestamp
 
 -- a stale message would not have raised last seen either
 raised-not : (seen : Option ℕ) (d : Direct) (date : ℕ) → Seen seen d → date < d .timestamp → some (max (orElse 0 seen) date) ≡ seen
+unfolding isSome orElse
 raised-not none d date h l = absurd (false≢true (h .was-seen))
 raised-not (some s) d date h l = ap some (omega (arith, h .not-below))
 
@@ -100,11 +101,12 @@ unfolding Timely
 updated-parts date brought e s h = updated-by date brought (e .address) (e .lastSeen) (e .direct) (e .gossip) s h
 
 seen-more : (seen : Option ℕ) (date : ℕ) (direct : Option Direct) → IfSome (Seen seen) direct → IfSome (Seen (some (max (orElse 0 seen) date))) direct
+unfolding isSome orElse
 seen-more seen date none h = tt
 seen-more seen date (some d) h = record { was-seen = refl; not-below = omega (arith, h .not-below) }
 
 seen-new : (seen : Option ℕ) (date : ℕ) (brought : Option Direct) → Stamped date brought → IfSome (Seen (some (max (orElse 0 seen) date))) brought
-unfolding Stamped
+unfolding Stamped isSome orElse
 seen-new seen date none s = tt
 seen-new seen date (some d) s = record { was-seen = refl; not-below = omega arith }
 
@@ -138,7 +140,7 @@ heard-parts date key e = heard-by date key (e .address) (e .lastSeen) (e .direct
 pub updated-swap : (d₁ d₂ : ℕ) (b₁ b₂ : Option Direct) (e : Entry) → Stamped d₁ b₁ → Stamped d₂ b₂ → Timely e
     → ((u v : Direct) → b₂ ≡ some u → b₁ ≡ some v → u .timestamp ≡ v .timestamp → u ≡ v)
     → updated d₂ b₂ (updated d₁ b₁ e) ≡ updated d₁ b₁ (updated d₂ b₂ e)
-unfolding updatedParts
+unfolding updatedParts orElse
 updated-swap d₁ d₂ b₁ b₂ e s₁ s₂ h agree =
     twice d₁ d₂ b₁ b₂ s₁ s₂
     ∙ (λ i. record { address = e .address; lastSeen = seen i; direct = later-swap directTime b₂ b₁ (e .direct) agree i; gossip = e .gossip })

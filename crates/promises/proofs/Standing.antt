@@ -23,12 +23,12 @@ use Rattle.promises.specs.Standing.{directHalf, gossipHalf, noneAbout}
 
 -- an entry that is begun has neither half
 begun-direct : (a : List ℕ) (e : Option Entry) → orElse (newcomer a) e .direct ≡ directHalf e
-unfolding directHalf newcomer
+unfolding directHalf newcomer orElse
 begun-direct a none = refl
 begun-direct a (some x) = refl
 
 begun-gossip : (a : List ℕ) (e : Option Entry) → orElse (newcomer a) e .gossip ≡ gossipHalf e
-unfolding gossipHalf newcomer
+unfolding gossipHalf newcomer orElse
 begun-gossip a none = refl
 begun-gossip a (some x) = refl
 

@@ -115,7 +115,7 @@ module _ (key : String) (receipt : ℕ) where
       ap (λ (new : List (List ℕ)). leb (length new) (table.freeCount t)) (newcomer-not t [] ann [] (rw e)) ∙ le-leb 0 (table.freeCount t) (omega arith)
 
   leaves-ann : (e : Option Entry) → isSome (entryAfter (bringing key receipt) ann e) ≡ true
-  unfolding entryAfter brought.entryHeard brought.entryPut octets.sameOctets
+  unfolding entryAfter brought.entryHeard brought.entryPut octets.sameOctets isSome
   leaves-ann e = refl
 
 -- a call that brings a message for which there is room
@@ -241,7 +241,7 @@ either-order =
     both-agree
 
 pub younger-stands : targetKeyOf (tableAfter free (older ∷ younger ∷ [])) ann 0 ≡ ascii "bar"
-unfolding advice.targetIn advice.targetOf advice.targetBy advice.directOf advice.gossipOf entryAfter brought.entryHeard brought.entryPut update.updated update.younger update.withField newcomer seenBy withDirect octets.sameOctets octets.lowered octets.lower address.canonical address.plain address.localPart address.atom address.domain address.label address.labelOctet address.freeEnds pieces.every pieces.onFirst pieces.pieces pieces.before pieces.behind tokens.belongs
+unfolding advice.targetIn advice.targetOf advice.targetBy advice.directOf advice.gossipOf entryAfter brought.entryHeard brought.entryPut update.updated update.younger update.withField newcomer seenBy withDirect octets.sameOctets octets.lowered octets.lower address.canonical address.plain address.localPart address.atom address.domain address.label address.labelOctet address.freeEnds pieces.every pieces.onFirst pieces.pieces pieces.before pieces.behind tokens.belongs orElse
 younger-stands =
     alone-taken (tableAfter free both) ann (both-sound older older-octets "foo" 1000 (reads .0) younger younger-octets "bar" 2000 (reads .1)) refl
     ∙ ap advice.targetOf (both-entry older older-octets "foo" 1000 (reads .0) younger younger-octets "bar" 2000 (reads .1))

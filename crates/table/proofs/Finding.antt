@@ -1,7 +1,7 @@
 -- Where an address stands, as callers ask for it.
 --     lowest-at, lowest-nothing, lowest-none    what the lowest slot that passes a test tells, and that there is none
 --     found-at, found-nothing                   the slot of an address: an index of the table, a used slot with that address; or no slot has it
---     free-at, free-nothing                     the lowest free slot
+--     free-at                                   the lowest free slot
 -- Assumes nothing.
 use Prim.Native.Nat.{ℕ, suc, zero, _+_, _<_, _≤_}
 use mathlib.Core.Path.{_≡_, refl, sym, _∙_}
@@ -98,7 +98,3 @@ module _ (t : List ℕ) where
   free-at i e =
       let r = lowest-at unused t 0 (slots t) i e in
       (omega (arith, r .below), not-true (marked (slotAt t i)) (r .passes))
-
-  pub free-nothing : lowestFree t ≡ Nothing → (j : ℕ) → j < slots t → unused (slotAt t j) ≡ false
-  unfolding lowestFree
-  free-nothing e j l = lowest-nothing unused t 0 (slots t) e j (omega arith) (omega arith)

@@ -274,7 +274,8 @@ pub fn raise_seen(table: &mut [u8], i: usize, date: u64)
 // Sets timestamp, key and preference of an entry's direct half.
 pub fn set_direct(table: &mut [u8], i: usize, timestamp: u64, key: &[u8], mutual: bool)
     requires { ⌜ (i < slotsOf (now table)) × (sound (slotAt (now table) i) ≡ true) × (length (now key) ≤ keyLimit) ⌝ }
-    ensures { λ _. ⌜ now (table .exit) ≡ withSlot (now (table .entry)) i (slotOf (withDirect (record { timestamp = timestamp; key = now (key .entry); «mutual» = «mutual» }) (entryOf (slotAt (now (table .entry)) i)))) ⌝ }
+    ensures { λ _. ⌜ now (table .exit) ≡ withSlot (now (table .entry)) i
+        (slotOf (withDirect (record { timestamp = timestamp; key = now (key .entry); «mutual» = «mutual» }) (entryOf (slotAt (now (table .entry)) i)))) ⌝ }
 {
     let at = i * Slot::LEN;
     slots::set_direct(&mut table[at..at + Slot::LEN], timestamp, key, mutual);
@@ -283,7 +284,8 @@ pub fn set_direct(table: &mut [u8], i: usize, timestamp: u64, key: &[u8], mutual
 // Sets timestamp and key of an entry's gossip half.
 pub fn set_gossip(table: &mut [u8], i: usize, timestamp: u64, key: &[u8])
     requires { ⌜ (i < slotsOf (now table)) × (sound (slotAt (now table) i) ≡ true) × (length (now key) ≤ keyLimit) ⌝ }
-    ensures { λ _. ⌜ now (table .exit) ≡ withSlot (now (table .entry)) i (slotOf (withGossip (record { timestamp = timestamp; key = now (key .entry) }) (entryOf (slotAt (now (table .entry)) i)))) ⌝ }
+    ensures { λ _. ⌜ now (table .exit) ≡ withSlot (now (table .entry)) i
+        (slotOf (withGossip (record { timestamp = timestamp; key = now (key .entry) }) (entryOf (slotAt (now (table .entry)) i)))) ⌝ }
 {
     let at = i * Slot::LEN;
     slots::set_gossip(&mut table[at..at + Slot::LEN], timestamp, key);
