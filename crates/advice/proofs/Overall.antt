@@ -1,6 +1,5 @@
 -- The advice for a whole list is the lowest of its recipients'.
---     overall-none, overall-more    by `lowerOf` over the list, from its end
---     overall-one, overall-two      and from its front, as the loop goes
+--     overall-one, overall-two      by `lowerOf` over the list, from its front, as the loop goes
 --     handed-given, handed-rest     an address that is handed out of a readable list stands in front of the rest, which is readable
 --     Lowest t s m reply least here     what the loop of `overall_advice` knows
 --     lowest-begin .. lowest-unread     its steps
@@ -8,12 +7,12 @@
 -- Assumes nothing.
 use Prim.Native.Nat.{ℕ}
 use mathlib.Core.Path.{_≡_, refl, sym, ap, _∙_}
-use mathlib.Core.Bool.{Bool, true, false, false≢true}
+use mathlib.Core.Bool.{Bool, true}
 use mathlib.Core.List.{List, [], _∷_}
-use mathlib.Core.Option.{Option, some, none}
 use borrow.Author.Needs.{needs}
-use Rattle.octets.proofs.Tests.{by-test}
-use Rattle.list.specs.List.{inFront, addresses, given, isGiven}
+use Rattle.octets.specs.Options.{orElse, isSome}
+use Rattle.octets.proofs.Options.{some-front, else-front}
+use Rattle.list.specs.List.{addresses}
 use Rattle.list.specs.Answers.{between, beginning, left, Hands}
 use Rattle.list.specs.declared.Cursor.{Cursor}
 use Rattle.list.specs.declared.Handed.{Handed}
@@ -23,47 +22,6 @@ use Rattle.advice.specs.Advice.{anyDisable, allEncrypt, anyDiscourage, o
 use Rattle.advice.specs.Places.{lowerOf}
 use Rattle.advice.specs.declared.Advice.{Advice}
 use Rattle.advice.specs.declared.Advice.the-variants.{Disable, Discourage, Available, Encrypt}
-
-pub overall-none : overall [] ≡ Encrypt
-unfolding overall anyDisable allEncrypt
-overall-none = refl
-
-encrypt-only : (list : List Advice) → allEncrypt list ≡ true → anyDiscourage list ≡ false
-unfolding allEncrypt anyDiscourage
-encrypt-only [] e = refl
-encrypt-only (Disable ∷ rest) e = absurd (false≢true e)
-encrypt-only (Discourage ∷ rest) e = absurd (false≢true e)
-encrypt-only (Available ∷ rest) e = absurd (false≢true e)
-encrypt-only (Encrypt ∷ rest) e = encrypt-only rest e
-
--- each of the four answers for a list, to which one recipient more is added
-by-answer : (P : Advice → Type 0) (rest : List Advice)
-    → (anyDisable rest ≡ true → P Disable) → (anyDisable rest ≡ false → allEncrypt rest ≡ true → P Encrypt)
-    → (anyDisable rest ≡ false → allEncrypt rest ≡ false → anyDiscourage rest ≡ true → P Discourage)
-    → (anyDisable rest ≡ false → allEncrypt rest ≡ false → anyDiscourage rest ≡ false → P Available) → P (overall rest)
-unfolding overall
-by-answer P rest disable encrypt discourage available =
-    by-test (anyDisable rest) (λ d. rw (overall, d) (disable d))
-    (λ d.
-    by-test (allEncrypt rest) (λ e. rw (overall, d, e) (encrypt d e))
-    (λ e. by-test (anyDiscourage rest) (λ g. rw (overall, d, e, g) (discourage d e g)) (λ g. rw (overall, d, e, g) (available d e g))))
-
-pub overall-more : (a : Advice) (rest : List Advice) → overall (a ∷ rest) ≡ lowerOf a (overall rest)
-unfolding overall anyDisable allEncrypt anyDiscourage lowerOf
-overall-more Disable rest = refl
-overall-more Discourage rest =
-    by-answer (λ x. overall (Discourage ∷ rest) ≡ lowerOf Discourage x) rest
-    (λ d. rw (overall, d))
-    (λ d e. rw (overall, d))
-    (λ d e g. rw (overall, d))
-    (λ d e g. rw (overall, d))
-overall-more Available rest =
-    by-answer (λ x. overall (Available ∷ rest) ≡ lowerOf Available x) rest
-    (λ d. rw (overall, d))
-    (λ d e. rw (overall, d, encrypt-only rest e))
-    (λ d e g. rw (overall, d, g))
-    (λ d e g. rw (overall, d, g))
-overall-more Encrypt rest = refl
 
 pub overall-one : (a : Advice) → overall (a ∷ []) ≡ a
 unfolding overall anyDisable allEncrypt anyDiscourage
@@ -85,51 +43,40 @@ overall-two Available Available rest = refl
 overall-two Available Encrypt rest = refl
 overall-two Encrypt b rest = refl
 
--- an address in front of a readable list
-front-given : (a : List ℕ) (o : Option (List (List ℕ))) → isGiven (inFront a o) ≡ true → isGiven o ≡ true
-unfolding inFront isGiven
-front-given a none e = e
-front-given a (some rest) e = refl
-
-front-first : (a : List ℕ) (o : Option (List (List ℕ))) → isGiven o ≡ true → given (inFront a o) ≡ a ∷ given o
-unfolding inFront isGiven given
-front-first a none e = cc
-front-first a (some rest) e = refl
-
 module _ (s : List ℕ) (here : Cursor) (k : Handed) (p : Hands s here k) where
-  module _ (r : isGiven (left s here) ≡ true) (from to : ℕ) (next : Cursor) (q : k ≡ Address from to next) where
-    pub handed-rest : isGiven (left s next) ≡ true
-    handed-rest = front-given (between s from to) (left s next) (rw (hand-gives s here k p from to next q) at r)
+  module _ (r : isSome (left s here) ≡ true) (from to : ℕ) (next : Cursor) (q : k ≡ Address from to next) where
+    pub handed-rest : isSome (left s next) ≡ true
+    handed-rest = sym (some-front (between s from to) (left s next)) ∙ rw (hand-gives s here k p from to next q) at r
 
-    pub handed-given : given (left s here) ≡ between s from to ∷ given (left s next)
+    pub handed-given : orElse [] (left s here) ≡ between s from to ∷ orElse [] (left s next)
     handed-given =
-        ap given (hand-gives s here k p from to next q)
-        ∙ front-first (between s from to) (left s next) handed-rest
+        ap (orElse []) (hand-gives s here k p from to next q)
+        ∙ else-front (between s from to) (left s next) handed-rest
 
-  pub handed-end : k ≡ End → given (left s here) ≡ []
-  unfolding given
+  pub handed-end : k ≡ End → orElse [] (left s here) ≡ []
+  unfolding orElse
   handed-end q = rw (hand-end s here k p q)
 
-  pub handed-unread : k ≡ Unreadable → given (left s here) ≡ []
-  unfolding given
+  pub handed-unread : k ≡ Unreadable → orElse [] (left s here) ≡ []
+  unfolding orElse
   handed-unread q = rw (hand-unread s here k p q)
 
 -- The loop: all of the list comes to what is left of it, behind the lowest so far.
 pub record Lowest (t s : List ℕ) (m reply : Bool) (least : Advice) (here : Cursor) : Type 0 where
-  pub readable : isGiven (left s here) ≡ true
-  pub so-far : overall (advised t m reply (given (addresses s))) ≡ overall (least ∷ advised t m reply (given (left s here)))
+  pub readable : isSome (left s here) ≡ true
+  pub so-far : overall (advised t m reply (orElse [] (addresses s))) ≡ overall (least ∷ advised t m reply (orElse [] (left s here)))
 
 module _ (t s : List ℕ) (m reply : Bool) where
   encrypt-first : (list : List Advice) → overall list ≡ overall (Encrypt ∷ list)
   unfolding overall anyDisable allEncrypt anyDiscourage
   encrypt-first list = refl
 
-  pub lowest-begin : (here : Cursor) → here ≡ beginning → isGiven (addresses s) ≡ true → Lowest t s m reply Encrypt here
+  pub lowest-begin : (here : Cursor) → here ≡ beginning → isSome (addresses s) ≡ true → Lowest t s m reply Encrypt here
   lowest-begin here e g =
       let b : left s here ≡ addresses s = left-beginning s here e in
       record {
         readable = rw b g;
-        so-far = rw b (encrypt-first (advised t m reply (given (addresses s))));
+        so-far = rw b (encrypt-first (advised t m reply (orElse [] (addresses s))));
       }
 
   module _ (least : Advice) (here : Cursor) (k : Handed) (h : Lowest t s m reply least here) (p : Hands s here k) where
@@ -143,14 +90,14 @@ module _ (t s : List ℕ) (m reply : Bool) where
           so-far =
               h .so-far
               ∙ rw (handed-given s here k p (h .readable) from to next q, f, e)
-              (overall-two least (adviceIn t m reply (between s from to)) (advised t m reply (given (left s next))));
+              (overall-two least (adviceIn t m reply (between s from to)) (advised t m reply (orElse [] (left s next))));
         }
 
-    pub lowest-end : k ≡ End → least ≡ overall (advised t m reply (given (addresses s)))
+    pub lowest-end : k ≡ End → least ≡ overall (advised t m reply (orElse [] (addresses s)))
     unfolding advised
     lowest-end q = sym (h .so-far ∙ rw (handed-end s here k p q) (overall-one least))
 
-    pub lowest-unread : k ≡ Unreadable → least ≡ overall (advised t m reply (given (addresses s)))
+    pub lowest-unread : k ≡ Unreadable → least ≡ overall (advised t m reply (orElse [] (addresses s)))
     unfolding advised
     lowest-unread q = sym (h .so-far ∙ rw (handed-unread s here k p q) (overall-one least))
 

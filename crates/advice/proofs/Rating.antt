@@ -12,10 +12,11 @@ use mathlib.Core.List.{List}
 use mathlib.Core.Option.{some, none}
 use borrow.Author.Needs.{needs}
 use borrow.Author.Tests.{lt-ltb, le-ltb}
+use Rattle.octets.specs.Options.{orElse}
 use Rattle.octets.proofs.Tests.{by-test}
 use Rattle.slots.specs.declared.Slot.{Slot}
 use Rattle.slots.specs.Slot.{hasLastSeen, hasDirect, hasGossip, isMutual, lastSeen, timestamp, gossipTimestamp, directKeyOf, gossipKeyOf, numbersOf, sound}
-use Rattle.slots.specs.Entry.{entryOf, orElse}
+use Rattle.slots.specs.Entry.{entryOf}
 use Rattle.slots.specs.Facts.{Sound}
 use Rattle.slots.proofs.Sounds.{sound-parts}
 use Rattle.advice.specs.Advice.{stale, directOf, gossipOf, ratedBy, rated, raised, prefersBy}
@@ -42,7 +43,7 @@ module _ (s : List ℕ) where
   gossip-absent g = rw g
 
   seen-there : hasLastSeen s ≡ true → orElse 0 (entryOf s .lastSeen) ≡ lastSeen s
-  unfolding entryOf
+  unfolding entryOf orElse
   seen-there l = rw l
 
 module _ (s : List ℕ) (e : sound s ≡ true) where

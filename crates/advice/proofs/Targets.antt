@@ -8,14 +8,15 @@
 use Prim.Native.Nat.{ℕ, suc, _+_, _-_, _*_}
 use mathlib.Core.Path.{_≡_, sym, ap, _∙_}
 use mathlib.Core.Bool.{true, false}
-use mathlib.Core.List.{List}
+use mathlib.Core.List.{List, []}
 use native.Mathlib.Omega.{arith}
 use native.Mathlib.Numerals.{add-one}
 use borrow.Author.Needs.{needs}
+use Rattle.octets.specs.Options.{orElse, isSome}
 use Rattle.address.specs.Address.{canonical}
 use Rattle.slots.specs.declared.Slot.{Slot}
 use Rattle.slots.specs.Slot.{numbersOf}
-use Rattle.list.specs.List.{addresses, given, isGiven}
+use Rattle.list.specs.List.{addresses}
 use Rattle.list.specs.Answers.{between, beginning, left, Hands}
 use Rattle.list.specs.declared.Cursor.{Cursor}
 use Rattle.list.specs.declared.Handed.{Handed}
@@ -58,18 +59,18 @@ pub ruleset targeting = (target-nothing, target-there, located-in, located-low, 
 
 -- The loop: the place in the whole list is the place that is left in the rest of it.
 pub record Reaches (t s : List ℕ) (place rest : ℕ) (here : Cursor) : Type 0 where
-  pub readable : isGiven (left s here) ≡ true
-  pub so-far : targetAt t (given (addresses s)) place ≡ targetAt t (given (left s here)) rest
+  pub readable : isSome (left s here) ≡ true
+  pub so-far : targetAt t (orElse [] (addresses s)) place ≡ targetAt t (orElse [] (left s here)) rest
 
 module _ (t s : List ℕ) (place : ℕ) where
-  pub reaches-begin : (here : Cursor) → here ≡ beginning → isGiven (addresses s) ≡ true → Reaches t s place place here
+  pub reaches-begin : (here : Cursor) → here ≡ beginning → isSome (addresses s) ≡ true → Reaches t s place place here
   reaches-begin here e g =
       let b : left s here ≡ addresses s = left-beginning s here e in
       record { readable = rw b g; so-far = rw b }
 
   module _ (rest : ℕ) (here : Cursor) (k : Handed) (h : Reaches t s place rest here) (p : Hands s here k) where
     module _ (from to : ℕ) (next : Cursor) (q : k ≡ Address from to next) where
-      pub reaches-here : rest ≡ 0 → (r : Part) → r ≡ targetPart t (between s from to) → r ≡ targetAt t (given (addresses s)) place
+      pub reaches-here : rest ≡ 0 → (r : Part) → r ≡ targetPart t (between s from to) → r ≡ targetAt t (orElse [] (addresses s)) place
       unfolding targetAt
       reaches-here z r e =
           e ∙ sym (h .so-far ∙ rw (handed-given s here k p (h .readable) from to next q, z))
@@ -82,15 +83,15 @@ module _ (t s : List ℕ) (place : ℕ) where
             readable = handed-rest s here k p (h .readable) from to next q;
             so-far =
                 h .so-far
-                ∙ ap (targetAt t (given (left s here))) b
+                ∙ ap (targetAt t (orElse [] (left s here))) b
                 ∙ rw (handed-given s here k p (h .readable) from to next q);
           }
 
-    pub reaches-end : k ≡ End → noPart ≡ targetAt t (given (addresses s)) place
+    pub reaches-end : k ≡ End → noPart ≡ targetAt t (orElse [] (addresses s)) place
     unfolding targetAt
     reaches-end q = sym (h .so-far ∙ rw (handed-end s here k p q))
 
-    pub reaches-unread : k ≡ Unreadable → noPart ≡ targetAt t (given (addresses s)) place
+    pub reaches-unread : k ≡ Unreadable → noPart ≡ targetAt t (orElse [] (addresses s)) place
     unfolding targetAt
     reaches-unread q = sym (h .so-far ∙ rw (handed-unread s here k p q))
 

@@ -9,6 +9,7 @@ use mathlib.Core.Path.{_≡_, refl}
 use mathlib.Core.Bool.{Bool, true, false}
 use mathlib.Core.List.{List, [], _∷_, map}
 use mathlib.Core.Option.{Option, some, none}
+use Rattle.octets.specs.Options.{orElse}
 use Rattle.slots.specs.Entry.{Gossip, Entry}
 use Rattle.advice.specs.Advice.{stale, directOf, gossipOf, ratedBy, rated, raised, prefersBy, adviceFor, targetBy, targetOf, anyDisable, allEncrypt, anyDiscourage, overall}
 use Rattle.advice.specs.declared.Advice.{Advice}
@@ -28,11 +29,11 @@ without gossip = record { address = []; lastSeen = some 1000; direct = none; gos
 
 -- "No reply, no preference: gap 3,024,000 is available, 3,024,001 discourage."
 pub gap-of-35-days : adviceFor false false (some (seenAfter 3024000 false none)) ≡ Available
-unfolding adviceFor raised prefersBy directOf gossipOf rated ratedBy stale
+unfolding adviceFor raised prefersBy directOf gossipOf rated ratedBy stale orElse
 gap-of-35-days = refl
 
 pub gap-of-more : adviceFor false false (some (seenAfter 3024001 false none)) ≡ Discourage
-unfolding adviceFor raised prefersBy directOf gossipOf rated ratedBy stale
+unfolding adviceFor raised prefersBy directOf gossipOf rated ratedBy stale orElse
 gap-of-more = refl
 
 -- the own preference, whether the mail is a reply, the entry, and the advice
@@ -60,7 +61,7 @@ rows =
     ∷ []
 
 one-recipient : map (λ (r : Row). adviceFor (r .own) (r .reply) (r .held)) rows ≡ map (λ (r : Row). r .advice) rows
-unfolding adviceFor raised prefersBy directOf gossipOf rated ratedBy stale
+unfolding adviceFor raised prefersBy directOf gossipOf rated ratedBy stale orElse
 one-recipient = refl
 
 whole-list :

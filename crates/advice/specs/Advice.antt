@@ -12,8 +12,9 @@ use mathlib.Core.Bool.{Bool, true, false, _&&_, _||_}
 use mathlib.Core.List.{List, [], _∷_, map}
 use mathlib.Core.Option.{Option, some, none}
 use lib.Dec.{ltb}
+use Rattle.octets.specs.Options.{orElse}
 use Rattle.address.specs.Address.{canonical}
-use Rattle.slots.specs.Entry.{Direct, Gossip, Entry, orElse}
+use Rattle.slots.specs.Entry.{Direct, Gossip, Entry}
 use Rattle.table.specs.Entries.{entryIn}
 use Rattle.advice.specs.declared.Advice.{Advice}
 use Rattle.advice.specs.declared.Advice.the-variants.{Disable, Discourage, Available, Encrypt}
@@ -110,7 +111,7 @@ adviceIn t isMutual reply a = adviceFor isMutual reply (entryIn t (canonical a))
 unfoldable pub targetIn : List ℕ → List ℕ → List ℕ
 targetIn t a = targetOf (entryIn t (canonical a))
 
--- the same for each address of a list
+-- the advice for each address of a list, in order
 unfoldable pub advised : List ℕ → Bool → Bool → List (List ℕ) → List Advice
 advised t isMutual reply list = map (adviceIn t isMutual reply) list
 

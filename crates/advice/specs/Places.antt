@@ -3,7 +3,7 @@
 --     lowerOf               the lower of two
 --     noPart                the empty part
 --     keyPart, targetPart   where the key to encrypt to lies in the table: for a slot, and for an address
---     targetAt              the same for a place in a list
+--     targetAt              where that of the address at a place of a list lies
 --     octetsAt              the octets of a part
 --     Within                a part ends within the table
 use Prim.Native.Nat.{ℕ, zero, suc, _+_, _*_, _≤_}

@@ -3,8 +3,10 @@
 ghost use Prim.Native.Nat.{_≤_, _<_};
 ghost use mathlib.Core.Path.{_≡_};
 ghost use mathlib.Core.Bool.{true};
+ghost use mathlib.Core.List.{[]};
+ghost use Rattle.octets.specs.Options.{orElse, isSome};
 ghost use Rattle.address.specs.Address.{plain, canonical as canonicalOf};
-ghost use Rattle.list.specs.List.{addresses, given, isGiven};
+ghost use Rattle.list.specs.List.{addresses};
 ghost use Rattle.slots.specs.Slot.{timeLimit};
 ghost use Rattle.table.specs.Table.{checked, found};
 ghost use Rattle.table.specs.declared.Checked.the-variants.{Sound};
@@ -121,8 +123,8 @@ fn advise(table: &[u8], address: &[u8], mutual: bool, reply: bool) -> Advice
 
 // What is advised for a whole list, which has to be readable.
 pub fn overall_advice(table: &[u8], recipients: &[u8], mutual: bool, reply: bool) -> Advice
-    requires { ⌜ (checked (now table) ≡ Sound) × (isGiven (addresses (now recipients)) ≡ true) ⌝ }
-    ensures { λ r. ⌜ r ≡ overall (advised (now (table .entry)) «mutual» reply (given (addresses (now (recipients .entry))))) ⌝ }
+    requires { ⌜ (checked (now table) ≡ Sound) × (isSome (addresses (now recipients)) ≡ true) ⌝ }
+    ensures { λ r. ⌜ r ≡ overall (advised (now (table .entry)) «mutual» reply (orElse [] (addresses (now (recipients .entry))))) ⌝ }
 {
     let mut least = Advice::Encrypt;
     let mut here = list::start();
@@ -179,8 +181,8 @@ fn target(table: &[u8], address: &[u8]) -> Part
 
 // Where the key of the recipient at a place of the list lies, the first being at 0.
 pub fn target_at(table: &[u8], recipients: &[u8], place: usize) -> Part
-    requires { ⌜ (checked (now table) ≡ Sound) × (isGiven (addresses (now recipients)) ≡ true) ⌝ }
-    ensures { λ r. ⌜ r ≡ targetAt (now (table .entry)) (given (addresses (now (recipients .entry)))) place ⌝ }
+    requires { ⌜ (checked (now table) ≡ Sound) × (isSome (addresses (now recipients)) ≡ true) ⌝ }
+    ensures { λ r. ⌜ r ≡ targetAt (now (table .entry)) (orElse [] (addresses (now (recipients .entry)))) place ⌝ }
 {
     let mut left = place;
     let mut here = list::start();

@@ -15,6 +15,7 @@ use borrow.Author.Needs.{needs}
 use borrow.Author.Tests.{not-true, not-false}
 use lib.ListN.{length, take, drop}
 use Rattle.octets.specs.Written.{onto}
+use Rattle.octets.specs.Options.{orElse}
 use Rattle.header.specs.Header.{FieldText, readable, limit}
 use Rattle.header.proofs.Fields.{fields-empty, clear-fits}
 use Rattle.date.specs.Date.{effectiveDate}
@@ -23,7 +24,7 @@ use Rattle.date.specs.declared.Dated.{Dated}
 use Rattle.date.proofs.Effective.{effective-upto}
 use Rattle.slots.specs.Slot.{timeLimit}
 use Rattle.update.specs.Message.{Message, Gossiped, gossipAddresses, addressesOf, hasRoom, heardAll, applied}
-use Rattle.fields.specs.Fields.{fieldsIn, readFields, valuesOf}
+use Rattle.fields.specs.Fields.{fieldsIn, valuesOf}
 use Rattle.fields.specs.declared.Survey.{Survey}
 use Rattle.outer.specs.Outer.{saidDate, dateIn, recipientsIn}
 use Rattle.outer.specs.Answers.{rollOf}
@@ -151,7 +152,7 @@ module _ (t : List ℕ) (receipt : ℕ) (sender outer : List ℕ) where
 
   module _ (payload : List ℕ) (e : length payload ≡ 0) where
     no-fields : (s : List ℕ) → length s ≡ 0 → [] ≡ fieldsIn s
-    unfolding fieldsIn readFields
+    unfolding fieldsIn orElse
     no-fields [] q = rw fields-empty
     no-fields (x ∷ s) q = absurd (omega arith)
 

@@ -7,11 +7,11 @@ use mathlib.Core.Path.{_≡_, refl, ap, _∙_}
 use mathlib.Core.List.{List}
 use mathlib.Core.Option.{Option, some, none}
 use Rattle.octets.specs.Octets.{AllOctets}
+use Rattle.octets.specs.Options.{IfSome}
 use Rattle.header.specs.Header.{FieldText, fieldsOf}
-use Rattle.header.proofs.Octetwise.{ValuesOctets}
+use Rattle.header.proofs.Values.{ValuesOctets}
 use Rattle.keyfield.specs.Field.{Field}
 use Rattle.slots.specs.Slot.{timeLimit}
-use Rattle.slots.specs.Entry.{GoodHalf}
 use Rattle.update.specs.Message.{GoodBrought, GoodMessage}
 use Rattle.fields.specs.Fields.{fieldsIn}
 use Rattle.fields.proofs.Values.{fields-are}
@@ -22,11 +22,11 @@ use Rattle.keys.specs.Keys.{countedIn}
 use Rattle.keys.proofs.GoodKeys.{counted-key, gossip-good}
 use Rattle.delivery.specs.Delivery.{directBy, messageBy}
 
-pub direct-good : (date : ℕ) (fs : List FieldText) (sender : List ℕ) → GoodHalf (GoodBrought date) (directBy date (countedIn fs sender))
+pub direct-good : (date : ℕ) (fs : List FieldText) (sender : List ℕ) → IfSome (GoodBrought date) (directBy date (countedIn fs sender))
 unfolding directBy
 direct-good date fs sender = go (countedIn fs sender) refl
   where
-    go : (o : Option Field) → countedIn fs sender ≡ o → GoodHalf (GoodBrought date) (directBy date (countedIn fs sender))
+    go : (o : Option Field) → countedIn fs sender ≡ o → IfSome (GoodBrought date) (directBy date (countedIn fs sender))
     go none e = rw e tt
     go (some f) e = rw e (record { dated = refl; key = counted-key fs sender f e })
 

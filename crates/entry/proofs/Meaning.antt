@@ -11,10 +11,11 @@ use native.Mathlib.Omega.{arith}
 use borrow.Author.Tests.{eqb-true, eqb-false}
 use lib.Dec.{eqb, ltb}
 use lib.ListN.{length, getD, take, drop, replicate}
+use Rattle.octets.specs.Options.{orElse}
 use Rattle.octets.proofs.Tests.{by-test}
 use Rattle.slots.specs.declared.Slot.{Slot}
 use Rattle.slots.specs.Slot.{slotLength, bits, directLength, gossipLength, addressOf, directKeyOf, gossipKeyOf, numbersOf, marked, free}
-use Rattle.slots.specs.Entry.{entryOf, numbersFor, bitsOf, orElse, noDirect, noGossip}
+use Rattle.slots.specs.Entry.{entryOf, numbersFor, bitsOf, noDirect, noGossip}
 use Rattle.slots.specs.Facts.{Sound}
 use Rattle.slots.proofs.Sounds.{sound-parts, marked-not-free}
 use Rattle.slots.proofs.Entries.{numbers-back, address-fits, direct-fits, gossip-fits, direct-key, gossip-key, all-bits}

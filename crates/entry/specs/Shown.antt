@@ -11,9 +11,10 @@ use mathlib.Core.Bool.{Bool, true, false, cond, _&&_}
 use mathlib.Core.List.{List, [], _∷_, _++_}
 use lib.Dec.{eqb, ltb}
 use lib.ListN.{length, getD, take, drop, replicate}
+use Rattle.octets.specs.Options.{orElse}
 use Rattle.slots.specs.declared.Slot.{Slot}
 use Rattle.slots.specs.Slot.{slotLength, addressAt, directAt, gossipAt, marked, numbersOf}
-use Rattle.slots.specs.Entry.{Entry, bitsOf, numbersFor, noDirect, noGossip, orElse}
+use Rattle.slots.specs.Entry.{Entry, bitsOf, numbersFor, noDirect, noGossip}
 use Rattle.table.specs.Table.{slots, slotAt}
 
 abbrev pub shownCount : ℕ

@@ -11,13 +11,13 @@ use mathlib.Core.Option.{some}
 use native.Mathlib.Omega.{arith}
 use borrow.Author.Needs.{needs}
 use lib.ListN.{length, take, drop, length-take, length-drop}
-use Rattle.header.specs.Header.{inFront, isSome}
+use Rattle.octets.specs.Options.{inFront, isSome, orElse}
 use Rattle.header.specs.Answers.{fieldsFrom, stepAt, fieldAt}
 use Rattle.header.specs.declared.Step.{Step}
 use Rattle.header.specs.declared.Step.the-variants.{Over, Broken, Field}
 use Rattle.header.proofs.Stepping.{Places, field-places, name-from, name-upto, field-less}
 use Rattle.header.proofs.Fields.{from-over, from-field, clear-next, clear-whole}
-use Rattle.fields.specs.Fields.{readFields, isKind, valuesOf}
+use Rattle.fields.specs.Fields.{isKind, valuesOf}
 use Rattle.fields.specs.Answers.{valueAt, valuesFrom, NamedAt, NamedAs}
 use Rattle.fields.specs.declared.Kind.{Kind}
 use Rattle.fields.specs.declared.Named.{Named}
@@ -35,14 +35,14 @@ module _ (kind : Kind) (s : List ℕ) (at : ℕ) where
 
   module _ (place : ℕ) (r : Step) (h : Seeking kind s at place) (t : r ≡ stepAt s place) where
     pub seek-over : r ≡ Over → NamedAs kind s at Nothing
-    unfolding NamedAs valuesOf readFields
+    unfolding NamedAs valuesOf orElse
     seek-over q = h .same ∙ values-by kind s place (some []) (from-over s place r t q)
 
     pub seek-broken : r ≡ Broken → NamedAs kind s at Nothing
     seek-broken q = absurd (clear-whole s place r (h .clear) t q)
 
     module _ (n v e : ℕ) (q : r ≡ Field n v e) (b : Bool) (u : b ≡ isKind kind (take (n - place) (drop place s))) where
-      front : valuesFrom kind s at ≡ valuesOf kind (readFields (inFront (fieldAt s place n v e) (fieldsFrom s e)))
+      front : valuesFrom kind s at ≡ valuesOf kind (orElse [] (inFront (fieldAt s place n v e) (fieldsFrom s e)))
       front = h .same ∙ values-by kind s place (inFront (fieldAt s place n v e) (fieldsFrom s e)) (from-field s place r t n v e q)
 
       clear-behind : isSome (fieldsFrom s e) ≡ true

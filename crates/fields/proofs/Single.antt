@@ -10,7 +10,8 @@ use mathlib.Core.Option.{Option, some, none}
 use native.Mathlib.Omega.{arith}
 use borrow.Author.Needs.{needs}
 use lib.ListN.{length, take, drop, length-take, length-drop}
-use Rattle.fields.specs.Fields.{fieldsIn, valuesOf, onlyValue}
+use Rattle.octets.specs.Options.{onlyOne}
+use Rattle.fields.specs.Fields.{fieldsIn, valuesOf}
 use Rattle.fields.specs.Answers.{valueAt, valuesFrom, NamedAs, valueIn, OnlyWithin}
 use Rattle.fields.specs.Spans.{SpanAs}
 use Rattle.fields.specs.declared.Kind.{Kind}
@@ -22,23 +23,23 @@ use Rattle.fields.specs.declared.Only.the-variants.{One, Other}
 use Rattle.fields.proofs.Finding.{named-first, named-order, named-upto, named-readable, named-none}
 
 module _ (kind : Kind) (s : List ℕ) (x : Span) (c : SpanAs kind s x) (k : Named) (p : NamedAs kind s (x .first) k) where
-  all : onlyValue (valuesFrom kind s (x .first)) ≡ onlyValue (valuesOf kind (fieldsIn s))
-  all = ap onlyValue (c .all)
+  all : onlyOne (valuesFrom kind s (x .first)) ≡ onlyOne (valuesOf kind (fieldsIn s))
+  all = ap onlyOne (c .all)
 
-  pub single-none : k ≡ Nothing → valueIn s Other ≡ onlyValue (valuesOf kind (fieldsIn s))
-  unfolding onlyValue valueIn
+  pub single-none : k ≡ Nothing → valueIn s Other ≡ onlyOne (valuesOf kind (fieldsIn s))
+  unfolding onlyOne valueIn
   single-none q = rw (named-none kind s (x .first) k p q) at all
 
   module _ (v e : ℕ) (q : k ≡ Field v e) (j : Named) (r : NamedAs kind s e j) where
-    first : onlyValue (valueAt s v e ∷ valuesFrom kind s e) ≡ onlyValue (valuesOf kind (fieldsIn s))
+    first : onlyOne (valueAt s v e ∷ valuesFrom kind s e) ≡ onlyOne (valuesOf kind (fieldsIn s))
     first = rw (named-first kind s (x .first) k p v e q) at all
 
-    pub single-one : j ≡ Nothing → valueIn s (One v e) ≡ onlyValue (valuesOf kind (fieldsIn s))
-    unfolding onlyValue valueIn
+    pub single-one : j ≡ Nothing → valueIn s (One v e) ≡ onlyOne (valuesOf kind (fieldsIn s))
+    unfolding onlyOne valueIn
     single-one y = rw (named-none kind s e j r y) at first
 
-    pub single-two : (w f : ℕ) → j ≡ Field w f → valueIn s Other ≡ onlyValue (valuesOf kind (fieldsIn s))
-    unfolding onlyValue valueIn
+    pub single-two : (w f : ℕ) → j ≡ Field w f → valueIn s Other ≡ onlyOne (valuesOf kind (fieldsIn s))
+    unfolding onlyOne valueIn
     single-two w f y = rw (named-first kind s e j r w f y) at first
 
 pub single-within : (kind : Kind) (s : List ℕ) (at : ℕ) (k : Named) (v e : ℕ) → NamedAs kind s at k → k ≡ Field v e → OnlyWithin s (One v e)

@@ -10,32 +10,29 @@
 -- Assumes nothing.
 use Prim.Native.Nat.{ℕ}
 use mathlib.Core.Path.{_≡_, refl, sym, ap, _∙_}
-use mathlib.Core.Bool.{Bool, true, false, false≢true}
+use mathlib.Core.Bool.{Bool, true, false}
 use mathlib.Core.List.{List, [], _∷_, _++_}
 use mathlib.Core.Option.{Option, some, none}
-use native.Mathlib.Omega.{arith}
 use lib.ListN.{length}
 use lib.Seq.{drop-length}
 use Rattle.octets.specs.Octets.{AllOctets}
-use Rattle.header.specs.Header.{FieldText, over, inFront, isSome, fieldsOf, readable}
+use Rattle.octets.specs.Options.{inFront, isSome, orElse, onlyOne, Each}
+use Rattle.octets.proofs.Options.{some-else, else-front, only-one}
+use Rattle.header.specs.Header.{FieldText, over, fieldsOf, readable}
 use Rattle.header.specs.Answers.{fieldsFrom}
 use Rattle.header.proofs.Fields.{fields-over, fields-fit, clear-fits, clear-begin}
-use Rattle.header.proofs.Octetwise.{ValuesOctets, block-octets}
-use Rattle.fields.specs.Fields.{readFields, fieldsIn, isKind, valuesOf, onlyValue}
+use Rattle.header.proofs.Values.{ValuesOctets, block-octets}
+use Rattle.fields.specs.Fields.{fieldsIn, isKind, valuesOf}
 use Rattle.fields.specs.Answers.{valuesFrom}
 use Rattle.fields.specs.declared.Kind.{Kind}
 
 pub fields-are : (s : List ℕ) (fs : List FieldText) → fieldsOf s ≡ some fs → fieldsIn s ≡ fs
-unfolding fieldsIn readFields
+unfolding fieldsIn orElse
 fields-are s fs e = rw e
 
 pub fields-read : (s : List ℕ) → readable s ≡ true → fieldsOf s ≡ some (fieldsIn s)
-unfolding fieldsIn readFields isSome
-fields-read s c = go (fieldsOf s) refl
-  where
-    go : (o : Option (List FieldText)) → fieldsOf s ≡ o → fieldsOf s ≡ some (readFields (fieldsOf s))
-    go none e = absurd (false≢true (sym (ap isSome e) ∙ c))
-    go (some fs) e = rw e
+unfolding fieldsIn
+fields-read s c = some-else [] (fieldsOf s) c
 
 pub block-begin : (s : List ℕ) → readable s ≡ true → isSome (fieldsFrom s 0) ≡ true
 block-begin s c = clear-begin s true (sym c) refl
@@ -51,13 +48,11 @@ module _ (kind : Kind) (f : FieldText) where
 
   -- in front of those that are readable
   pub values-in : (o : Option (List FieldText)) → isKind kind (f .name) ≡ true → isSome o ≡ true
-      → valuesOf kind (readFields (inFront f o)) ≡ f .value ∷ valuesOf kind (readFields o)
-  unfolding readFields inFront isSome
-  values-in none e c = absurd (false≢true c)
-  values-in (some fs) e c = values-first fs e
+      → valuesOf kind (orElse [] (inFront f o)) ≡ f .value ∷ valuesOf kind (orElse [] o)
+  values-in o e c = ap (valuesOf kind) (else-front f o c) ∙ values-first (orElse [] o) e
 
-  pub values-out : (o : Option (List FieldText)) → isKind kind (f .name) ≡ false → valuesOf kind (readFields (inFront f o)) ≡ valuesOf kind (readFields o)
-  unfolding readFields inFront valuesOf
+  pub values-out : (o : Option (List FieldText)) → isKind kind (f .name) ≡ false → valuesOf kind (orElse [] (inFront f o)) ≡ valuesOf kind (orElse [] o)
+  unfolding orElse inFront valuesOf
   values-out none e = refl
   values-out (some fs) e = values-other fs e
 
@@ -72,7 +67,7 @@ values-append kind (f ∷ fs) gs = go (isKind kind (f .name)) refl (values-appen
     go false e h = rw (values-other kind f (fs ++ gs) e, values-other kind f fs e, h)
 
 module _ (kind : Kind) (s : List ℕ) where
-  pub values-by : (at : ℕ) (o : Option (List FieldText)) → fieldsFrom s at ≡ o → valuesFrom kind s at ≡ valuesOf kind (readFields o)
+  pub values-by : (at : ℕ) (o : Option (List FieldText)) → fieldsFrom s at ≡ o → valuesFrom kind s at ≡ valuesOf kind (orElse [] o)
   unfolding valuesFrom
   values-by at o e = rw e
 
@@ -81,27 +76,27 @@ module _ (kind : Kind) (s : List ℕ) where
   values-all c = values-by 0 (fieldsOf s) (sym (fields-fit s (clear-fits s true (sym c) refl)))
 
   pub values-end : valuesFrom kind s (length s) ≡ []
-  unfolding valuesFrom fieldsFrom valuesOf readFields over
+  unfolding valuesFrom fieldsFrom valuesOf orElse over
   values-end = rw (drop-length s, fields-over [] refl)
 
 pub fields-octets : (s : List ℕ) → AllOctets s → ValuesOctets (fieldsIn s)
-unfolding fieldsIn readFields ValuesOctets
+unfolding fieldsIn orElse Each
 fields-octets s o = go (fieldsOf s) refl
   where
-    go : (found : Option (List FieldText)) → fieldsOf s ≡ found → ValuesOctets (readFields (fieldsOf s))
+    go : (found : Option (List FieldText)) → fieldsOf s ≡ found → ValuesOctets (orElse [] (fieldsOf s))
     go none e = rw e tt
     go (some fs) e = rw e (block-octets s o fs e)
 
--- the one value of its kind; behind a first one there is none
-pub only-octets : (kind : Kind) (fs : List FieldText) (v : List ℕ) → ValuesOctets fs → onlyValue (valuesOf kind fs) ≡ some v → AllOctets v
-unfolding valuesOf onlyValue ValuesOctets
-only-octets kind [] v h e = let z : _≡_ {A = ℕ} 0 1 = cc in absurd (omega arith)
-only-octets kind (f ∷ fs) v h e = go (isKind kind (f .name)) refl (λ q. only-octets kind fs v (h .1) q)
+values-octets : (kind : Kind) (fs : List FieldText) → ValuesOctets fs → Each AllOctets (valuesOf kind fs)
+unfolding valuesOf Each
+values-octets kind [] h = tt
+values-octets kind (f ∷ fs) h = go (isKind kind (f .name)) refl (values-octets kind fs (h .1))
   where
-    first : (rest : List (List ℕ)) → onlyValue (f .value ∷ rest) ≡ some v → f .value ≡ v
-    first [] q = cc
-    first (w ∷ rest) q = let z : _≡_ {A = ℕ} 0 1 = cc in absurd (omega arith)
+    go : (b : Bool) → isKind kind (f .name) ≡ b → Each AllOctets (valuesOf kind fs) → Each AllOctets (valuesOf kind (f ∷ fs))
+    go true k rest = rw (values-first kind f fs k) (h .0, rest)
+    go false k rest = rw (values-other kind f fs k) rest
 
-    go : (b : Bool) → isKind kind (f .name) ≡ b → (onlyValue (valuesOf kind fs) ≡ some v → AllOctets v) → AllOctets v
-    go true k later = rw (first (valuesOf kind fs) (rw (values-first kind f fs k) at e)) at (h .0)
-    go false k later = later (rw (values-other kind f fs k) at e)
+-- the one value of its kind
+pub only-octets : (kind : Kind) (fs : List FieldText) (v : List ℕ) → ValuesOctets fs → onlyOne (valuesOf kind fs) ≡ some v → AllOctets v
+unfolding Each
+only-octets kind fs v h e = (rw (only-one (valuesOf kind fs) v e) at (values-octets kind fs h)) .0

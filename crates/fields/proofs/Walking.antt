@@ -13,13 +13,14 @@ use borrow.Author.Needs.{needs}
 use borrow.Author.Tests.{eq-eqb, ne-eqb, eqb-true}
 use lib.Dec.{eqb}
 use lib.ListN.{length, take, drop}
-use Rattle.header.specs.Header.{isSome, limit, readable}
+use Rattle.octets.specs.Options.{isSome, orElse}
+use Rattle.header.specs.Header.{limit, readable}
 use Rattle.header.specs.Answers.{fieldsFrom, stepAt, fieldAt}
 use Rattle.header.specs.declared.Step.{Step}
 use Rattle.header.specs.declared.Step.the-variants.{Over, Broken, Field}
 use Rattle.header.proofs.Stepping.{name-from, name-upto, field-less}
 use Rattle.header.proofs.Fields.{Legible, from-over, from-field, fields-fit, read-long, read-begin, read-over, read-broken, read-next}
-use Rattle.fields.specs.Fields.{readFields, isKind, valuesOf}
+use Rattle.fields.specs.Fields.{isKind, valuesOf}
 use Rattle.fields.specs.Answers.{valuesFrom}
 use Rattle.fields.specs.Spans.{spanPast, unseen, surveyNew, surveyPast, SpanAs, SurveyAs, SurveyedAs}
 use Rattle.fields.specs.declared.Kind.{Kind}
@@ -88,7 +89,7 @@ module _ (kind : Kind) (s : List ℕ) where
           all = h .all;
           no-more =
               h .no-more
-              ∙ ap (λ o. valuesOf kind (readFields o)) (from-field s at r t n x e q)
+              ∙ ap (λ o. valuesOf kind (orElse [] o)) (from-field s at r t n x e q)
               ∙ values-out kind (fieldAt s at n x e) (fieldsFrom s e) k;
           clear = h .clear;
         }
@@ -132,7 +133,7 @@ walk-begin s v e h =
 
 module _ (s : List ℕ) (v : Survey) (at : ℕ) (r : Step) (h : Walked s v at) (t : r ≡ stepAt s at) where
   pub walk-over : r ≡ Over → SurveyedAs s (Readable v)
-  unfolding SurveyedAs valuesFrom valuesOf readFields
+  unfolding SurveyedAs valuesFrom valuesOf orElse
   walk-over q =
       record {
         readably = c;

@@ -8,9 +8,10 @@ use mathlib.Core.Bool.{true}
 use mathlib.Core.List.{List, [], _∷_}
 use mathlib.Core.Option.{Option, some, none}
 use lib.ListN.{length, take, drop}
-use Rattle.header.specs.Header.{unfolded, isSome}
+use Rattle.octets.specs.Options.{isSome, orElse}
+use Rattle.header.specs.Header.{unfolded}
 use Rattle.header.specs.Answers.{fieldsFrom}
-use Rattle.fields.specs.Fields.{readFields, valuesOf}
+use Rattle.fields.specs.Fields.{valuesOf}
 use Rattle.fields.specs.declared.Kind.{Kind}
 use Rattle.fields.specs.declared.Named.{Named}
 use Rattle.fields.specs.declared.Named.the-variants.{Field, Nothing}
@@ -22,7 +23,7 @@ abbrev pub valueAt : List ℕ → ℕ → ℕ → List ℕ
 valueAt s v e = unfolded (take (e - v) (drop v s))
 
 unfoldable pub valuesFrom : Kind → List ℕ → ℕ → List (List ℕ)
-valuesFrom kind s at = valuesOf kind (readFields (fieldsFrom s at))
+valuesFrom kind s at = valuesOf kind (orElse [] (fieldsFrom s at))
 
 -- The first such field from the place `at` on has its value from v to e, and the rest stand from e on.
 pub record NamedAt (kind : Kind) (s : List ℕ) (at v e : ℕ) : Type 0 where

@@ -6,7 +6,8 @@ use mathlib.Core.Path.{_≡_}
 use mathlib.Core.Bool.{Bool, true, false}
 use mathlib.Core.List.{List, []}
 use lib.Dec.{eqb}
-use Rattle.header.specs.Header.{isSome, readable}
+use Rattle.octets.specs.Options.{isSome}
+use Rattle.header.specs.Header.{readable}
 use Rattle.header.specs.Answers.{fieldsFrom}
 use Rattle.fields.specs.Fields.{isKind, fieldsIn, valuesOf}
 use Rattle.fields.specs.Answers.{valuesFrom}

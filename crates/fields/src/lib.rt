@@ -3,9 +3,9 @@
 ghost use mathlib.Core.Path.{_≡_};
 ghost use mathlib.Core.Bool.{true};
 ghost use mathlib.Core.List.{[]};
-ghost use Rattle.header.specs.Header.{isSome};
+ghost use Rattle.octets.specs.Options.{isSome, onlyOne};
 ghost use Rattle.header.specs.Answers.{fieldsFrom};
-ghost use Rattle.fields.specs.Fields.{fieldsIn, isKind as kindOf, valuesOf, onlyValue};
+ghost use Rattle.fields.specs.Fields.{fieldsIn, isKind as kindOf, valuesOf};
 ghost use Rattle.fields.specs.Spans.{spanPast, surveyNew, surveyPast, SpanAs, SurveyedAs};
 ghost use Rattle.fields.specs.Answers.{valuesFrom, NamedAs, valueIn, OnlyWithin};
 use header::Step;
@@ -175,7 +175,7 @@ pub fn find(block: &[u8], at: usize, last: usize, kind: Kind) -> Named
 // The one field of the kind, if there is exactly one.
 pub fn only_field(block: &[u8], span: Span, kind: Kind) -> Only
     requires { ⌜ SpanAs kind (now block) span ⌝ }
-    ensures { λ r. ⌜ valueIn (now (block .entry)) r ≡ onlyValue (valuesOf kind (fieldsIn (now (block .entry)))) ⌝ }
+    ensures { λ r. ⌜ valueIn (now (block .entry)) r ≡ onlyOne (valuesOf kind (fieldsIn (now (block .entry)))) ⌝ }
     ensures { λ r. ⌜ OnlyWithin (now (block .entry)) r ⌝ }
 {
     let last = span.last;

@@ -1,7 +1,7 @@
 -- The fields of a text.
 --     fields-over, fields-broken, fields-one    the equations of `fields`, with no count of lines
 --     from-over, from-broken, from-field        the same from a place on, by the answer r about what stands there
---     some-front, fields-fit, fields-long       where a block is readable
+--     fields-fit, fields-long       where a block is readable
 --     clear-fits .. clear-whole                 what follows where it is found to be
 --     Legible s at                              the block is readable if it is from the place `at` on
 --     read-begin .. read-next                   the steps of a loop over the fields
@@ -18,10 +18,12 @@ use borrow.Author.Needs.{needs}
 use borrow.Author.Tests.{le-leb, lt-leb}
 use lib.ListN.{length, take, drop, length-drop}
 use lib.Seq.{drop-drop}
+use Rattle.octets.specs.Options.{inFront, isSome}
+use Rattle.octets.proofs.Options.{some-front}
 use Rattle.octets.proofs.Lists.{lt-or-le}
 use Rattle.runs.specs.Runs.{runLength}
 use Rattle.runs.specs.declared.Class.the-variants.{Name}
-use Rattle.header.specs.Header.{FieldText, limit, over, rawLength, opensField, nameOf, rawOf, restOf, unfolded, inFront, fieldsWithin, fields, fieldsOf, isSome}
+use Rattle.header.specs.Header.{FieldText, limit, over, rawLength, opensField, nameOf, rawOf, restOf, unfolded, fieldsWithin, fields, fieldsOf}
 use Rattle.header.specs.Answers.{fieldsFrom, stepAt, nameEnd, fieldEnd, fieldAt}
 use Rattle.header.specs.declared.Step.{Step}
 use Rattle.header.specs.declared.Step.the-variants.{Over, Broken, Field}
@@ -106,11 +108,6 @@ module _ (s : List ℕ) (at : ℕ) (r : Step) (t : r ≡ stepAt s at) where
 
   pub from-field : (n v e : ℕ) → r ≡ Field n v e → fieldsFrom s at ≡ inFront (fieldAt s at n v e) (fieldsFrom s e)
   from-field n v e q = fields-told s at ∙ ap (told s at) (sym t ∙ q)
-
-pub some-front : (f : FieldText) (o : Option (List FieldText)) → isSome (inFront f o) ≡ isSome o
-unfolding isSome inFront
-some-front f none = refl
-some-front f (some fs) = refl
 
 pub fields-fit : (s : List ℕ) → length s ≤ limit → fieldsOf s ≡ fieldsFrom s 0
 unfolding fieldsOf fieldsFrom

@@ -13,12 +13,13 @@ use lib.Dec.{leb, eqb}
 use lib.ListN.{length, getD}
 use lib.Seq.{take-append-seam, drop-append-seam, drop-append-add, getD-append-seam}
 use Rattle.octets.specs.Octets.{octet, lf}
+use Rattle.octets.specs.Options.{inFront}
 use Rattle.octets.proofs.Tests.{and-left, and-right}
 use Rattle.runs.specs.Runs.{belongs, runLength}
 use Rattle.runs.specs.declared.Class.{Class}
 use Rattle.runs.specs.declared.Class.the-variants.{Name, Blank}
 use Rattle.runs.proofs.Running.{run-in, run-out}
-use Rattle.header.specs.Header.{ofEnding, over, closes, rawLength, opensField, nameOf, afterColon, rawOf, restOf, unfolded, inFront, fields}
+use Rattle.header.specs.Header.{ofEnding, over, closes, rawLength, opensField, nameOf, afterColon, rawOf, restOf, unfolded, fields}
 use Rattle.header.specs.Blocks.{isRaw}
 use Rattle.header.proofs.Telling.{ends-other, closes-other, closes-lf}
 use Rattle.header.proofs.Counting.{raw-on, raw-last}

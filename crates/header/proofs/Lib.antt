@@ -4,8 +4,7 @@ pub mod Unfolding
 mod LineByLine
 pub mod Stepping
 pub mod Fields
-pub mod Total
-pub mod Octetwise
+pub mod Values
 mod Reporting
 pub mod InFront
 pub mod LineEndings

@@ -11,8 +11,9 @@ use mathlib.Core.List.{List, [], _∷_, map}
 use mathlib.Core.Option.{some, none}
 use lib.ListN.{replicate}
 use Rattle.octets.specs.Octets.{ascii, octet, blank, sameName, sameOctets, lowered, lower}
+use Rattle.octets.specs.Options.{inFront}
 use Rattle.runs.specs.Runs.{run, belongs}
-use Rattle.header.specs.Header.{FieldText, fields, fieldsOf, fieldsWithin, inFront, unfolded, over, ofEnding, opensField, rawLength, closes, isReport, opensReport, mayFollow}
+use Rattle.header.specs.Header.{FieldText, fields, fieldsOf, fieldsWithin, unfolded, over, ofEnding, opensField, rawLength, closes, isReport, opensReport, mayFollow}
 
 field : List ℕ → List ℕ → FieldText
 field n v = record { name = n; value = v }

@@ -17,6 +17,7 @@ use mathlib.Core.Option.{Option, some, none}
 use lib.Dec.{leb, ltb, eqb}
 use lib.ListN.{length, getD, take, drop}
 use Rattle.octets.specs.Octets.{ascii, octet, cr, lf, sameName}
+use Rattle.octets.specs.Options.{isSome, inFront}
 use Rattle.runs.specs.Runs.{belongs, runLength}
 use Rattle.runs.specs.declared.Class.the-variants.{Name, Blank}
 
@@ -69,11 +70,6 @@ pub record FieldText : Type 0 where
   pub name : List ℕ
   pub value : List ℕ
 
--- a field in front of others, where these are readable
-unfoldable pub inFront : FieldText → Option (List FieldText) → Option (List FieldText)
-inFront f none = none
-inFront f (some fs) = some (f ∷ fs)
-
 -- The fields of a text, of so many lines at most. "Anything else before the empty line, a continuation with no field above included, is
 -- unreadable": a continuation of a field above belongs to that field, and neither space nor tab is of a name. What follows the empty line
 -- "isn't examined".
@@ -95,10 +91,6 @@ fields s = fieldsWithin (length s) s
 -- the length of the whole argument is meant, what follows the empty line included; "length 0 is readable"
 unfoldable pub fieldsOf : List ℕ → Option (List FieldText)
 fieldsOf s = elim (leb (length s) limit) [ true ↦ fields s | false ↦ none ]
-
-unfoldable pub isSome : Option (List FieldText) → Bool
-isSome none = false
-isSome (some fs) = true
 
 abbrev pub readable : List ℕ → Bool
 readable s = isSome (fieldsOf s)

@@ -6,10 +6,10 @@
 --     lowest-broken                      the index with 2 is that of the lowest slot that is neither free nor sound
 --     the ruleset                        checking, for `check`
 -- Assumes nothing.
-use Prim.Native.Nat.{ℕ, zero, suc, _+_, _%_, _<_}
-use mathlib.Core.Path.{_≡_, refl, sym, ap, _∙_}
-use mathlib.Core.Bool.{true, false, not, _&&_}
-use mathlib.Core.List.{List, []}
+use Prim.Native.Nat.{ℕ, _%_}
+use mathlib.Core.Path.{_≡_, sym, ap, _∙_}
+use mathlib.Core.Bool.{true, false, _&&_}
+use mathlib.Core.List.{List}
 use mathlib.Core.Option.{some, none}
 use native.Mathlib.Omega.{arith}
 use borrow.Author.Needs.{needs}
@@ -19,13 +19,12 @@ use lib.ListN.{length}
 use mir.Syntax.{w32}
 use mir.Val.{Fits}
 use Rattle.octets.proofs.Tests.{and-right, by-test}
-use Rattle.refusals.specs.Rows.{Row, _when_, firstOf, answeredBy, answerOf}
-use Rattle.refusals.specs.declared.Refusal.{Refusal}
+use Rattle.refusals.specs.Rows.{firstOf, answeredBy, answerOf}
 use Rattle.refusals.specs.declared.Refusal.the-variants.{TableLength, BrokenSlot}
 use Rattle.refusals.specs.declared.Answer.{Answer}
 use Rattle.refusals.specs.declared.Answer.the-variants.{Done, Refused}
 use Rattle.refusals.proofs.Rows.{answer-done}
-use Rattle.table.specs.Table.{slots, right, whole, judged, checked}
+use Rattle.table.specs.Table.{slots, whole, checked}
 use Rattle.table.specs.Slotwise.{Broken}
 use Rattle.table.specs.declared.Checked.{Checked}
 use Rattle.table.specs.declared.Checked.the-variants.{Sound, Length, Slot}

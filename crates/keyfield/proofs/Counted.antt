@@ -1,5 +1,5 @@
 -- The field that counts, as callers ask for it.
---     naming-sender, naming-other, naming-spoiled    a field that names the sender, one that names another, and none
+--     naming-sender, naming-spoiled                  a field that names the sender, and one that is spoiled
 --     valid-is                                       what is valid is a field that names the sender
 --     valid-skip, valid-next, valid-append           the valid fields, from the front of the list, and of two lists
 --     counted-none, counted-one, counted-two         what counts, by how many are valid
@@ -8,23 +8,20 @@
 -- Assumes nothing.
 use Prim.Native.Nat.{ℕ}
 use mathlib.Core.Path.{_≡_, refl, sym, ap, _∙_}
-use mathlib.Core.Bool.{false}
 use mathlib.Core.List.{List, [], _∷_, _++_}
 use mathlib.Core.Option.{Option, some, none}
 use native.Mathlib.Omega.{arith}
 use Rattle.octets.specs.Octets.{sameOctets}
+use Rattle.octets.specs.Options.{onlyOne}
+use Rattle.octets.proofs.Options.{only-one}
 use Rattle.octets.proofs.Comparing.{same-true, same-refl}
 use Rattle.octets.proofs.Tests.{by-test}
-use Rattle.keyfield.specs.Field.{Field, fieldOf, naming, validFor, validFields, onlyOne, counted}
+use Rattle.keyfield.specs.Field.{Field, fieldOf, naming, validFor, validFields, counted}
 
 module _ (sender s : List ℕ) where
   pub naming-sender : (f : Field) → fieldOf s ≡ some f → f .address ≡ sender → validFor sender s ≡ some f
   unfolding naming
   naming-sender f e a = rw (e, a, same-refl sender)
-
-  pub naming-other : (f : Field) → fieldOf s ≡ some f → sameOctets (f .address) sender ≡ false → validFor sender s ≡ none
-  unfolding naming
-  naming-other f e a = rw (e, a)
 
   pub naming-spoiled : fieldOf s ≡ none → validFor sender s ≡ none
   unfolding naming
@@ -63,12 +60,6 @@ valid-append sender (x ∷ s) t = go (validFor sender x) refl (valid-append send
     go none e h = rw (validFields, validFields, e, h)
     go (some f) e h = rw (validFields, validFields, e, h)
 
-only-is : (fs : List Field) (f : Field) → onlyOne fs ≡ some f → fs ≡ f ∷ []
-unfolding onlyOne
-only-is [] f q = let z : _≡_ {A = ℕ} 0 1 = cc in absurd (omega arith)
-only-is (g ∷ []) f q = cc
-only-is (g ∷ h ∷ rest) f q = let z : _≡_ {A = ℕ} 0 1 = cc in absurd (omega arith)
-
 -- where one is valid, it is that of one of the values
 valid-all : (sender : List ℕ) (values : List (List ℕ)) (f : Field) → validFields sender values ≡ f ∷ []
     → (v : List ℕ) × ((fieldOf v ≡ some f) × (f .address ≡ sender))
@@ -101,7 +92,7 @@ module _ (sender : List ℕ) (values : List (List ℕ)) where
   -- what counts is the one that is valid
   pub counted-is : (f : Field) → counted values sender ≡ some f → validFields sender values ≡ f ∷ []
   unfolding counted
-  counted-is f e = only-is (validFields sender values) f e
+  counted-is f e = only-one (validFields sender values) f e
 
   pub counted-value : (f : Field) → counted values sender ≡ some f → (v : List ℕ) × (fieldOf v ≡ some f)
   counted-value f e = let h = valid-all sender values f (counted-is f e) in (h .0, h .1 .0)

@@ -17,6 +17,7 @@ use borrow.Author.Tests.{leb-true, le-leb, lt-ltb, ltb-true}
 use lib.Dec.{leb, ltb, eqb}
 use lib.ListN.{length, getD, List·getD-eq-default}
 use Rattle.octets.specs.Octets.{AllOctets, blank, withoutBlanks}
+use Rattle.octets.specs.Finding.{holds}
 use Rattle.octets.proofs.Lists.{lt-or-le}
 use Rattle.octets.specs.Tests.{every, oneTo}
 use Rattle.octets.proofs.Tests.{by-test, and-left, and-right}
@@ -27,7 +28,7 @@ use Rattle.address.specs.Pieces.{onFirst, pieces, before, behind}
 use Rattle.address.specs.Address.{plain, canonical, isCanonical}
 use Rattle.address.proofs.Pieces.{others, pieces-first}
 use Rattle.address.proofs.Spelling.{plain-is-canonical, canonical-octets}
-use Rattle.keyfield.specs.Field.{trimmedFront, trimmedBack, trimmed, nameOf, attribute, holds, Attribute, addr, preferEncrypt, keydata, ignored, spoiling, attributeOf, Step, on, last, spoils, withAddress, withPreference, step, Said, saidWith, ifLast, saidFrom, saidOf, limited, keyOf, Field, withKey, fieldBy, fieldOf}
+use Rattle.keyfield.specs.Field.{trimmedFront, trimmedBack, trimmed, nameOf, attribute, Attribute, addr, preferEncrypt, keydata, ignored, spoiling, attributeOf, Step, on, last, spoils, withAddress, withPreference, step, Said, saidWith, ifLast, saidFrom, saidOf, limited, keyOf, Field, withKey, fieldBy, fieldOf}
 use Rattle.keyfield.specs.declared.Name.{Name}
 use Rattle.keyfield.specs.declared.Name.the-variants.{Addr, PreferEncrypt, Keydata, Ignored, Unknown}
 use Rattle.keyfield.proofs.Trimming.{every-reverse}

@@ -12,25 +12,26 @@ use native.Mathlib.Omega.{arith}
 use borrow.Author.Needs.{needs}
 use lib.ListN.{length, take, drop}
 use Rattle.octets.specs.Octets.{ascii, sameOctets, startsWith}
+use Rattle.names.specs.Names as names
 use Rattle.keyfield.specs.Field.{nameOf, attribute, attributeOf}
 use Rattle.keyfield.specs.Answers.{part, Within, FirstAt, Trimmed, attributeAt, ValueWithin, Tells}
-use Rattle.keyfield.specs.declared.Part.{Part}
+use Rattle.keyfield.specs.declared.Bounds.{Bounds}
 use Rattle.keyfield.specs.declared.Name.{Name}
 use Rattle.keyfield.specs.declared.Name.the-variants.{Addr as NAddr, PreferEncrypt as NPrefer, Keydata as NKeydata, Ignored as NIgnored, Unknown as NUnknown}
 use Rattle.keyfield.specs.declared.Attribute.the-variants.{Addr, PreferEncrypt, Keydata, Ignored, Spoiling}
 use Rattle.keyfield.proofs.Cutting.{cut-before, cut-behind, cut-holds, cut-without}
 
-module _ (s : List ℕ) (a : Bool) (p : a ≡ sameOctets s (ascii "addr")) where
+module _ (s : List ℕ) (a : Bool) (p : a ≡ sameOctets s names.addr) where
   pub name-addr : a ≡ true → NAddr ≡ nameOf s
   unfolding nameOf
   name-addr t = rw (sym p ∙ t)
 
-  module _ (f : a ≡ false) (b : Bool) (q : b ≡ sameOctets s (ascii "prefer-encrypt")) where
+  module _ (f : a ≡ false) (b : Bool) (q : b ≡ sameOctets s names.preferEncrypt) where
     pub name-prefer : b ≡ true → NPrefer ≡ nameOf s
     unfolding nameOf
     name-prefer t = rw (sym p ∙ f, sym q ∙ t)
 
-    module _ (g : b ≡ false) (c : Bool) (r : c ≡ sameOctets s (ascii "keydata")) where
+    module _ (g : b ≡ false) (c : Bool) (r : c ≡ sameOctets s names.keydata) where
       pub name-keydata : c ≡ true → NKeydata ≡ nameOf s
       unfolding nameOf
       name-keydata t = rw (sym p ∙ f, sym q ∙ g, sym r ∙ t)
@@ -58,7 +59,7 @@ module _ (s : List ℕ) (from to cut : ℕ) (w : Within s from to) (f : FirstAt 
     pub value-within : Within s (cut + 1) to
     value-within = record { order = omega arith; upto = w .upto }
 
-    module _ (n v : Part) (p : Trimmed s from cut n) (q : Trimmed s (cut + 1) to v) where
+    module _ (n v : Bounds) (p : Trimmed s from cut n) (q : Trimmed s (cut + 1) to v) where
       pub name-order : n .from ≤ n .to
       name-order = p .order
 

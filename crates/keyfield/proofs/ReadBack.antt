@@ -7,17 +7,20 @@
 --     valueOf                          the value that is written for an address, a preference and the text of a key
 --     read-back, read-back-key         it is the field of that address in canonical form, that preference, and the key that the text stands for
 -- Assumes nothing.
-use Prim.Native.Nat.{ℕ, _+_}
+use Prim.Native.Nat.{ℕ}
 use mathlib.Core.Path.{_≡_, refl, sym, ap, _∙_}
 use mathlib.Core.Bool.{Bool, true, false, cond, not, false≢true}
 use mathlib.Core.List.{List, [], _∷_, _++_, append-nil, reverse, reverse-cons, reverse-reverse}
 use mathlib.Core.Option.{Option, some, none}
 use native.Mathlib.Omega.{arith}
-use borrow.Author.Tests.{lt-ltb, eq-eqb, ne-eqb, not-true}
+use borrow.Author.Tests.{eq-eqb, ne-eqb, not-true}
 use lib.Dec.{eqb}
-use lib.ListN.{length, length-append}
+use lib.ListN.{length-append}
 use Rattle.octets.specs.Octets.{ascii, sameOctets, blank, withoutBlanks}
 use Rattle.octets.specs.Tests.{every, without}
+use Rattle.octets.specs.Finding.{holds}
+use Rattle.octets.proofs.Finding.{by}
+use Rattle.keyfield.proofs.Cutting.{holds-some}
 use Rattle.octets.proofs.Tests.{and-left}
 use Rattle.octets.proofs.Every.{every-weaker}
 use Rattle.octets.proofs.Without.{without-passing, without-other}
@@ -26,7 +29,7 @@ use Rattle.address.specs.Pieces.{pieces, before, behind}
 use Rattle.address.specs.Address.{plain, canonical, addressOctet}
 use Rattle.address.proofs.Pieces.{others, before-into, behind-into, pieces-into, pieces-whole}
 use Rattle.address.proofs.Sides.{plain-octets, low-apart}
-use Rattle.keyfield.specs.Field.{trimmedFront, trimmedBack, trimmed, nameOf, addr, preferEncrypt, keydata, attribute, holds, attributeOf, on, last, withAddress, withPreference, step, saidWith, ifLast, saidFrom, saidOf, keyOf, withKey, fieldBy, fieldOf}
+use Rattle.keyfield.specs.Field.{trimmedFront, trimmedBack, trimmed, nameOf, addr, preferEncrypt, keydata, attribute, attributeOf, on, last, withAddress, withPreference, step, saidWith, ifLast, saidFrom, saidOf, keyOf, withKey, fieldBy, fieldOf}
 use Rattle.keyfield.specs.declared.Name.the-variants.{Keydata}
 use Rattle.keyfield.proofs.Trimming.{front-blank, front-other, every-reverse}
 
@@ -55,8 +58,7 @@ module _ (n v : List ℕ) (e : every (other 61) n ≡ true) where
   joined-behind = behind-into (other 61) 61 (other-self 61) n (61 ∷ v) e
 
   joined-holds : holds 61 (n ++ (61 ∷ v)) ≡ true
-  unfolding holds
-  joined-holds = rw joined-before (lt-ltb (length n) (length (n ++ (61 ∷ v))) (simp length-append (omega arith)))
+  joined-holds = holds-some 61 (by 61 (n ++ (61 ∷ v))) (rw joined-before (simp length-append (omega arith)))
 
   pub attribute-joined : attributeOf (n ++ (61 ∷ v)) ≡ attribute (nameOf (trimmed n)) (trimmed v)
   unfolding attributeOf

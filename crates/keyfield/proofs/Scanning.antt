@@ -2,7 +2,7 @@
 --     Scanning s at address preference     what is said comes to what the pieces from `at` on say behind the address and the preference
 --     scan-begin .. scan-spoils            the loop's steps
 -- Assumes nothing.
-use Prim.Native.Nat.{ℕ, _+_, _-_, _<_, _≤_}
+use Prim.Native.Nat.{ℕ, _+_, _<_, _≤_}
 use mathlib.Core.Path.{_≡_, refl, sym, ap, _∙_}
 use mathlib.Core.Logic.{⊎-elim}
 use mathlib.Core.List.{List, [], _∷_}

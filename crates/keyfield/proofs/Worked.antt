@@ -6,12 +6,14 @@ use mathlib.Core.Bool.{Bool, true, false}
 use mathlib.Core.List.{List, [], _∷_}
 use mathlib.Core.Option.{Option, some, none}
 use Rattle.octets.specs.Octets.{ascii, lower, lowered, sameOctets, startsWith, blank}
+use Rattle.octets.specs.Options.{onlyOne}
+use Rattle.octets.specs.Finding.{holds}
 use Rattle.octets.specs.Tests.{every, without}
 use Rattle.runs.specs.Runs.{belongs}
 use Rattle.letters.specs.Base64 as base64
 use Rattle.address.specs.Pieces.{onFirst, pieces, before, behind}
 use Rattle.address.specs.Address.{atom, localPart, freeEnds, label, domain, plain, canonical}
-use Rattle.keyfield.specs.Field.{trimmedFront, trimmedBack, trimmed, nameOf, attribute, holds, attributeOf, withAddress, withPreference, step, saidWith, ifLast, saidFrom, saidOf, limited, keyOf, Field, withKey, fieldBy, fieldOf, naming, validFields, onlyOne, counted}
+use Rattle.keyfield.specs.Field.{trimmedFront, trimmedBack, trimmed, nameOf, attribute, attributeOf, withAddress, withPreference, step, saidWith, ifLast, saidFrom, saidOf, limited, keyOf, Field, withKey, fieldBy, fieldOf, naming, validFields, counted}
 
 -- the field of a@b.example with the key `foo`, and those of a@b with the key `f`
 abbrev pub foo : Field

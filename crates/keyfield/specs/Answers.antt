@@ -22,7 +22,7 @@ use Rattle.octets.specs.Written.{onto}
 use Rattle.address.specs.Pieces.{before}
 use Rattle.address.specs.Address.{plain, canonical}
 use Rattle.keyfield.specs.Field.{Attribute, addr, preferEncrypt, keydata, ignored, spoiling, Step, on, last, spoils, Said, Field, mutualBy, saidOf, fieldOf, trimmedFront, trimmedBack, trimmed}
-use Rattle.keyfield.specs.declared.Part.{Part}
+use Rattle.keyfield.specs.declared.Bounds.{Bounds}
 use Rattle.keyfield.specs.declared.Attribute.{Attribute as Told}
 use Rattle.keyfield.specs.declared.Attribute.the-variants.{Addr, PreferEncrypt, Keydata, Ignored, Spoiling}
 use Rattle.keyfield.specs.declared.Place.{Place}
@@ -62,7 +62,7 @@ pub record TrimmedTo (s : List ℕ) (from to r : ℕ) : Type 0 where
   pub low : from ≤ r
   pub high : r ≤ to
 
-pub record Trimmed (s : List ℕ) (from to : ℕ) (r : Part) : Type 0 where
+pub record Trimmed (s : List ℕ) (from to : ℕ) (r : Bounds) : Type 0 where
   pub low : from ≤ r .from
   pub order : r .from ≤ r .to
   pub high : r .to ≤ to

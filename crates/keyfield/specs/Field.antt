@@ -11,11 +11,13 @@ use Prim.Native.Nat.{ℕ}
 use mathlib.Core.Bool.{Bool, true, false, cond}
 use mathlib.Core.List.{List, [], _∷_, reverse}
 use mathlib.Core.Option.{Option, some, none}
-use lib.Dec.{ltb}
 use lib.ListN.{length}
 use Rattle.octets.specs.Octets.{ascii, octet, sameOctets, startsWith, blank, withoutBlanks}
+use Rattle.octets.specs.Finding.{holds}
+use Rattle.octets.specs.Options.{onlyOne}
 use Rattle.octets.specs.Tests.{oneTo}
 use Rattle.letters.specs.Base64.{decode}
+use Rattle.names.specs.Names as names
 use Rattle.address.specs.Pieces.{pieces, before, behind}
 use Rattle.address.specs.Address.{plain, canonical}
 use Rattle.slots.specs.Slot as slot
@@ -38,9 +40,9 @@ trimmed s = trimmedBack (trimmedFront s)
 -- "Names are case-sensitive. .. Names opening with `_` are ignored; others spoil the field." The empty name is one of the others.
 unfoldable pub nameOf : List ℕ → Name
 nameOf s =
-    cond (sameOctets s (ascii "addr")) Addr
-    (cond (sameOctets s (ascii "prefer-encrypt")) PreferEncrypt
-    (cond (sameOctets s (ascii "keydata")) Keydata
+    cond (sameOctets s names.addr) Addr
+    (cond (sameOctets s names.preferEncrypt) PreferEncrypt
+    (cond (sameOctets s names.keydata) Keydata
     (cond (startsWith (ascii "_") s) Ignored
     Unknown)))
 
@@ -58,10 +60,6 @@ attribute PreferEncrypt v = preferEncrypt v
 attribute Keydata v = keydata v
 attribute Ignored v = ignored
 attribute Unknown v = spoiling
-
--- is there such an octet?
-unfoldable pub holds : ℕ → List ℕ → Bool
-holds d s = ltb (length (before d s)) (length s)
 
 -- "each piece is name, `=`, value, parted at its first `=`, name and value each trimmed of spaces and tabs. A piece without `=` or with an
 -- empty name spoils the field."
@@ -85,7 +83,7 @@ withAddress (some a) preference v = spoils
 
 -- "`prefer-encrypt` at most once, and any value but `mutual` means no preference"
 unfoldable pub withPreference : Option (List ℕ) → Option Bool → List ℕ → Step
-withPreference address none v = on address (some (sameOctets v (ascii "mutual")))
+withPreference address none v = on address (some (sameOctets v names.preferring))
 withPreference address (some m) v = spoils
 
 unfoldable pub step : Option (List ℕ) → Option Bool → Attribute → Step
@@ -171,12 +169,6 @@ unfoldable pub validFields : List ℕ → List (List ℕ) → List Field
 validFields sender [] = []
 validFields sender (s ∷ rest) = elim (validFor sender s) [ none ↦ validFields sender rest | some f ↦ f ∷ validFields sender rest ]
 
--- "Only exactly one valid field counts; two valid, even equal, count as none."
-unfoldable pub onlyOne : List Field → Option Field
-onlyOne [] = none
-onlyOne (f ∷ []) = some f
-onlyOne (f ∷ g ∷ rest) = none
-
--- of the values of all Autocrypt fields, in order
+-- "Only exactly one valid field counts; two valid, even equal, count as none." The values are those of all Autocrypt fields, in order.
 unfoldable pub counted : List (List ℕ) → List ℕ → Option Field
 counted values sender = onlyOne (validFields sender values)

@@ -9,7 +9,7 @@ use runs::Class;
 use slots::Slot;
 
 // Where something stands in the value: from the place `from` up to the place `to`.
-struct Part {
+struct Bounds {
     from: usize,
     to: usize,
 }
@@ -118,13 +118,13 @@ fn leave_blanks(s: &[u8], from: usize, to: usize) -> usize
 }
 
 // ".. trimmed of spaces and tabs"
-fn trim(s: &[u8], from: usize, to: usize) -> Part
+fn trim(s: &[u8], from: usize, to: usize) -> Bounds
     requires { ⌜ Within (now s) from to ⌝ }
     ensures { λ r. ⌜ Trimmed (now (s .entry)) from to r ⌝ }
 {
     let start = skip_blanks(s, from, to);
     let end = leave_blanks(s, start, to);
-    Part {
+    Bounds {
         from: start,
         to: end,
     }
@@ -209,7 +209,8 @@ fn with_preference(s: &[u8], from: usize, to: usize, address: Place, preference:
 // What the piece from `from` up to `to` comes to, behind the address and the preference seen so far.
 fn step_at(s: &[u8], from: usize, to: usize, address: Place, preference: Preference) -> Next
     requires { ⌜ Within (now s) from to × Stands (now s) address ⌝ }
-    ensures { λ r. ⌜ Steps (now (s .entry)) r (step (addressAt (now (s .entry)) address) (stated preference) (attributeOf (part (now (s .entry)) from to))) ⌝ }
+    ensures { λ r. ⌜ Steps (now (s .entry)) r
+        (step (addressAt (now (s .entry)) address) (stated preference) (attributeOf (part (now (s .entry)) from to))) ⌝ }
 {
     match attribute_at(s, from, to) {
         Attribute::Addr(start, end) => with_address(s, start, end, address, preference),

@@ -8,7 +8,7 @@ use mathlib.Core.Bool.{Bool, true}
 use mathlib.Core.List.{List, [], _∷_}
 use borrow.Author.Needs.{needs}
 use lib.ListN.{take}
-use Rattle.header.specs.Header.{isSome}
+use Rattle.octets.specs.Options.{isSome}
 use Rattle.header.specs.Answers.{fieldsFrom}
 use Rattle.keyfield.specs.Field.{Field, validFields}
 use Rattle.keyfield.proofs.Counted.{counted-none, counted-one, counted-two}

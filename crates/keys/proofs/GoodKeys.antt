@@ -8,9 +8,10 @@ use mathlib.Core.List.{List, [], _∷_}
 use mathlib.Core.Option.{Option, some, none}
 use native.Mathlib.Omega.{arith}
 use Rattle.octets.specs.Octets.{AllOctets}
+use Rattle.octets.specs.Options.{Each}
 use Rattle.octets.proofs.Tests.{by-test}
 use Rattle.header.specs.Header.{FieldText}
-use Rattle.header.proofs.Octetwise.{ValuesOctets}
+use Rattle.header.proofs.Values.{ValuesOctets}
 use Rattle.list.specs.List.{among}
 use Rattle.keyfield.specs.Field.{Field, fieldOf}
 use Rattle.keyfield.proofs.Fields.{field-canonical, field-least, field-most, field-octets, field-key-octets}
@@ -53,7 +54,7 @@ module _ (recipients : List (List ℕ)) where
       go (some g) e = rw (accepted-next recipients v rest g e) (by-good recipients v (fieldOf v) g h refl e, more)
 
   pub gossip-good : (fs : List FieldText) → ValuesOctets fs → GoodGossipeds (gossipIn recipients fs)
-  unfolding gossipIn valuesOf accepted ValuesOctets GoodGossipeds
+  unfolding gossipIn valuesOf accepted Each GoodGossipeds
   gossip-good [] h = tt
   gossip-good (f ∷ fs) h =
       by-test (isKind AutocryptGossip (f .name))

@@ -12,7 +12,8 @@ use native.Mathlib.Omega.{arith}
 use borrow.Author.Needs.{needs}
 use lib.ListN.{length, take, drop}
 use Rattle.octets.specs.Written.{onto}
-use Rattle.header.specs.Header.{isSome, readable}
+use Rattle.octets.specs.Options.{isSome}
+use Rattle.header.specs.Header.{readable}
 use Rattle.header.specs.Answers.{fieldsFrom}
 use Rattle.header.proofs.Unfolding.{value-within, value-there-from}
 use Rattle.address.specs.Address.{isCanonical}

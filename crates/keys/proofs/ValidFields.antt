@@ -10,7 +10,7 @@ use mathlib.Core.List.{List, [], _∷_}
 use borrow.Author.Needs.{needs}
 use lib.ListN.{length, take, drop}
 use Rattle.octets.specs.Written.{onto}
-use Rattle.header.specs.Header.{isSome}
+use Rattle.octets.specs.Options.{isSome}
 use Rattle.header.specs.Answers.{fieldsFrom}
 use Rattle.header.proofs.Unfolding.{value-within, value-there-from}
 use Rattle.slots.specs.Slot.{keyLimit}

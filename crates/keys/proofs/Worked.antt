@@ -6,6 +6,8 @@ use mathlib.Core.Bool.{false}
 use mathlib.Core.List.{[], _∷_, map}
 use mathlib.Core.Option.{Option, some, none}
 use Rattle.octets.specs.Octets.{ascii, lower, lowered, sameName, sameOctets, startsWith, blank}
+use Rattle.octets.specs.Options.{onlyOne, orElse, inFront}
+use Rattle.octets.specs.Finding.{holds}
 use Rattle.octets.specs.Tests.{every, without}
 use Rattle.runs.specs.Runs.{belongs, run}
 use Rattle.header.specs.Header as header
@@ -13,34 +15,9 @@ use Rattle.letters.specs.Base64 as base64
 use Rattle.address.specs.Pieces.{onFirst, pieces, before, behind}
 use Rattle.address.specs.Address.{atom, localPart, freeEnds, label, domain, plain, canonical}
 use Rattle.list.specs.List.{among}
-use Rattle.keyfield.specs.Field.{
-  Field,
-  trimmedFront,
-  trimmedBack,
-  trimmed,
-  nameOf,
-  attribute,
-  holds,
-  attributeOf,
-  withAddress,
-  withPreference,
-  step,
-  saidWith,
-  ifLast,
-  saidFrom,
-  saidOf,
-  limited,
-  keyOf,
-  withKey,
-  fieldBy,
-  fieldOf,
-  naming,
-  validFields,
-  onlyOne,
-  counted,
-}
+use Rattle.keyfield.specs.Field.{Field, trimmedFront, trimmedBack, trimmed, nameOf, attribute, attributeOf, withAddress, withPreference, step, saidWith, ifLast, saidFrom, saidOf, limited, keyOf, withKey, fieldBy, fieldOf, naming, validFields, counted}
 use Rattle.update.specs.Message.{Gossiped}
-use Rattle.fields.specs.Fields.{readFields, fieldsIn, isKind, valuesOf}
+use Rattle.fields.specs.Fields.{fieldsIn, isKind, valuesOf}
 use Rattle.keyowner.specs.Owners.{acceptedBy}
 use Rattle.keys.specs.Keys.{countedIn, accepted, gossipIn}
 
@@ -61,7 +38,7 @@ counts :
     ∷ "Autocrypt: addr=c@d; keydata=Zg=="
     ∷ [])
     ≡ key "f" ∷ key "f" ∷ none ∷ none ∷ none ∷ []
-unfolding header.fieldsOf header.fields header.fieldsWithin header.inFront header.unfolded header.over header.ofEnding header.opensField run header.rawLength belongs header.closes sameName sameOctets startsWith lowered lower trimmedFront trimmedBack trimmed nameOf attribute holds attributeOf withAddress withPreference step saidWith ifLast saidFrom saidOf limited keyOf withKey fieldBy fieldOf naming validFields onlyOne counted base64.decode base64.follow base64.before base64.atEnd base64.grouped base64.closed base64.signOf without blank every onFirst pieces before behind atom localPart freeEnds label domain plain canonical readFields fieldsIn isKind valuesOf countedIn
+unfolding header.fieldsOf header.fields header.fieldsWithin inFront header.unfolded header.over header.ofEnding header.opensField run header.rawLength belongs header.closes sameName sameOctets startsWith lowered lower trimmedFront trimmedBack trimmed nameOf attribute holds attributeOf withAddress withPreference step saidWith ifLast saidFrom saidOf limited keyOf withKey fieldBy fieldOf naming validFields onlyOne counted base64.decode base64.follow base64.before base64.atEnd base64.grouped base64.closed base64.signOf without blank every onFirst pieces before behind atom localPart freeEnds label domain plain canonical orElse fieldsIn isKind valuesOf countedIn
 counts = refl
 
 abbrev gossip : String → String → Gossiped
@@ -74,5 +51,5 @@ heard :
     (ascii
     "Autocrypt-Gossip: addr=a@B; keydata=Zg==\nAutocrypt-Gossip: addr=x@y; keydata=Zg==\nautocrypt-gossip: addr=c@d; prefer-encrypt=mutual; keydata=Zm9v\nAutocrypt: addr=a@b; keydata=Zm9v\nAutocrypt-Gossip: addr=c@d\nAutocrypt-Gossip: addr=a@b; keydata=Zm9v"))
     ≡ gossip "a@b" "f" ∷ gossip "c@d" "foo" ∷ gossip "a@b" "foo" ∷ []
-unfolding header.fieldsOf header.fields header.fieldsWithin header.inFront header.unfolded header.over header.ofEnding header.opensField run header.rawLength belongs header.closes sameName sameOctets startsWith lowered lower trimmedFront trimmedBack trimmed nameOf attribute holds attributeOf withAddress withPreference step saidWith ifLast saidFrom saidOf limited keyOf withKey fieldBy fieldOf base64.decode base64.follow base64.before base64.atEnd base64.grouped base64.closed base64.signOf without blank every onFirst pieces before behind atom localPart freeEnds label domain plain canonical among readFields fieldsIn isKind valuesOf acceptedBy accepted gossipIn
+unfolding header.fieldsOf header.fields header.fieldsWithin inFront header.unfolded header.over header.ofEnding header.opensField run header.rawLength belongs header.closes sameName sameOctets startsWith lowered lower trimmedFront trimmedBack trimmed nameOf attribute holds attributeOf withAddress withPreference step saidWith ifLast saidFrom saidOf limited keyOf withKey fieldBy fieldOf base64.decode base64.follow base64.before base64.atEnd base64.grouped base64.closed base64.signOf without blank every onFirst pieces before behind atom localPart freeEnds label domain plain canonical among orElse fieldsIn isKind valuesOf acceptedBy accepted gossipIn
 heard = refl

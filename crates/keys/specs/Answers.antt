@@ -8,14 +8,14 @@ use mathlib.Core.Path.{_≡_}
 use mathlib.Core.Bool.{Bool, true}
 use mathlib.Core.List.{List, [], _∷_}
 use lib.ListN.{length, take}
-use Rattle.header.specs.Header.{isSome}
+use Rattle.octets.specs.Options.{isSome, orElse}
 use Rattle.header.specs.Answers.{fieldsFrom}
 use Rattle.address.specs.Address.{isCanonical}
 use Rattle.slots.specs.Slot.{addressRoom, keyLimit}
 use Rattle.keyfield.specs.Field.{Field, validFields}
 use Rattle.roll.specs.Roll.{unrolled}
 use Rattle.update.specs.Message.{Gossiped}
-use Rattle.fields.specs.Fields.{fieldsIn, readFields}
+use Rattle.fields.specs.Fields.{fieldsIn}
 use Rattle.fields.specs.Answers.{valuesFrom}
 use Rattle.fields.specs.declared.Kind.the-variants.{Autocrypt}
 use Rattle.keys.specs.Keys.{gossipIn}
@@ -46,7 +46,7 @@ ValidAs sender s at key (Key m n e) = ValidAt sender s at key m n e
 ValidAs sender s at key NoMore = validFrom sender s at ≡ []
 
 unfoldable pub gossipFrom : List (List ℕ) → List ℕ → ℕ → List Gossiped
-gossipFrom recipients payload at = gossipIn recipients (readFields (fieldsFrom payload at))
+gossipFrom recipients payload at = gossipIn recipients (orElse [] (fieldsFrom payload at))
 
 -- by the roll of the recipients
 abbrev pub gossipOf : List ℕ → List ℕ → List Gossiped

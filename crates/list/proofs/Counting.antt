@@ -3,7 +3,7 @@
 --     Counting s n here    the count of all comes to n and what is left from a cursor on
 --     counting-begin .. counting-unread   the loop's steps
 -- Assumes nothing.
-use Prim.Native.Nat.{ℕ, _+_, _-_, _≤_}
+use Prim.Native.Nat.{ℕ, _+_, _≤_}
 use mathlib.Core.Path.{_≡_, refl, sym, ap, _∙_}
 use mathlib.Core.List.{List, _∷_}
 use mathlib.Core.Option.{Option, some, none}
@@ -11,7 +11,8 @@ use native.Mathlib.Omega.{arith}
 use native.Mathlib.Nat.{zero-add, add-zero}
 use borrow.Author.Needs.{needs}
 use lib.ListN.{length}
-use Rattle.list.specs.List.{inFront, addresses}
+use Rattle.octets.specs.Options.{inFront}
+use Rattle.list.specs.List.{addresses}
 use Rattle.list.specs.Answers.{between, beginning, left, Hands, countedOf}
 use Rattle.list.specs.declared.Cursor.{Cursor}
 use Rattle.list.specs.declared.Handed.{Handed}

@@ -17,6 +17,8 @@ use native.Mathlib.Nat.{sub-zero}
 use borrow.Author.Needs.{needs}
 use lib.ListN.{length, getD, take, drop}
 use lib.Seq.{drop-drop}
+use Rattle.octets.specs.Finding.{holds}
+use Rattle.octets.specs.Octets.{octet}
 use Rattle.octets.proofs.Lists.{lt-or-le, drop-one, drop-done}
 use Rattle.runs.specs.Runs.{run}
 use Rattle.runs.proofs.Running.{Ran, ran}
@@ -28,14 +30,14 @@ use Rattle.tokens.proofs.Places.{Left}
 use Rattle.tokens.proofs.Skipping.{skip-to, skip-unreadable}
 use Rattle.tokens.proofs.Quoting.{quoted-to, quoted-unreadable}
 use Rattle.address.specs.Address.{addressOctet, plain}
-use Rattle.list.specs.List.{openingOf, holdsAt, Token, runToken, quotedToken, tokenAt, firstToken}
+use Rattle.list.specs.List.{openingOf, Token, runToken, quotedToken, tokenAt, firstToken}
 use Rattle.list.specs.Answers.{between, foundIn, Inside}
 use Rattle.list.specs.declared.token.Sort.{Sort}
 use Rattle.list.specs.declared.token.Sort.the-variants.{Word}
-use Rattle.list.specs.declared.token.Opening.{Opening}
-use Rattle.list.specs.declared.token.Opening.the-variants.{Run, Quote, Sign, Nothing}
-use Rattle.list.specs.declared.token.Found.{Found}
-use Rattle.list.specs.declared.token.Found.the-variants.{Address, Other, End as Over, Unreadable as Unfound}
+use Rattle.list.specs.declared.token.Start.{Start}
+use Rattle.list.specs.declared.token.Start.the-variants.{Run, Quote, Sign, Nothing}
+use Rattle.list.specs.declared.token.TokenAt.{TokenAt}
+use Rattle.list.specs.declared.token.TokenAt.the-variants.{Address, Other, End as Over, Unreadable as Unfound}
 
 -- the run that begins at the place `from` and ends at the place `to`
 module _ (s : List ℕ) (from to : ℕ) (l : from < length s) (e : to ≡ from + run addressOctet (drop from s)) where
@@ -65,7 +67,7 @@ module _ (s : List ℕ) (from to : ℕ) (l : from < length s) (e : to ≡ from +
     unfolding foundIn runToken
     run-address t = rw (runToken, octets-run, sym p ∙ t, octets-run, behind-run)
 
-    module _ (f : b ≡ false) (h : Bool) (q : h ≡ holdsAt (between s from to)) where
+    module _ (f : b ≡ false) (h : Bool) (q : h ≡ holds (octet "@") (between s from to)) where
       pub run-unread : h ≡ true → foundIn s Unfound ≡ runToken (drop from s)
       unfolding foundIn runToken
       run-unread t = rw (runToken, octets-run, sym p ∙ f, octets-run, sym q ∙ t)
@@ -98,13 +100,13 @@ module _ (s : List ℕ) (from : ℕ) (r : Reached) (e : r ≡ reached s (afterQu
 pub ruleset finding-quoted = (quote-word, quote-long, quote-upto, quote-unread, needs)
 
 -- what opens a run is an octet of one
-isRun : Opening → Bool
+isRun : Start → Bool
 isRun Run = true
 isRun Quote = false
 isRun (Sign sort) = false
 isRun Nothing = false
 
-of-cond : (b : Bool) (x y : Opening) → isRun (cond b x y) ≡ cond b (isRun x) (isRun y)
+of-cond : (b : Bool) (x y : Start) → isRun (cond b x y) ≡ cond b (isRun x) (isRun y)
 of-cond true x y = refl
 of-cond false x y = refl
 
@@ -125,7 +127,7 @@ unfolding isRun
 opens-run-octet x e = sym (run-begins x) ∙ ap isRun e
 
 -- the token at the place `from`, which its first octet opens
-module _ (s : List ℕ) (from : ℕ) (o : Opening) (l : from < length s) (e : o ≡ openingOf (getD s from 0)) where
+module _ (s : List ℕ) (from : ℕ) (o : Start) (l : from < length s) (e : o ≡ openingOf (getD s from 0)) where
   pub at-begins : o ≡ Run → addressOctet (getD s from 0) ≡ true
   at-begins q = opens-run-octet (getD s from 0) (sym e ∙ q)
 
@@ -148,7 +150,7 @@ module _ (s : List ℕ) (from : ℕ) (o : Opening) (l : from < length s) (e : o 
 pub ruleset finding-at = (at-begins, at-run, at-quote, at-sign, at-nothing, needs)
 
 -- the first token from the place `at` on
-pub inside-earlier : (s : List ℕ) (at from : ℕ) (g : Found) → at ≤ from → Inside s from g → Inside s at g
+pub inside-earlier : (s : List ℕ) (at from : ℕ) (g : TokenAt) → at ≤ from → Inside s from g → Inside s at g
 inside-earlier s at from (Address a b) l h = (omega arith, h .1, h .2)
 inside-earlier s at from (Other sort b) l h = (omega arith, h .1)
 inside-earlier s at from Over l h = h

@@ -11,8 +11,9 @@ use mathlib.Core.List.{List, []}
 use mathlib.Core.Option.{some, none}
 use native.Mathlib.Omega.{arith}
 use lib.ListN.{length}
+use Rattle.octets.specs.Options.{inFront}
 use Rattle.address.specs.Address.{plain}
-use Rattle.list.specs.List.{inFront, addresses}
+use Rattle.list.specs.List.{addresses}
 use Rattle.list.specs.Answers.{between, beginning, left, Gives, Hands}
 use Rattle.list.specs.declared.Cursor.{Cursor}
 use Rattle.list.specs.declared.Handed.{Handed}

@@ -8,5 +8,4 @@ pub mod Counting
 pub mod Lone
 pub mod Readable
 pub mod Room
-pub mod Octetwise
 pub mod Worked

@@ -14,23 +14,23 @@ use lib.ListN.{length, drop}
 use Rattle.list.specs.List.{address, other, firstToken, afterAddress, after, mayEnd}
 use Rattle.list.specs.Answers.{between, foundIn, Inside, left, Gives, Hands, Goes, Moved}
 use Rattle.list.specs.declared.token.Sort.{Sort}
-use Rattle.list.specs.declared.token.Found.{Found}
-use Rattle.list.specs.declared.token.Found.the-variants.{Address as AddressAt, Other as OtherAt, End as Over, Unreadable as Unfound}
+use Rattle.list.specs.declared.token.TokenAt.{TokenAt}
+use Rattle.list.specs.declared.token.TokenAt.the-variants.{Address as AddressAt, Other as OtherAt, End as Over, Unreadable as Unfound}
 use Rattle.list.specs.declared.grammar.Stage.{Stage}
-use Rattle.list.specs.declared.grammar.Step.{Step}
-use Rattle.list.specs.declared.grammar.Step.the-variants.{On as Onto, Wrong}
+use Rattle.list.specs.declared.grammar.Follow.{Follow}
+use Rattle.list.specs.declared.grammar.Follow.the-variants.{On as Onto, Wrong}
 use Rattle.list.specs.declared.Cursor.{Cursor}
 use Rattle.list.specs.declared.Handed.{Handed}
 use Rattle.list.specs.declared.Handed.the-variants.{Address, End, Unreadable}
 use Rattle.list.specs.declared.Move.{Move}
 use Rattle.list.specs.declared.Move.the-variants.{On, Done}
-use Rattle.list.proofs.Listing.{shorter, listed-address, listed-address-wrong, listed-other, listed-other-wrong, listed-end, listed-unread}
+use Rattle.list.proofs.Listing.{stands, listed-address, listed-address-wrong, listed-other, listed-other-wrong, listed-end, listed-unread}
 
-module _ (s : List ℕ) (c : Cursor) (g : Found) (e : foundIn s g ≡ firstToken (drop (c .at) s)) where
-  found : (k : Found) → g ≡ k → firstToken (drop (c .at) s) ≡ foundIn s k
+module _ (s : List ℕ) (c : Cursor) (g : TokenAt) (e : foundIn s g ≡ firstToken (drop (c .at) s)) where
+  found : (k : TokenAt) → g ≡ k → firstToken (drop (c .at) s) ≡ foundIn s k
   found k q = sym e ∙ ap (foundIn s) q
 
-  module _ (from to : ℕ) (q : g ≡ AddressAt from to) (r : Step) (p : r ≡ afterAddress (c .stage) (c .inside)) where
+  module _ (from to : ℕ) (q : g ≡ AddressAt from to) (r : Follow) (p : r ≡ afterAddress (c .stage) (c .inside)) where
     first : firstToken (drop (c .at) s) ≡ address (between s from to) (drop to s)
     unfolding foundIn
     first = found (AddressAt from to) q
@@ -43,7 +43,7 @@ module _ (s : List ℕ) (c : Cursor) (g : Found) (e : foundIn s g ≡ firstToken
         let h : Inside s (c .at) (AddressAt from to) = rw q at i in
         record {
           gives = listed-address (c .stage) (c .inside) (drop (c .at) s) (between s from to) (drop to s) first next inner (sym p ∙ t);
-          whole = shorter (drop (c .at) s) (address (between s from to) (drop to s)) first .1;
+          whole = stands (drop (c .at) s) (address (between s from to) (drop to s)) first .1;
           behind = h .0;
           long = h .1;
           upto = h .2;
@@ -54,7 +54,7 @@ module _ (s : List ℕ) (c : Cursor) (g : Found) (e : foundIn s g ≡ firstToken
     unfolding left
     move-hand-wrong t = listed-address-wrong (c .stage) (c .inside) (drop (c .at) s) (between s from to) (drop to s) first (sym p ∙ t)
 
-  module _ (sort : Sort) (to : ℕ) (q : g ≡ OtherAt sort to) (r : Step) (p : r ≡ after (c .stage) (c .inside) sort) where
+  module _ (sort : Sort) (to : ℕ) (q : g ≡ OtherAt sort to) (r : Follow) (p : r ≡ after (c .stage) (c .inside) sort) where
     second : firstToken (drop (c .at) s) ≡ other sort (drop to s)
     unfolding foundIn
     second = found (OtherAt sort to) q

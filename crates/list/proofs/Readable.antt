@@ -1,35 +1,48 @@
 -- What holds of every readable list.
 --     plain-alone              a plain address is a list of that one address
---     readable-plain, readable-at     every address of a readable list is plain
+--     readable-at, readable-octets    its addresses are plain, and octets where the list is of octets
 --     counted-some, counted-none      what a count says
---     only-some                what the one address of a list says
+--     only-plain, only-octets         so is the one address of a list that has no other
 -- Assumes nothing.
-use Prim.Native.Nat.{ℕ, zero, suc, _<_, _≤_, zero-le}
+use Prim.Native.Nat.{ℕ, zero, suc, _<_, _≤_}
 use mathlib.Core.Path.{_≡_, refl, sym, ap, _∙_}
 use mathlib.Core.Logic.{⊎-elim}
-use mathlib.Core.Bool.{Bool, true, false, false≢true}
-use mathlib.Core.List.{List, [], _∷_}
+use mathlib.Core.Bool.{true, false, false≢true}
+use mathlib.Core.List.{List, [], _∷_, _++_}
 use mathlib.Core.Option.{Option, some, none}
 use native.Mathlib.Omega.{arith}
 use borrow.Author.Tests.{ne-eqb}
 use lib.ListN.{length, getD}
-use lib.Seq.{take-length, drop-length}
-use Rattle.octets.proofs.Lists.{lt-or-le}
-use Rattle.octets.specs.Octets.{blank}
+use lib.Seq.{take-length, drop-length, take-append-seam, drop-append-seam}
+use Rattle.octets.specs.Octets.{AllOctets, blank}
+use Rattle.octets.specs.Options.{inFront, onlyOne, orElse, IfSome, Each}
+use Rattle.octets.proofs.Lists.{lt-or-le, drop-octets, take-octets}
+use Rattle.octets.proofs.Options.{only-listed, each-front}
 use Rattle.octets.specs.Tests.{every}
 use Rattle.octets.proofs.Tests.{and-left, and-right}
 use Rattle.runs.specs.Runs.{belongs, run}
 use Rattle.tokens.specs.Tokens.{past}
+use Rattle.tokens.proofs.Places.{Suffix, whole, behind}
 use Rattle.tokens.proofs.Skipping.{stays}
 use Rattle.address.specs.Address.{addressOctet, plain}
 use Rattle.address.proofs.Sides.{plain-least, plain-octets, plain-at, low-apart}
-use Rattle.list.specs.List.{address, runToken, tokenAt, firstToken, afterAddress, inFront, listedBy, listed, addresses}
-use Rattle.list.specs.Answers.{countedOf, onlyOf}
+use Rattle.list.specs.List.{address, runToken, tokenAt, firstToken, afterAddress, addresses}
+use Rattle.list.specs.Answers.{countedOf}
 use Rattle.list.specs.declared.grammar.Stage.{Stage}
 use Rattle.list.specs.declared.grammar.Stage.the-variants.{Place, Behind}
 use Rattle.list.specs.declared.Counted.the-variants.{Count, Unreadable as Uncounted}
 use Rattle.list.proofs.Telling.{opens-run}
-use Rattle.list.proofs.Listing.{Turn, over, unread, hands, goes, turn, listed-address, listed-end}
+use Rattle.list.proofs.Listing.{by-tokens, listed-address, listed-end}
+
+suffix-octets : {r s : List ℕ} → Suffix r s → AllOctets s → AllOctets r
+suffix-octets whole o = o
+suffix-octets (behind x h) o = suffix-octets h (λ i. o (suc i))
+
+front-octets : (a rest : List ℕ) → AllOctets (a ++ rest) → AllOctets a
+front-octets a rest o = rw (take-append-seam a rest) at (take-octets (length a) (a ++ rest) o)
+
+rest-octets : (a rest : List ℕ) → AllOctets (a ++ rest) → AllOctets rest
+rest-octets a rest o = rw (drop-append-seam a rest) at (drop-octets (length a) (a ++ rest) o)
 
 -- a run that is the whole text
 run-whole : (s : List ℕ) → every addressOctet s ≡ true → run addressOctet s ≡ length s
@@ -70,32 +83,8 @@ plain-alone a p =
     listed-address Place false a a [] (first-plain a p) Behind false refl
     ∙ ap (inFront a) (listed-end Behind false [] true refl refl)
 
--- every address is plain, and there are no more addresses than octets
-abbrev Good : ℕ → Option (List (List ℕ)) → Type 0
-Good n none = Unit
-Good n (some list) = (every plain list ≡ true) × (length list ≤ n)
-
-good-more : (n m : ℕ) (o : Option (List (List ℕ))) → n ≤ m → Good n o → Good m o
-good-more n m none l h = tt
-good-more n m (some list) l h = (h .0, omega arith)
-
-good-front : (n m : ℕ) (a : List ℕ) (o : Option (List (List ℕ))) → n < m → plain a ≡ true → Good n o → Good m (inFront a o)
-unfolding inFront every
-good-front n m a none l p h = tt
-good-front n m a (some list) l p h = (rw p (h .0), omega arith)
-
-good : (n : ℕ) (stage : Stage) (inside : Bool) (s : List ℕ) → Good (length s) (listedBy n stage inside s)
-unfolding listedBy every
-good zero stage inside s = tt
-good (suc n) stage inside s = go (λ next inner rest. good n next inner rest) (turn stage inside s)
-  where
-    go :
-        ((next : Stage) (inner : Bool) (rest : List ℕ) → Good (length rest) (listedBy n next inner rest)) → Turn stage inside s
-        → Good (length s) (listedBy (suc n) stage inside s)
-    go more (over e) = rw (e n) (refl, zero-le)
-    go more (unread e) = rw (e n) tt
-    go more (hands a rest next inner l p e) = rw (e n) (good-front (length rest) (length s) a (listedBy n next inner rest) l p (more next inner rest))
-    go more (goes rest next inner l e) = rw (e n) (good-more (length rest) (length s) (listedBy n next inner rest) (omega arith) (more next inner rest))
+abbrev EachPlain : List (List ℕ) → Type 0
+EachPlain list = every plain list ≡ true
 
 each-plain : (list : List (List ℕ)) → every plain list ≡ true → (i : ℕ) → i < length list → plain (getD list i []) ≡ true
 unfolding every
@@ -103,18 +92,34 @@ each-plain [] e i l = absurd (omega arith)
 each-plain (a ∷ list) e zero l = and-left (plain a) (every plain list) e
 each-plain (a ∷ list) e (suc i) l = each-plain list (and-right (plain a) (every plain list) e) i (omega arith)
 
-module _ (s : List ℕ) (list : List (List ℕ)) (e : addresses s ≡ some list) where
-  both : Good (length s) (some list)
-  unfolding addresses listed
-  both = rw e at (good (suc (length s)) Place false s)
+plain-front : (a : List ℕ) (o : Option (List (List ℕ))) → plain a ≡ true → IfSome EachPlain o → IfSome EachPlain (inFront a o)
+unfolding inFront every
+plain-front a none p h = tt
+plain-front a (some list) p h = rw p h
 
-  pub readable-plain : every plain list ≡ true
-  readable-plain = both .0
+module _ (s : List ℕ) (list : List (List ℕ)) (e : addresses s ≡ some list) where
+  readable-plain : every plain list ≡ true
+  unfolding every
+  readable-plain =
+      rw e at
+      (by-tokens (λ (stage : Stage) (t : List ℕ) (o : Option (List (List ℕ))). IfSome EachPlain o) (λ stage t. refl) (λ stage t. tt)
+      (λ stage next inside inner t a rest o g l p h. plain-front a o p h) (λ stage next t rest o l k h. h) s)
 
   pub readable-at : (i : ℕ) → i < length list → plain (getD list i []) ≡ true
   readable-at i l = each-plain list readable-plain i l
 
--- what a count and the one address say
+  pub readable-octets : AllOctets s → Each AllOctets list
+  unfolding Each
+  readable-octets o =
+      rw e at
+      (by-tokens (λ (stage : Stage) (t : List ℕ) (found : Option (List (List ℕ))). AllOctets t → IfSome (Each AllOctets) found) (λ stage t q. tt)
+      (λ stage t q. tt)
+      (λ stage next inside inner t a rest found g l p h q.
+      let both : AllOctets (a ++ rest) = suffix-octets l q in
+      each-front AllOctets a found (front-octets a rest both) (h (rest-octets a rest both)))
+      (λ stage next t rest found l k h q. h (suffix-octets l q)) s) o
+
+-- what a count says
 pub counted-some : (o : Option (List (List ℕ))) (n : ℕ) → Count n ≡ countedOf o → (list : List (List ℕ)) × ((o ≡ some list) × (n ≡ length list))
 unfolding countedOf
 counted-some none n e = let z : _≡_ {A = ℕ} 0 1 = cc in absurd (omega arith)
@@ -125,9 +130,11 @@ unfolding countedOf
 counted-none none e = refl
 counted-none (some list) e = cc
 
-pub only-some : (o : Option (List (List ℕ))) (a : List ℕ) → some a ≡ onlyOf o → o ≡ some (a ∷ [])
-unfolding onlyOf
-only-some none a e = cc
-only-some (some []) a e = cc
-only-some (some (b ∷ [])) a e = cc
-only-some (some (b ∷ d ∷ rest)) a e = cc
+-- the one address of a list that has no other
+module _ (s a : List ℕ) (e : some a ≡ onlyOne (orElse [] (addresses s))) where
+  pub only-plain : plain a ≡ true
+  only-plain = readable-at s (a ∷ []) (only-listed (addresses s) a (sym e)) 0 (omega arith)
+
+  pub only-octets : AllOctets s → AllOctets a
+  unfolding Each
+  only-octets o = readable-octets s (a ∷ []) (only-listed (addresses s) a (sym e)) o .0

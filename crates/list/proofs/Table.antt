@@ -16,11 +16,11 @@ use Rattle.list.specs.declared.token.Sort.{Sort}
 use Rattle.list.specs.declared.token.Sort.the-variants.{Word, Less, Greater, Comma, Colon, Semicolon}
 use Rattle.list.specs.declared.grammar.Stage.{Stage}
 use Rattle.list.specs.declared.grammar.Stage.the-variants.{Place, Opened, Phrase, Angle, Closing, Behind}
-use Rattle.list.specs.declared.grammar.Step.{Step}
-use Rattle.list.specs.declared.grammar.Step.the-variants.{Wrong}
+use Rattle.list.specs.declared.grammar.Follow.{Follow}
+use Rattle.list.specs.declared.grammar.Follow.the-variants.{Wrong}
 use Rattle.list.proofs.token.Sort.{the-type as sorts}
 
-abbrev pub row : Stage → Bool → Sort → Step
+abbrev pub row : Stage → Bool → Sort → Follow
 row Place inside sort = atPlace inside sort
 row Opened inside sort = atOpened inside sort
 row Phrase inside sort = atPhrase inside sort
@@ -50,11 +50,11 @@ same-number : (a b : Sort) → tagOf sorts a ≡ tagOf sorts b → a ≡ b
 same-number a b e = cc (numbered a, numbered b)
 
 -- each of these sorts is wrong
-abbrev pub Wrongs : (Sort → Step) → List Sort → Type 0
+abbrev pub Wrongs : (Sort → Follow) → List Sort → Type 0
 Wrongs f [] = Unit
 Wrongs f (k ∷ ks) = (Wrong ≡ f k) × Wrongs f ks
 
-other : (f : Sort → Step) (ks : List Sort) (sort : Sort) → OneOf (map (tagOf sorts) ks) (tagOf sorts sort) → Wrongs f ks → Wrong ≡ f sort
+other : (f : Sort → Follow) (ks : List Sort) (sort : Sort) → OneOf (map (tagOf sorts) ks) (tagOf sorts sort) → Wrongs f ks → Wrong ≡ f sort
 other f [] sort h w = absurd h
 other f (k ∷ []) sort h w = rw (same-number sort k h) (w .0)
 other f (k ∷ k′ ∷ ks) sort (inl h) w = rw (same-number sort k h) (w .0)
@@ -66,16 +66,16 @@ pub others-wrong :
 others-wrong ks stage inside sort m here h w = rw here (other (row m inside) ks sort h w ∙ row-after m inside sort)
 
 module _ (stage : Stage) (inside : Bool) (sort : Sort) (m : Stage) (here : stage ≡ m) where
-  pub told-any : (r : Step) → r ≡ row m inside sort → r ≡ after stage inside sort
+  pub told-any : (r : Follow) → r ≡ row m inside sort → r ≡ after stage inside sort
   told-any r e = rw here (e ∙ row-after m inside sort)
 
-  pub told : (k : Sort) (r : Step) → sort ≡ k → r ≡ row m inside k → r ≡ after stage inside sort
+  pub told : (k : Sort) (r : Follow) → sort ≡ k → r ≡ row m inside k → r ≡ after stage inside sort
   told k r p e = rw (here, p) (e ∙ row-after m inside k)
 
-  pub told-inside : (b : Bool) (k : Sort) (r : Step) → inside ≡ b → sort ≡ k → r ≡ row m b k → r ≡ after stage inside sort
+  pub told-inside : (b : Bool) (k : Sort) (r : Follow) → inside ≡ b → sort ≡ k → r ≡ row m b k → r ≡ after stage inside sort
   told-inside b k r q p e = rw (here, p, q) (e ∙ row-after m b k)
 
-pub told-address : (stage : Stage) (inside : Bool) (m : Stage) (r : Step) → stage ≡ m → r ≡ afterAddress m inside → r ≡ afterAddress stage inside
+pub told-address : (stage : Stage) (inside : Bool) (m : Stage) (r : Follow) → stage ≡ m → r ≡ afterAddress m inside → r ≡ afterAddress stage inside
 told-address stage inside m r here e = rw here e
 
 pub ruleset table = (told-any, told, told-inside, told-address, needs)

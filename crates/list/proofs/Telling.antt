@@ -10,11 +10,13 @@ use mathlib.Core.List.{List}
 use borrow.Author.Needs.{needs}
 use borrow.Author.Tests.{eq-eqb, ne-eqb}
 use lib.ListN.{length, getD, drop}
+use Rattle.octets.specs.Finding.{holds}
+use Rattle.octets.specs.Octets.{octet}
 use Rattle.octets.proofs.Lists.{drop-one, drop-done}
 use Rattle.address.specs.Address.{addressOctet}
-use Rattle.list.specs.List.{markOf, openingOf, holdsAt}
-use Rattle.list.specs.declared.token.Opening.{Opening}
-use Rattle.list.specs.declared.token.Opening.the-variants.{Run, Nothing}
+use Rattle.list.specs.List.{markOf, openingOf}
+use Rattle.list.specs.declared.token.Start.{Start}
+use Rattle.list.specs.declared.token.Start.the-variants.{Run, Nothing}
 
 -- what an octet opens; b is what a call answered of it
 module _ (x : ℕ) (b : Bool) (e : b ≡ addressOctet x) where
@@ -22,7 +24,7 @@ module _ (x : ℕ) (b : Bool) (e : b ≡ addressOctet x) where
   unfolding openingOf
   opens-run p = rw (sym e ∙ p)
 
-  pub opens-mark : (k : ℕ) (o : Opening) → b ≡ false → x ≡ k → o ≡ markOf k → o ≡ openingOf x
+  pub opens-mark : (k : ℕ) (o : Start) → b ≡ false → x ≡ k → o ≡ markOf k → o ≡ openingOf x
   unfolding openingOf
   opens-mark k o p q m = rw (sym e ∙ p, q) m
 
@@ -35,22 +37,22 @@ module _ (x : ℕ) (b : Bool) (e : b ≡ addressOctet x) where
 pub ruleset telling = (opens-run, opens-mark, opens-nothing, needs)
 
 pub record Looks (s : List ℕ) (i : ℕ) : Type 0 where
-  pub so-far : holdsAt s ≡ holdsAt (drop i s)
+  pub so-far : holds (octet "@") s ≡ holds (octet "@") (drop i s)
 
 pub looks-begin : (s : List ℕ) → Looks s 0
 looks-begin s = record { so-far = refl }
 
 module _ (s : List ℕ) (i : ℕ) (h : Looks s i) where
-  pub looks-end : length s ≤ i → false ≡ holdsAt s
-  unfolding holdsAt
+  pub looks-end : length s ≤ i → false ≡ holds (octet "@") s
+  unfolding holds
   looks-end l = sym (h .so-far ∙ rw (drop-done s i l))
 
-  pub looks-found : i < length s → getD s i 0 ≡ 64 → true ≡ holdsAt s
-  unfolding holdsAt
+  pub looks-found : i < length s → getD s i 0 ≡ 64 → true ≡ holds (octet "@") s
+  unfolding holds
   looks-found l e = sym (h .so-far ∙ rw (drop-one s i l, eq-eqb (getD s i 0) 64 e))
 
   pub looks-on : i < length s → (getD s i 0 ≡ 64 → ⊥) → Looks s (i + 1)
-  unfolding holdsAt
+  unfolding holds
   looks-on l n = record { so-far = h .so-far ∙ rw (drop-one s i l, ne-eqb (getD s i 0) 64 n) }
 
 pub ruleset looking = (looks-begin, looks-end, looks-found, looks-on, needs)

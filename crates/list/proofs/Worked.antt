@@ -7,12 +7,14 @@ use mathlib.Core.List.{List, [], _∷_, _++_, map}
 use mathlib.Core.Option.{some, none}
 use lib.ListN.{replicate}
 use Rattle.octets.specs.Octets.{ascii, octet, blank}
+use Rattle.octets.specs.Options.{inFront}
+use Rattle.octets.specs.Finding.{holds}
 use Rattle.octets.specs.Tests.{every}
 use Rattle.runs.specs.Runs.{belongs, run}
 use Rattle.tokens.specs.Tokens.{control, kindOf, past, afterQuote}
 use Rattle.address.specs.Pieces.{onFirst, pieces, before, behind}
-use Rattle.address.specs.Address.{addressOctet, atom, localPart, freeEnds, label, domain, plain}
-use Rattle.list.specs.List.{openingOf, holdsAt, runToken, quotedToken, tokenAt, firstToken, afterAddress, after, inFront, listedBy, listed, addresses}
+use Rattle.address.specs.Address.{atom, localPart, freeEnds, label, domain, plain}
+use Rattle.list.specs.List.{openingOf, runToken, quotedToken, tokenAt, firstToken, afterAddress, after, listedBy, listed, addresses}
 
 abbrev Readable : String → List String → Type 0
 Readable s list = addresses (ascii s) ≡ some (map ascii list)
@@ -62,5 +64,5 @@ pub worked :
     × Unread "\"c <a@b>"
     × (addresses (nested 16) ≡ some (ascii "a@b" ∷ []))
     × (addresses (nested 17) ≡ none)
-unfolding openingOf holdsAt runToken quotedToken tokenAt firstToken afterAddress after inFront listedBy listed addresses belongs atom localPart freeEnds label domain plain every onFirst pieces before behind run control blank kindOf past afterQuote
+unfolding openingOf holds runToken quotedToken tokenAt firstToken afterAddress after inFront listedBy listed addresses belongs atom localPart freeEnds label domain plain every onFirst pieces before behind run control blank kindOf past afterQuote
 worked = (refl, refl, refl, refl, refl, refl, refl, refl, refl, refl, refl, refl, refl, refl, refl, refl, refl, refl, refl, refl, refl, refl, refl, refl, refl, refl, refl, refl, refl, refl, refl, refl, refl, refl, refl, refl, refl)

@@ -3,18 +3,19 @@
 --     beginning, left      the first cursor, and what the list still gives from a cursor on
 --     Hands, Moved         what is handed out from a cursor, and what one token brings
 --     countedOf            how many addresses there are
---     onlyIn, onlyOf       the one address of a list that has no other
+--     onlyIn, Within       the one address of a list that has no other, and that it lies in the list
 use Prim.Native.Nat.{ℕ, _-_, _<_, _≤_}
 use mathlib.Core.Path.{_≡_}
 use mathlib.Core.Bool.{true, false}
-use mathlib.Core.List.{List, [], _∷_}
+use mathlib.Core.List.{List, []}
 use mathlib.Core.Option.{Option, some, none}
 use lib.ListN.{length, take, drop}
+use Rattle.octets.specs.Options.{inFront}
 use Rattle.address.specs.Address.{plain}
-use Rattle.list.specs.List.{Token, address, other, end, unreadable, inFront, listed}
+use Rattle.list.specs.List.{Token, address, other, end, unreadable, listed}
 use Rattle.list.specs.declared.grammar.Stage.the-variants.{Place}
-use Rattle.list.specs.declared.token.Found.{Found}
-use Rattle.list.specs.declared.token.Found.the-variants.{Address as AddressAt, Other as OtherAt, End as Over, Unreadable as Unfound}
+use Rattle.list.specs.declared.token.TokenAt.{TokenAt}
+use Rattle.list.specs.declared.token.TokenAt.the-variants.{Address as AddressAt, Other as OtherAt, End as Over, Unreadable as Unfound}
 use Rattle.list.specs.declared.Cursor.{Cursor}
 use Rattle.list.specs.declared.Handed.{Handed}
 use Rattle.list.specs.declared.Handed.the-variants.{Address, End, Unreadable}
@@ -29,14 +30,14 @@ use Rattle.list.specs.declared.Only.the-variants.{One, Other}
 abbrev pub between : List ℕ → ℕ → ℕ → List ℕ
 between s from to = take (to - from) (drop from s)
 
-unfoldable pub foundIn : List ℕ → Found → Token
+unfoldable pub foundIn : List ℕ → TokenAt → Token
 foundIn s (AddressAt from to) = address (between s from to) (drop to s)
 foundIn s (OtherAt sort to) = other sort (drop to s)
 foundIn s Over = end
 foundIn s Unfound = unreadable
 
 -- a token that is looked for from the place `at` on lies behind it, and in the list
-abbrev pub Inside : List ℕ → ℕ → Found → Type 0
+abbrev pub Inside : List ℕ → ℕ → TokenAt → Type 0
 Inside s at (AddressAt from to) = (at ≤ from) × (from < to) × (to ≤ length s)
 Inside s at (OtherAt sort to) = (at < to) × (to ≤ length s)
 Inside s at Over = Unit
@@ -78,13 +79,7 @@ unfoldable pub countedOf : Option (List (List ℕ)) → Counted
 countedOf none = Uncounted
 countedOf (some list) = Count (length list)
 
--- the one address of a list of exactly one
-unfoldable pub onlyOf : Option (List (List ℕ)) → Option (List ℕ)
-onlyOf none = none
-onlyOf (some []) = none
-onlyOf (some (a ∷ [])) = some a
-onlyOf (some (a ∷ b ∷ rest)) = none
-
+-- the one address of a list that has no other, by its places
 unfoldable pub onlyIn : List ℕ → Only → Option (List ℕ)
 onlyIn s (One from to) = some (between s from to)
 onlyIn s Other = none

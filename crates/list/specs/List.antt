@@ -4,7 +4,6 @@
 --     afterAddress, after, mayEnd          the grammar
 --     listed, addresses                    the addresses of a list, none where it is unreadable
 --     among                                an address is one of some
---     given, isGiven                       the addresses of a readable list, and whether it is one
 use Prim.Native.Nat.{ℕ, zero, suc}
 use mathlib.Core.Bool.{Bool, true, false, cond, not, _||_}
 use mathlib.Core.List.{List, [], _∷_}
@@ -12,21 +11,23 @@ use mathlib.Core.Option.{Option, some, none}
 use lib.Dec.{eqb}
 use lib.ListN.{length, take, drop}
 use Rattle.octets.specs.Octets.{octet, sameOctets}
+use Rattle.octets.specs.Finding.{holds}
+use Rattle.octets.specs.Options.{inFront}
 use Rattle.runs.specs.Runs.{run}
 use Rattle.tokens.specs.Tokens.{skipped, afterQuote}
 use Rattle.address.specs.Address.{addressOctet, plain, canonical}
 use Rattle.list.specs.declared.token.Sort.{Sort}
 use Rattle.list.specs.declared.token.Sort.the-variants.{Word, Less, Greater, Comma, Colon, Semicolon}
-use Rattle.list.specs.declared.token.Opening.{Opening}
-use Rattle.list.specs.declared.token.Opening.the-variants.{Run, Quote, Sign, Nothing}
+use Rattle.list.specs.declared.token.Start.{Start}
+use Rattle.list.specs.declared.token.Start.the-variants.{Run, Quote, Sign, Nothing}
 use Rattle.list.specs.declared.grammar.Stage.{Stage}
 use Rattle.list.specs.declared.grammar.Stage.the-variants.{Place, Opened, Phrase, Angle, Closing, Behind}
-use Rattle.list.specs.declared.grammar.Step.{Step}
-use Rattle.list.specs.declared.grammar.Step.the-variants.{On, Wrong}
+use Rattle.list.specs.declared.grammar.Follow.{Follow}
+use Rattle.list.specs.declared.grammar.Follow.the-variants.{On, Wrong}
 
 -- What a token is shows in its first octet. A run is made of the octets of atoms, of dots and of "@"; a sign is a token by itself. An
 -- octet that opens nothing, as a control octet, a bracket or a backslash, makes the list unreadable.
-abbrev pub markOf : ℕ → Opening
+abbrev pub markOf : ℕ → Start
 markOf x =
     cond (eqb x (octet "\"")) Quote
     (cond (eqb x (octet ",")) (Sign Comma)
@@ -35,13 +36,8 @@ markOf x =
     (cond (eqb x (octet ":")) (Sign Colon)
     (cond (eqb x (octet ";")) (Sign Semicolon) Nothing)))))
 
-unfoldable pub openingOf : ℕ → Opening
+unfoldable pub openingOf : ℕ → Start
 openingOf x = cond (addressOctet x) Run (markOf x)
-
--- is there an "@" in it?
-unfoldable pub holdsAt : List ℕ → Bool
-holdsAt [] = false
-holdsAt (x ∷ s) = eqb x (octet "@") || holdsAt s
 
 -- an address, or another token, and the octets behind it; or the end; or what cannot be read
 pub data Token : Type 0 where
@@ -57,7 +53,7 @@ runToken s =
     let n = run addressOctet s in
     elim (plain (take n s)) [
       | true ↦ address (take n s) (drop n s)
-      | false ↦ elim (holdsAt (take n s)) [ true ↦ unreadable | false ↦ other Word (drop n s) ]
+      | false ↦ elim (holds (octet "@") (take n s)) [ true ↦ unreadable | false ↦ other Word (drop n s) ]
     ]
 
 -- "words (.. quoted strings)", the opening quote being the first octet of s
@@ -82,7 +78,7 @@ firstToken s = elim (skipped s) [ none ↦ unreadable | some rest ↦ tokenAt re
 -- place of the grammar: `On` goes on at another place, inside a group or not; `Wrong` is unreadable.
 
 -- a bare address is a list place, and so is one between "<" and ">"
-unfoldable pub afterAddress : Stage → Bool → Step
+unfoldable pub afterAddress : Stage → Bool → Follow
 afterAddress Place inside = On Behind inside
 afterAddress Opened inside = On Behind inside
 afterAddress Phrase inside = Wrong
@@ -91,7 +87,7 @@ afterAddress Closing inside = Wrong
 afterAddress Behind inside = Wrong
 
 -- where a list place must begin; "Empty list places .. make the field unreadable"
-abbrev pub atPlace : Bool → Sort → Step
+abbrev pub atPlace : Bool → Sort → Follow
 atPlace inside Word = On Phrase inside
 atPlace inside Less = On Angle inside
 atPlace inside Greater = Wrong
@@ -100,7 +96,7 @@ atPlace inside Colon = Wrong
 atPlace inside Semicolon = Wrong
 
 -- behind the colon of a group: "[list] ;"
-abbrev pub atOpened : Bool → Sort → Step
+abbrev pub atOpened : Bool → Sort → Follow
 atOpened inside Word = On Phrase inside
 atOpened inside Less = On Angle inside
 atOpened inside Greater = Wrong
@@ -109,7 +105,7 @@ atOpened inside Colon = Wrong
 atOpened inside Semicolon = On Behind false
 
 -- behind one or more words: "phrase <address>", "phrase :", "without inner groups"
-abbrev pub atPhrase : Bool → Sort → Step
+abbrev pub atPhrase : Bool → Sort → Follow
 atPhrase inside Word = On Phrase inside
 atPhrase inside Less = On Angle inside
 atPhrase inside Greater = Wrong
@@ -118,11 +114,11 @@ atPhrase inside Colon = elim inside [ true ↦ Wrong | false ↦ On Opened true 
 atPhrase inside Semicolon = Wrong
 
 -- behind "<" an address must stand; "routes, `<>` .. make the field unreadable"
-abbrev pub atAngle : Bool → Sort → Step
+abbrev pub atAngle : Bool → Sort → Follow
 atAngle inside sort = Wrong
 
 -- behind "<address"
-abbrev pub atClosing : Bool → Sort → Step
+abbrev pub atClosing : Bool → Sort → Follow
 atClosing inside Word = Wrong
 atClosing inside Less = Wrong
 atClosing inside Greater = On Behind inside
@@ -131,7 +127,7 @@ atClosing inside Colon = Wrong
 atClosing inside Semicolon = Wrong
 
 -- behind a whole list place: "separated by commas", and a group's ";"
-abbrev pub atBehind : Bool → Sort → Step
+abbrev pub atBehind : Bool → Sort → Follow
 atBehind inside Word = Wrong
 atBehind inside Less = Wrong
 atBehind inside Greater = Wrong
@@ -139,7 +135,7 @@ atBehind inside Comma = On Place inside
 atBehind inside Colon = Wrong
 atBehind inside Semicolon = elim inside [ true ↦ On Behind false | false ↦ Wrong ]
 
-unfoldable pub after : Stage → Bool → Sort → Step
+unfoldable pub after : Stage → Bool → Sort → Follow
 after Place inside sort = atPlace inside sort
 after Opened inside sort = atOpened inside sort
 after Phrase inside sort = atPhrase inside sort
@@ -156,11 +152,6 @@ mayEnd Angle inside = false
 mayEnd Closing inside = false
 mayEnd Behind inside = not inside
 
--- an address in front of those that follow; none where what follows is unreadable
-unfoldable pub inFront : List ℕ → Option (List (List ℕ)) → Option (List (List ℕ))
-inFront a none = none
-inFront a (some rest) = some (a ∷ rest)
-
 -- the addresses that the octets s give from a place of the grammar on, of fewer than n tokens
 unfoldable pub listedBy : ℕ → Stage → Bool → List ℕ → Option (List (List ℕ))
 listedBy zero stage inside s = none
@@ -175,7 +166,7 @@ listedBy (suc n) stage inside s =
       | unreadable ↦ none
     ]
 
--- the same of all tokens: each has an octet at least
+-- those of all its tokens: each token has an octet at least, so that there are no more tokens than octets
 unfoldable pub listed : Stage → Bool → List ℕ → Option (List (List ℕ))
 listed stage inside s = listedBy (suc (length s)) stage inside s
 
@@ -188,12 +179,3 @@ addresses s = listed Place false s
 unfoldable pub among : List ℕ → List (List ℕ) → Bool
 among a [] = false
 among a (b ∷ rest) = sameOctets (canonical b) (canonical a) || among a rest
-
--- "a readable To, Cc or Reply-To": the addresses of a list that is readable, and whether it is
-unfoldable pub given : Option (List (List ℕ)) → List (List ℕ)
-given none = []
-given (some list) = list
-
-unfoldable pub isGiven : Option (List (List ℕ)) → Bool
-isGiven none = false
-isGiven (some list) = true

@@ -15,66 +15,66 @@ pub enum Stage {
 }
 
 // The grammar goes on, inside a group or not; or the token may not stand there.
-pub enum Step {
+pub enum Follow {
     On(Stage, bool),
     Wrong,
 }
 
 // Behind an address at a place of the grammar.
-pub fn after_address(stage: Stage, inside: bool) -> Step
+pub fn after_address(stage: Stage, inside: bool) -> Follow
     ensures { λ r. ⌜ r ≡ afterAddress stage inside ⌝ }
 {
     match stage {
-        Stage::Place => Step::On(Stage::Behind, inside),
-        Stage::Opened => Step::On(Stage::Behind, inside),
-        Stage::Phrase => Step::Wrong,
-        Stage::Angle => Step::On(Stage::Closing, inside),
-        Stage::Closing => Step::Wrong,
-        Stage::Behind => Step::Wrong,
+        Stage::Place => Follow::On(Stage::Behind, inside),
+        Stage::Opened => Follow::On(Stage::Behind, inside),
+        Stage::Phrase => Follow::Wrong,
+        Stage::Angle => Follow::On(Stage::Closing, inside),
+        Stage::Closing => Follow::Wrong,
+        Stage::Behind => Follow::Wrong,
     }
 }
 
 // Behind any other token at a place of the grammar, inside a group or not.
-pub fn after(stage: Stage, inside: bool, sort: Sort) -> Step
+pub fn after(stage: Stage, inside: bool, sort: Sort) -> Follow
     ensures { λ r. ⌜ r ≡ afterOf stage inside sort ⌝ }
 {
     match stage {
         Stage::Place => match sort {
-            Sort::Word => Step::On(Stage::Phrase, inside),
-            Sort::Less => Step::On(Stage::Angle, inside),
-            _ => Step::Wrong,
+            Sort::Word => Follow::On(Stage::Phrase, inside),
+            Sort::Less => Follow::On(Stage::Angle, inside),
+            _ => Follow::Wrong,
         },
         Stage::Opened => match sort {
-            Sort::Word => Step::On(Stage::Phrase, inside),
-            Sort::Less => Step::On(Stage::Angle, inside),
-            Sort::Semicolon => Step::On(Stage::Behind, false),
-            _ => Step::Wrong,
+            Sort::Word => Follow::On(Stage::Phrase, inside),
+            Sort::Less => Follow::On(Stage::Angle, inside),
+            Sort::Semicolon => Follow::On(Stage::Behind, false),
+            _ => Follow::Wrong,
         },
         Stage::Phrase => match sort {
-            Sort::Word => Step::On(Stage::Phrase, inside),
-            Sort::Less => Step::On(Stage::Angle, inside),
+            Sort::Word => Follow::On(Stage::Phrase, inside),
+            Sort::Less => Follow::On(Stage::Angle, inside),
             Sort::Colon => {
                 if inside {
-                    return Step::Wrong;
+                    return Follow::Wrong;
                 }
-                Step::On(Stage::Opened, true)
+                Follow::On(Stage::Opened, true)
             }
-            _ => Step::Wrong,
+            _ => Follow::Wrong,
         },
-        Stage::Angle => Step::Wrong,
+        Stage::Angle => Follow::Wrong,
         Stage::Closing => match sort {
-            Sort::Greater => Step::On(Stage::Behind, inside),
-            _ => Step::Wrong,
+            Sort::Greater => Follow::On(Stage::Behind, inside),
+            _ => Follow::Wrong,
         },
         Stage::Behind => match sort {
-            Sort::Comma => Step::On(Stage::Place, inside),
+            Sort::Comma => Follow::On(Stage::Place, inside),
             Sort::Semicolon => {
                 if inside {
-                    return Step::On(Stage::Behind, false);
+                    return Follow::On(Stage::Behind, false);
                 }
-                Step::Wrong
+                Follow::Wrong
             }
-            _ => Step::Wrong,
+            _ => Follow::Wrong,
         },
     }
 }

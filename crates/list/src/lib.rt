@@ -3,12 +3,14 @@
 pub mod grammar; // which token may stand where
 pub mod token; // the tokens of a list
 
+use grammar::Follow;
 use grammar::Stage;
-use grammar::Step;
-use token::Found;
+use token::TokenAt;
 ghost use mathlib.Core.Path.{_≡_};
+ghost use mathlib.Core.List.{[]};
+ghost use Rattle.octets.specs.Options.{onlyOne, orElse};
 ghost use Rattle.list.specs.List.{addresses};
-ghost use Rattle.list.specs.Answers.{beginning, Hands, Moved, countedOf, onlyIn, onlyOf, Within};
+ghost use Rattle.list.specs.Answers.{beginning, Hands, Moved, countedOf, onlyIn, Within};
 
 pub struct Cursor {
     pub at: usize,
@@ -64,8 +66,8 @@ fn advance(list: &[u8], here: Cursor) -> Move
     let stage = here.stage;
     let inside = here.inside;
     match token::token(list, at) {
-        Found::Address { from, to } => match grammar::after_address(stage, inside) {
-            Step::On(stage, inside) => Move::Done(Handed::Address {
+        TokenAt::Address { from, to } => match grammar::after_address(stage, inside) {
+            Follow::On(stage, inside) => Move::Done(Handed::Address {
                 from,
                 to,
                 next: Cursor {
@@ -74,23 +76,23 @@ fn advance(list: &[u8], here: Cursor) -> Move
                     inside,
                 },
             }),
-            Step::Wrong => Move::Done(Handed::Unreadable),
+            Follow::Wrong => Move::Done(Handed::Unreadable),
         },
-        Found::Other { sort, to } => match grammar::after(stage, inside, sort) {
-            Step::On(stage, inside) => Move::On(Cursor {
+        TokenAt::Other { sort, to } => match grammar::after(stage, inside, sort) {
+            Follow::On(stage, inside) => Move::On(Cursor {
                 at: to,
                 stage,
                 inside,
             }),
-            Step::Wrong => Move::Done(Handed::Unreadable),
+            Follow::Wrong => Move::Done(Handed::Unreadable),
         },
-        Found::End => {
+        TokenAt::End => {
             if grammar::may_end(stage, inside) {
                 return Move::Done(Handed::End);
             }
             Move::Done(Handed::Unreadable)
         }
-        Found::Unreadable => Move::Done(Handed::Unreadable),
+        TokenAt::Unreadable => Move::Done(Handed::Unreadable),
     }
 }
 
@@ -131,7 +133,7 @@ pub fn count(list: &[u8]) -> Counted
 
 // The one address of a list of exactly one.
 pub fn only_address(list: &[u8]) -> Only
-    ensures { λ r. ⌜ onlyIn (now (list .entry)) r ≡ onlyOf (addresses (now (list .entry))) ⌝ }
+    ensures { λ r. ⌜ onlyIn (now (list .entry)) r ≡ onlyOne (orElse [] (addresses (now (list .entry)))) ⌝ }
     ensures { λ r. ⌜ Within (now (list .entry)) r ⌝ }
 {
     match next_address(list, start()) {

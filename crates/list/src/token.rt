@@ -6,8 +6,9 @@ ghost use Prim.Native.Nat.{_<_};
 ghost use mathlib.Core.Path.{_≡_};
 ghost use mathlib.Core.Bool.{true};
 ghost use lib.ListN.{length, getD, drop};
+ghost use Rattle.octets.specs.Finding.{holds};
 ghost use Rattle.address.specs.Address.{addressOctet};
-ghost use Rattle.list.specs.List.{holdsAt, openingOf, runToken, quotedToken, tokenAt, firstToken};
+ghost use Rattle.list.specs.List.{openingOf, runToken, quotedToken, tokenAt, firstToken};
 ghost use Rattle.list.specs.Answers.{foundIn, Inside};
 
 // The sorts of tokens besides addresses.
@@ -21,7 +22,7 @@ pub enum Sort {
 }
 
 // What an octet opens.
-pub enum Opening {
+pub enum Start {
     Run,
     Quote,
     Sign(Sort),
@@ -29,7 +30,7 @@ pub enum Opening {
 }
 
 // The token at a place; or the end; or what cannot be read.
-pub enum Found {
+pub enum TokenAt {
     Address { from: usize, to: usize },
     Other { sort: Sort, to: usize },
     End,
@@ -37,7 +38,7 @@ pub enum Found {
 }
 
 fn holds_at(text: &[u8]) -> bool
-    ensures { λ r. ⌜ r ≡ holdsAt (now (text .entry)) ⌝ }
+    ensures { λ r. ⌜ r ≡ holds (octet "@") (now (text .entry)) ⌝ }
 {
     let mut i = 0;
     while i < text.len() {
@@ -49,25 +50,25 @@ fn holds_at(text: &[u8]) -> bool
     false
 }
 
-pub fn opened_by(x: u8) -> Opening
+pub fn opened_by(x: u8) -> Start
     ensures { λ r. ⌜ r ≡ openingOf x ⌝ }
 {
     if runs::within(Class::Address, x) {
-        return Opening::Run;
+        return Start::Run;
     }
     match x {
-        b'"' => Opening::Quote,
-        b',' => Opening::Sign(Sort::Comma),
-        b'<' => Opening::Sign(Sort::Less),
-        b'>' => Opening::Sign(Sort::Greater),
-        b':' => Opening::Sign(Sort::Colon),
-        b';' => Opening::Sign(Sort::Semicolon),
-        _ => Opening::Nothing,
+        b'"' => Start::Quote,
+        b',' => Start::Sign(Sort::Comma),
+        b'<' => Start::Sign(Sort::Less),
+        b'>' => Start::Sign(Sort::Greater),
+        b':' => Start::Sign(Sort::Colon),
+        b';' => Start::Sign(Sort::Semicolon),
+        _ => Start::Nothing,
     }
 }
 
 // The run that begins at the place `from`: an address as a whole, or words; with an `@` in it and no address it is unreadable.
-fn run(list: &[u8], from: usize) -> Found
+fn run(list: &[u8], from: usize) -> TokenAt
     requires { ⌜ (from < length (now list)) × (addressOctet (getD (now list) from 0) ≡ true) ⌝ }
     ensures { λ r. ⌜ foundIn (now (list .entry)) r ≡ runToken (drop from (now (list .entry))) ⌝ }
     ensures { λ r. ⌜ Inside (now (list .entry)) from r ⌝ }
@@ -75,58 +76,58 @@ fn run(list: &[u8], from: usize) -> Found
     let to = runs::run_end(list, from, Class::Address);
     let text = &list[from..to];
     if address::is_plain(text) {
-        return Found::Address { from, to };
+        return TokenAt::Address { from, to };
     }
     if holds_at(text) {
-        return Found::Unreadable;
+        return TokenAt::Unreadable;
     }
-    Found::Other {
+    TokenAt::Other {
         sort: Sort::Word,
         to,
     }
 }
 
 // The quoted string whose opening quote stands at the place `from`: a word.
-fn quoted(list: &[u8], from: usize) -> Found
+fn quoted(list: &[u8], from: usize) -> TokenAt
     requires { ⌜ from < length (now list) ⌝ }
     ensures { λ r. ⌜ foundIn (now (list .entry)) r ≡ quotedToken (drop from (now (list .entry))) ⌝ }
     ensures { λ r. ⌜ Inside (now (list .entry)) from r ⌝ }
 {
     match tokens::quoted(list, from + 1) {
-        Reached::To(to) => Found::Other {
+        Reached::To(to) => TokenAt::Other {
             sort: Sort::Word,
             to,
         },
-        Reached::Unreadable => Found::Unreadable,
+        Reached::Unreadable => TokenAt::Unreadable,
     }
 }
 
 // The token whose first octet stands at the place `from`.
-fn token_at(list: &[u8], from: usize) -> Found
+fn token_at(list: &[u8], from: usize) -> TokenAt
     requires { ⌜ from < length (now list) ⌝ }
     ensures { λ r. ⌜ foundIn (now (list .entry)) r ≡ tokenAt (drop from (now (list .entry))) ⌝ }
     ensures { λ r. ⌜ Inside (now (list .entry)) from r ⌝ }
 {
     match opened_by(list[from]) {
-        Opening::Run => run(list, from),
-        Opening::Quote => quoted(list, from),
-        Opening::Sign(sort) => Found::Other { sort, to: from + 1 },
-        Opening::Nothing => Found::Unreadable,
+        Start::Run => run(list, from),
+        Start::Quote => quoted(list, from),
+        Start::Sign(sort) => TokenAt::Other { sort, to: from + 1 },
+        Start::Nothing => TokenAt::Unreadable,
     }
 }
 
 // The first token from the place `at` on.
-pub fn token(list: &[u8], at: usize) -> Found
+pub fn token(list: &[u8], at: usize) -> TokenAt
     ensures { λ r. ⌜ foundIn (now (list .entry)) r ≡ firstToken (drop at (now (list .entry))) ⌝ }
     ensures { λ r. ⌜ Inside (now (list .entry)) at r ⌝ }
 {
     match tokens::skip(list, at) {
         Reached::To(from) => {
             if list.len() <= from {
-                return Found::End;
+                return TokenAt::End;
             }
             token_at(list, from)
         }
-        Reached::Unreadable => Found::Unreadable,
+        Reached::Unreadable => TokenAt::Unreadable,
     }
 }

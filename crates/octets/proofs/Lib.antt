@@ -11,3 +11,4 @@ pub mod Finding
 pub mod Copying
 pub mod Numerals
 pub mod Joined
+pub mod Options

@@ -3,7 +3,7 @@
 --     Zeros s most i               the test comes to "most is 0" and what is left from i on
 --     zeros-begin .. zeros-end     the loop's steps
 -- Assumes nothing.
-use Prim.Native.Nat.{ℕ, suc, zero, _+_, _-_, _<_, _≤_, max}
+use Prim.Native.Nat.{ℕ, suc, zero, _+_, _<_, _≤_, max}
 use mathlib.Core.Path.{_≡_, refl, sym, _∙_}
 use mathlib.Core.Bool.{Bool, true, false, _&&_, false≢true, and-assoc, and-true, and-false}
 use mathlib.Core.List.{List, [], _∷_}

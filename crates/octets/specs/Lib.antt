@@ -3,3 +3,4 @@ pub mod Octets
 pub mod Written
 pub mod Numbers
 pub mod Finding
+pub mod Options

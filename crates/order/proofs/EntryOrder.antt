@@ -11,9 +11,10 @@ use mathlib.Core.Bool.{Bool, true, false}
 use mathlib.Core.List.{List, [], _∷_}
 use mathlib.Core.Option.{Option, some, none}
 use Rattle.octets.specs.Octets.{sameOctets}
+use Rattle.octets.specs.Options.{orElse, IfSome}
 use Rattle.octets.proofs.Comparing.{same-true}
 use Rattle.octets.proofs.Tests.{by-test}
-use Rattle.slots.specs.Entry.{Direct, Entry, orElse, newcomer, GoodHalf}
+use Rattle.slots.specs.Entry.{Direct, Entry, newcomer}
 use Rattle.update.specs.Update.{updated, heard}
 use Rattle.update.proofs.Halves.{heard-again}
 use Rattle.update.specs.Message.{Gossiped, Message, entryPut, entryHeard, entryAfter}
@@ -40,7 +41,7 @@ module _ (date : ℕ) (b : List ℕ) where
       (λ f. rw (entryPut, keyAbout, f))
 
   heard-last : (first last : Option (List ℕ)) (e : Option Entry) → heardOf b date last (heardOf b date first e) ≡ heardOf b date (lastOf first last) e
-  unfolding heardOf lastOf
+  unfolding heardOf lastOf orElse
   heard-last none none e = refl
   heard-last none (some key) e = refl
   heard-last (some k) none e = refl
@@ -74,10 +75,10 @@ entry-parts m b e = heard-all (m .date) b (m .gossip) _ ∙ ap (heardOf b (m .da
 
 -- of an address without an entry nothing has to be known
 unfoldable pub Known : Option Entry → Type 0
-Known e = GoodHalf Timely e
+Known e = IfSome Timely e
 
 known-else : (b : List ℕ) (e : Option Entry) → Known e → Timely (orElse (newcomer b) e)
-unfolding Known Timely newcomer
+unfolding Known Timely newcomer orElse
 known-else b none k = tt
 known-else b (some e) k = k
 
@@ -97,7 +98,7 @@ entry-keeps m b e s k = rw (entry-parts m b e) (known-heard b (m .date) (bringsG
 -- the two parts do not touch each other
 sent-heard : (b : List ℕ) (x : Bool) (m : Message) (date : ℕ) (key : Option (List ℕ)) (e : Option Entry)
     → sentBy b x m (heardOf b date key e) ≡ heardOf b date key (sentBy b x m e)
-unfolding sentBy heardOf
+unfolding sentBy heardOf orElse
 sent-heard b false m date key e = refl
 sent-heard b true m date none e = refl
 sent-heard b true m date (some key) e = ap some (sym (apart-swap (m .date) date (m .direct) key (orElse (newcomer b) e)))
@@ -105,7 +106,7 @@ sent-heard b true m date (some key) e = ap some (sym (apart-swap (m .date) date 
 heard-heard : (b : List ℕ) (c d : ℕ) (key other : Option (List ℕ)) (e : Option Entry)
     → ((k l : List ℕ) → key ≡ some k → other ≡ some l → c ≡ d → k ≡ l)
     → heardOf b d other (heardOf b c key e) ≡ heardOf b c key (heardOf b d other e)
-unfolding heardOf
+unfolding heardOf orElse
 heard-heard b c d none other e agree = refl
 heard-heard b c d (some k) none e agree = refl
 heard-heard b c d (some k) (some l) e agree = ap some (heard-swap c d k l (orElse (newcomer b) e) (λ q. sym (agree k l refl refl (sym q))))
@@ -121,7 +122,7 @@ module _ (m n : Message) (s : Stamped (m .date) (m .direct)) (r : Stamped (n .da
       λ i. record { timestamp = t i; key = sym (both .0) i; «mutual» = sym (both .1) i }
 
   sent-sent : (e : Option Entry) → Known e → sent b n (sent b m e) ≡ sent b m (sent b n e)
-  unfolding sentBy
+  unfolding sentBy orElse
   sent-sent e k = go (sameOctets (m .sender) b) (sameOctets (n .sender) b) same-direct
     where
       go : (x y : Bool) → (x ≡ true → y ≡ true → (u v : Direct) → n .direct ≡ some u → m .direct ≡ some v → u .timestamp ≡ v .timestamp → u ≡ v)

@@ -15,10 +15,9 @@ use mathlib.Core.Option.{Option, some, none}
 use native.Mathlib.Omega.{arith}
 use Rattle.octets.specs.Octets.{AllOctets}
 use Rattle.octets.proofs.Tests.{by-test}
-use Rattle.refusals.specs.Rows.{firstOf, answerOf}
+use Rattle.refusals.specs.Rows.{firstOf}
 use Rattle.refusals.specs.declared.Refusal.{Refusal}
 use Rattle.refusals.specs.declared.Refusal.the-variants.{NoFreeSlot}
-use Rattle.refusals.specs.declared.Answer.{Answer}
 use Rattle.refusals.specs.declared.Answer.the-variants.{Done, Refused}
 use Rattle.refusals.proofs.Rows.{by-refusal, refused-is, done-is}
 use Rattle.table.specs.Table.{checked}

@@ -10,12 +10,13 @@ use mathlib.Core.Bool.{true}
 use mathlib.Core.List.{List, [], _∷_, List·Memᴰ, List·Memᴰ·head, List·Memᴰ·tail, List·Permᴰ, Permᴰ·symm}
 use mathlib.Core.Option.{Option, some, none}
 use Rattle.octets.specs.Octets.{AllOctets}
+use Rattle.octets.specs.Options.{IfSome}
 use Rattle.octets.proofs.Tests.{and-left, and-right}
-use Rattle.slots.specs.Entry.{Direct, Entry, GoodDirect, GoodHalf, Good}
+use Rattle.slots.specs.Entry.{Direct, Entry, GoodDirect, Good}
 use Rattle.table.specs.Table.{checked}
 use Rattle.table.specs.Entries.{entryIn}
 use Rattle.table.specs.declared.Checked.the-variants.{Sound}
-use Rattle.table.proofs.Replaced.{entry-good}
+use Rattle.table.proofs.Entries.{entry-good}
 use Rattle.update.specs.Message.{Message, entryAfter, GoodBrought, GoodMessage}
 use Rattle.delivery.specs.Delivery.{delivered}
 use Rattle.update.proofs.Applying.{applied-sound, applied-octets, applied-entry}
@@ -30,7 +31,7 @@ good-stamped : (m : Message) → GoodMessage m → Stamped (m .date) (m .direct)
 unfolding Stamped
 good-stamped m g = go (m .direct) (g .direct)
   where
-    go : (brought : Option Direct) → GoodHalf (GoodBrought (m .date)) brought → GoodHalf (λ (d : Direct). d .timestamp ≡ m .date) brought
+    go : (brought : Option Direct) → IfSome (GoodBrought (m .date)) brought → IfSome (λ (d : Direct). d .timestamp ≡ m .date) brought
     go none h = tt
     go (some d) h = h .dated
 
@@ -39,7 +40,7 @@ good-timely : (e : Entry) → Good e → Timely e
 unfolding Timely
 good-timely e g = go (e .direct) (g .direct)
   where
-    go : (direct : Option Direct) → GoodHalf (GoodDirect (e .lastSeen)) direct → GoodHalf (Seen (e .lastSeen)) direct
+    go : (direct : Option Direct) → IfSome (GoodDirect (e .lastSeen)) direct → IfSome (Seen (e .lastSeen)) direct
     go none h = tt
     go (some d) h = record { was-seen = h .was-seen; not-below = h .not-below }
 
@@ -47,7 +48,7 @@ entry-known : (t b : List ℕ) → AllOctets t → checked t ≡ Sound → Known
 unfolding Known
 entry-known t b o s = go (entryIn t b) refl
   where
-    go : (e : Option Entry) → entryIn t b ≡ e → GoodHalf Timely e
+    go : (e : Option Entry) → entryIn t b ≡ e → IfSome Timely e
     go none q = tt
     go (some e) q = good-timely e (entry-good t b s o e q .0)
 

@@ -13,22 +13,23 @@ use mathlib.Core.Option.{Option, some, none}
 use native.Mathlib.Omega.{arith}
 use borrow.Author.Tests.{ltb-true, ltb-false}
 use lib.Dec.{ltb}
+use Rattle.octets.specs.Options.{orElse, isSome, IfSome}
 use Rattle.octets.proofs.Tests.{by-test}
-use Rattle.slots.specs.Entry.{Direct, Gossip, Entry, orElse, isPresent, GoodHalf, seenBy, withDirect, withGossip}
+use Rattle.slots.specs.Entry.{Direct, Gossip, Entry, seenBy, withDirect, withGossip}
 use Rattle.update.specs.Update.{younger, withField, updated, youngerGossip, heard}
 use Rattle.order.proofs.Later.{later, later-stays, later-replaces, later-swap, later-holds}
 
 -- "a direct key implies last seen present and not below the Autocrypt timestamp"
 pub record Seen (seen : Option ℕ) (d : Direct) : Type 0 where
-  pub was-seen : isPresent seen ≡ true
+  pub was-seen : isSome seen ≡ true
   pub not-below : d .timestamp ≤ orElse 0 seen
 
 unfoldable pub Timely : Entry → Type 0
-Timely e = GoodHalf (Seen (e .lastSeen)) (e .direct)
+Timely e = IfSome (Seen (e .lastSeen)) (e .direct)
 
 -- the timestamp of what comes in is the date
 unfoldable pub Stamped : ℕ → Option Direct → Type 0
-Stamped date brought = GoodHalf (λ (d : Direct). d .timestamp ≡ date) brought
+Stamped date brought = IfSome (λ (d : Direct). d .timestamp ≡ date) brought
 
 abbrev pub directTime : Direct → ℕ
 directTime d = d .timestamp
@@ -38,6 +39,7 @@ gossipTime g = g .timestamp
 
 -- a stale message would not have raised last seen either
 raised-not : (seen : Option ℕ) (d : Direct) (date : ℕ) → Seen seen d → date < d .timestamp → some (max (orElse 0 seen) date) ≡ seen
+unfolding isSome orElse
 raised-not none d date h l = absurd (false≢true (h .was-seen))
 raised-not (some s) d date h l = ap some (omega (arith, h .not-below))
 
@@ -80,7 +82,7 @@ brought-stands date (some x) d e s l q = λ i.
     }
 
 updated-by : (date : ℕ) (brought : Option Direct) (a : List ℕ) (seen : Option ℕ) (direct : Option Direct) (gossip : Option Gossip)
-    → Stamped date brought → GoodHalf (Seen seen) direct
+    → Stamped date brought → IfSome (Seen seen) direct
     → updated date brought (record { address = a; lastSeen = seen; direct = direct; gossip = gossip })
     ≡ updatedParts date brought (record { address = a; lastSeen = seen; direct = direct; gossip = gossip })
 unfolding updatedParts updated younger later withField seenBy withDirect
@@ -98,12 +100,13 @@ pub updated-parts : (date : ℕ) (brought : Option Direct) (e : Entry) → Stamp
 unfolding Timely
 updated-parts date brought e s h = updated-by date brought (e .address) (e .lastSeen) (e .direct) (e .gossip) s h
 
-seen-more : (seen : Option ℕ) (date : ℕ) (direct : Option Direct) → GoodHalf (Seen seen) direct → GoodHalf (Seen (some (max (orElse 0 seen) date))) direct
+seen-more : (seen : Option ℕ) (date : ℕ) (direct : Option Direct) → IfSome (Seen seen) direct → IfSome (Seen (some (max (orElse 0 seen) date))) direct
+unfolding isSome orElse
 seen-more seen date none h = tt
 seen-more seen date (some d) h = record { was-seen = refl; not-below = omega (arith, h .not-below) }
 
-seen-new : (seen : Option ℕ) (date : ℕ) (brought : Option Direct) → Stamped date brought → GoodHalf (Seen (some (max (orElse 0 seen) date))) brought
-unfolding Stamped
+seen-new : (seen : Option ℕ) (date : ℕ) (brought : Option Direct) → Stamped date brought → IfSome (Seen (some (max (orElse 0 seen) date))) brought
+unfolding Stamped isSome orElse
 seen-new seen date none s = tt
 seen-new seen date (some d) s = record { was-seen = refl; not-below = omega arith }
 
@@ -137,7 +140,7 @@ heard-parts date key e = heard-by date key (e .address) (e .lastSeen) (e .direct
 pub updated-swap : (d₁ d₂ : ℕ) (b₁ b₂ : Option Direct) (e : Entry) → Stamped d₁ b₁ → Stamped d₂ b₂ → Timely e
     → ((u v : Direct) → b₂ ≡ some u → b₁ ≡ some v → u .timestamp ≡ v .timestamp → u ≡ v)
     → updated d₂ b₂ (updated d₁ b₁ e) ≡ updated d₁ b₁ (updated d₂ b₂ e)
-unfolding updatedParts
+unfolding updatedParts orElse
 updated-swap d₁ d₂ b₁ b₂ e s₁ s₂ h agree =
     twice d₁ d₂ b₁ b₂ s₁ s₂
     ∙ (λ i. record { address = e .address; lastSeen = seen i; direct = later-swap directTime b₂ b₁ (e .direct) agree i; gossip = e .gossip })

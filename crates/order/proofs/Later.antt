@@ -11,8 +11,8 @@ use mathlib.Core.Option.{Option, some, none}
 use native.Mathlib.Omega.{arith}
 use borrow.Author.Tests.{ltb-true, ltb-false, lt-ltb, le-ltb}
 use lib.Dec.{ltb}
+use Rattle.octets.specs.Options.{IfSome}
 use Rattle.octets.proofs.Tests.{by-test}
-use Rattle.slots.specs.Entry.{GoodHalf}
 
 -- the half that comes in stands first
 unfoldable pub later : {A : Type 0} → (A → ℕ) → Option A → Option A → Option A
@@ -66,7 +66,7 @@ module _ {A : Type 0} (time : A → ℕ) where
   later-swap (some x) (some y) (some old) agree = three-swap x y old (agree x y refl refl)
 
   -- what holds of both holds of the later one
-  pub later-holds : (P : A → Type 0) (x old : Option A) → GoodHalf P x → GoodHalf P old → GoodHalf P (later time x old)
+  pub later-holds : (P : A → Type 0) (x old : Option A) → IfSome P x → IfSome P old → IfSome P (later time x old)
   unfolding later
   later-holds P none old h k = k
   later-holds P (some x) none h k = h

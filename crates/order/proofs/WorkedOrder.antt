@@ -20,6 +20,8 @@ use lib.ListN.{length}
 use Rattle.octets.specs.Octets as octets
 use Rattle.octets.specs.Octets.{ascii, AllOctets, blank}
 use Rattle.octets.specs.Numbers.{number}
+use Rattle.octets.specs.Options.{isSome, inFront, onlyOne, orElse}
+use Rattle.octets.specs.Finding.{holds}
 use Rattle.octets.proofs.Joined.{replicate-octets}
 use Rattle.tokens.specs.Tokens as tokens
 use Rattle.letters.specs.Base64 as base64
@@ -27,11 +29,10 @@ use Rattle.header.specs.Header as header
 use Rattle.address.specs.Pieces as pieces
 use Rattle.address.specs.Address as address
 use Rattle.list.specs.List as list
-use Rattle.list.specs.Answers as answered
 use Rattle.date.specs.Date as date
 use Rattle.keyfield.specs.Field as keyfield
 use Rattle.slots.specs.Slot as slots
-use Rattle.slots.specs.Entry.{Entry, isPresent, newcomer, seenBy, withDirect}
+use Rattle.slots.specs.Entry.{Entry, newcomer, seenBy, withDirect}
 use Rattle.table.specs.Table as table
 use Rattle.table.specs.Table.{checked, found, isAt}
 use Rattle.table.specs.Entries.{entryIn}
@@ -93,7 +94,7 @@ pub record Reads (c : Call) (m : Message) : Type 0 where
   pub brings : messageOf (c .receipt) (c .outer) (c .payload) (c .setting) ≡ m
 
 reads : Reads older (bringing "foo" 1000) × Reads younger (bringing "bar" 2000)
-unfolding messageRows messageOf firstOf header.isSome processing.hasSender processing.senderOr processing.payloadIn processing.taken delivery.messageBy delivery.directBy bind octets.lower octets.lowered octets.sameName octets.sameOctets octets.startsWith blank tokens.past tokens.kindOf tokens.control runs.belongs runs.run tokens.afterQuote base64.decode base64.follow base64.before base64.atEnd base64.grouped base64.closed base64.signOf tests.without header.fieldsOf header.fields header.fieldsWithin header.inFront header.unfolded header.over header.ofEnding header.opensField header.rawLength header.closes header.isReport tests.every pieces.onFirst pieces.pieces pieces.before pieces.behind address.atom address.localPart address.freeEnds address.label address.domain address.plain address.canonical list.openingOf list.holdsAt list.runToken list.quotedToken list.tokenAt list.firstToken list.afterAddress list.after list.inFront list.listedBy list.listed list.addresses answered.onlyOf date.effectiveDate keyfield.trimmedFront keyfield.trimmedBack keyfield.trimmed keyfield.nameOf keyfield.attribute keyfield.holds keyfield.attributeOf keyfield.withAddress keyfield.withPreference keyfield.step keyfield.saidWith keyfield.ifLast keyfield.saidFrom keyfield.saidOf keyfield.limited keyfield.keyOf keyfield.withKey keyfield.fieldBy keyfield.fieldOf keyfield.naming keyfield.validFields keyfield.onlyOne keyfield.counted fields.readFields fields.fieldsIn fields.isKind fields.valuesOf fields.onlyValue outer-specs.canonicalOf outer-specs.senderBy outer-specs.senderIn outer-specs.anyReport outer-specs.isReported outer-specs.dateBy outer-specs.dateIn keys.countedIn keys.accepted keys.gossipIn
+unfolding messageRows messageOf firstOf isSome processing.hasSender processing.senderOr processing.payloadIn processing.taken delivery.messageBy delivery.directBy bind octets.lower octets.lowered octets.sameName octets.sameOctets octets.startsWith blank tokens.past tokens.kindOf tokens.control runs.belongs runs.run tokens.afterQuote base64.decode base64.follow base64.before base64.atEnd base64.grouped base64.closed base64.signOf tests.without header.fieldsOf header.fields header.fieldsWithin inFront header.unfolded header.over header.ofEnding header.opensField header.rawLength header.closes header.isReport tests.every pieces.onFirst pieces.pieces pieces.before pieces.behind address.atom address.localPart address.freeEnds address.label address.domain address.plain address.canonical list.openingOf holds list.runToken list.quotedToken list.tokenAt list.firstToken list.afterAddress list.after list.listedBy list.listed list.addresses onlyOne orElse date.effectiveDate keyfield.trimmedFront keyfield.trimmedBack keyfield.trimmed keyfield.nameOf keyfield.attribute keyfield.attributeOf keyfield.withAddress keyfield.withPreference keyfield.step keyfield.saidWith keyfield.ifLast keyfield.saidFrom keyfield.saidOf keyfield.limited keyfield.keyOf keyfield.withKey keyfield.fieldBy keyfield.fieldOf keyfield.naming keyfield.validFields keyfield.counted fields.fieldsIn fields.isKind fields.valuesOf outer-specs.canonicalOf outer-specs.senderBy outer-specs.senderIn outer-specs.anyReport outer-specs.isReported outer-specs.dateBy outer-specs.dateIn keys.countedIn keys.accepted keys.gossipIn
 reads = (record { in-order = refl; brings = refl }, record { in-order = refl; brings = refl })
 
 free-octets : AllOctets free
@@ -104,13 +105,13 @@ unfolding checked table.whole table.slots table.judged table.right table.slotAt 
 free-sound = refl
 
 free-nobody : entryIn free ann ≡ none
-unfolding entryIn found table.lowest table.holds table.slots table.slotAt slots.marked slots.addressOf number octets.sameOctets
+unfolding entryIn found table.lowest table.hasAddress table.slots table.slotAt slots.marked slots.addressOf number octets.sameOctets
 free-nobody = refl
 
 -- room for Ann in the free slot, and wherever she has an entry
 module _ (key : String) (receipt : ℕ) where
   free-room : hasRoom free (bringing key receipt) ≡ true
-  unfolding hasRoom brought.newcomers brought.addressesOf brought.gossipAddresses found table.lowest table.holds table.freeCount table.howMany table.unused table.slots table.slotAt slots.marked slots.addressOf number octets.sameOctets list.among
+  unfolding hasRoom brought.newcomers brought.addressesOf brought.gossipAddresses found table.lowest table.hasAddress table.freeCount table.howMany table.unused table.slots table.slotAt slots.marked slots.addressOf number octets.sameOctets list.among
   free-room = refl
 
   known-room : (t : List ℕ) → isAt (found t ann) ≡ true → hasRoom t (bringing key receipt) ≡ true
@@ -118,8 +119,8 @@ module _ (key : String) (receipt : ℕ) where
   known-room t e =
       ap (λ (new : List (List ℕ)). leb (length new) (table.freeCount t)) (newcomer-not t [] ann [] (rw e)) ∙ le-leb 0 (table.freeCount t) (omega arith)
 
-  leaves-ann : (e : Option Entry) → isPresent (entryAfter (bringing key receipt) ann e) ≡ true
-  unfolding entryAfter brought.entryHeard brought.entryPut octets.sameOctets
+  leaves-ann : (e : Option Entry) → isSome (entryAfter (bringing key receipt) ann e) ≡ true
+  unfolding entryAfter brought.entryHeard brought.entryPut octets.sameOctets isSome
   leaves-ann e = refl
 
 -- a call that brings a message for which there is room
@@ -166,7 +167,7 @@ module _ (c : Call) (o : OctetCall c) (key : String) (at : ℕ) (e : Reads c (br
 
   module _ (d : Call) (p : OctetCall d) (next : String) (then : ℕ) (f : Reads d (bringing next then)) where
     next-room : hasRoom first (bringing next then) ≡ true
-    next-room = known-room next then first (stands-present first ann ∙ ap isPresent first-entry ∙ leaves-ann key at none)
+    next-room = known-room next then first (stands-present first ann ∙ ap isSome first-entry ∙ leaves-ann key at none)
 
     next-done : answerTo first d ≡ Done
     next-done = done d (bringing next then) f first first-sound next-room
@@ -258,7 +259,7 @@ either-order =
     both-agree
 
 pub younger-stands : targetKeyOf (tableAfter free (older ∷ younger ∷ [])) ann 0 ≡ ascii "bar"
-unfolding advice.targetIn advice.targetOf advice.targetBy advice.directOf advice.gossipOf entryAfter brought.entryHeard brought.entryPut update.updated update.younger update.withField newcomer seenBy withDirect octets.sameOctets octets.lowered octets.lower address.canonical address.plain address.localPart address.atom address.domain address.label address.freeEnds tests.every pieces.onFirst pieces.pieces pieces.before pieces.behind runs.belongs blank
+unfolding advice.targetIn advice.targetOf advice.targetBy advice.directOf advice.gossipOf entryAfter brought.entryHeard brought.entryPut update.updated update.younger update.withField newcomer seenBy withDirect octets.sameOctets octets.lowered octets.lower address.canonical address.plain address.localPart address.atom address.domain address.label address.freeEnds tests.every pieces.onFirst pieces.pieces pieces.before pieces.behind runs.belongs blank orElse
 younger-stands =
     alone-taken (tableAfter free both) ann (both-sound older older-octets "foo" 1000 (reads .0) younger younger-octets "bar" 2000 (reads .1)) refl
     ∙ ap advice.targetOf (both-entry older older-octets "foo" 1000 (reads .0) younger younger-octets "bar" 2000 (reads .1))

@@ -13,16 +13,18 @@ use native.Mathlib.Omega.{arith}
 use borrow.Author.Needs.{needs}
 use lib.ListN.{length, take, drop, length-append}
 use Rattle.octets.specs.Written.{putAt, onto}
+use Rattle.octets.specs.Options.{isSome, orElse}
+use Rattle.octets.proofs.Options.{total-none, total-one, total-less}
 use Rattle.octets.proofs.Writing.{Wrote, begin, kept, counted, puts, done}
 use Rattle.octets.proofs.Tests.{by-test}
-use Rattle.header.specs.Header.{FieldText, isSome, fieldsOf}
+use Rattle.header.specs.Header.{FieldText, fieldsOf}
 use Rattle.header.specs.Answers.{fieldsFrom}
-use Rattle.header.proofs.Total.{total, total-none, total-one, total-less, total-block}
+use Rattle.header.proofs.Values.{valuesTotal, total-block}
 use Rattle.header.proofs.Unfolding.{value-within, value-there-from}
 use Rattle.roll.specs.Roll.{rolled, unrolled, listedIn}
 use Rattle.roll.proofs.Rolls.{rolled-none, rolled-append, unrolled-rolled}
 use Rattle.roll.proofs.Room.{lists-room}
-use Rattle.fields.specs.Fields.{readFields, fieldsIn, isKind, valuesOf}
+use Rattle.fields.specs.Fields.{fieldsIn, isKind, valuesOf}
 use Rattle.fields.specs.Answers.{valueAt, valuesFrom, NamedAs}
 use Rattle.fields.specs.Spans.{SurveyAs}
 use Rattle.fields.specs.declared.Kind.{Kind}
@@ -39,22 +41,22 @@ addresses-one : (v : List ℕ) (rest : List (List ℕ)) → addressesIn (v ∷ r
 unfolding addressesIn listedIn
 addresses-one v rest = refl
 
-pub values-room : (kind : Kind) (fs : List FieldText) → length (rolled (addressesIn (valuesOf kind fs))) ≤ total fs
+pub values-room : (kind : Kind) (fs : List FieldText) → length (rolled (addressesIn (valuesOf kind fs))) ≤ valuesTotal fs
 unfolding valuesOf addressesIn
 values-room kind [] = omega (arith, ap length rolled-none)
 values-room kind (f ∷ fs) =
     by-test (isKind kind (f .name))
     (λ e.
-    rw (valuesOf, e, addresses-one (f .value) (valuesOf kind fs), total-one f fs)
-    (lists-room (f .value) (addressesIn (valuesOf kind fs)) (total fs) (values-room kind fs)))
-    (λ e. rw (valuesOf, e) (omega (arith, values-room kind fs, total-less f fs)))
+    rw (valuesOf, e, addresses-one (f .value) (valuesOf kind fs), total-one (λ (x : FieldText). x .value) f fs)
+    (lists-room (f .value) (addressesIn (valuesOf kind fs)) (valuesTotal fs) (values-room kind fs)))
+    (λ e. rw (valuesOf, e) (omega (arith, values-room kind fs, total-less (λ (x : FieldText). x .value) f fs)))
 
 pub block-room : (kind : Kind) (s : List ℕ) → length (rolled (addressesIn (valuesOf kind (fieldsIn s)))) ≤ length s
-unfolding fieldsIn readFields
+unfolding fieldsIn orElse
 block-room kind s = go (fieldsOf s) refl
   where
-    go : (o : Option (List FieldText)) → fieldsOf s ≡ o → length (rolled (addressesIn (valuesOf kind (readFields (fieldsOf s))))) ≤ length s
-    go none e = rw e (omega (arith, values-room kind [], total-none))
+    go : (o : Option (List FieldText)) → fieldsOf s ≡ o → length (rolled (addressesIn (valuesOf kind (orElse [] (fieldsOf s))))) ≤ length s
+    go none e = rw e (omega (arith, values-room kind [], total-none (λ (x : FieldText). x .value)))
     go (some fs) e = rw e (omega (arith, values-room kind fs, total-block s fs e))
 
 pub record Gathering (s d out : List ℕ) (o at : ℕ) : Type 0 where

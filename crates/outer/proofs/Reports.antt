@@ -9,7 +9,8 @@ use mathlib.Core.List.{List, []}
 use borrow.Author.Needs.{needs}
 use lib.ListN.{length, take, drop}
 use Rattle.octets.specs.Written.{onto}
-use Rattle.header.specs.Header.{isSome, isReport}
+use Rattle.octets.specs.Options.{isSome}
+use Rattle.header.specs.Header.{isReport}
 use Rattle.header.specs.Answers.{fieldsFrom}
 use Rattle.header.proofs.Unfolding.{value-within, value-there-from}
 use Rattle.fields.specs.Fields.{fieldsIn}

@@ -6,13 +6,14 @@
 use Prim.Native.Nat.{ℕ, _-_, _≤_}
 use mathlib.Core.Path.{_≡_, refl, sym, ap, _∙_}
 use mathlib.Core.Bool.{true}
-use mathlib.Core.List.{List, [], _∷_}
+use mathlib.Core.List.{List, []}
 use mathlib.Core.Option.{Option, some, none}
 use native.Mathlib.Omega.{arith}
 use borrow.Author.Needs.{needs}
 use lib.ListN.{length, take, drop}
 use Rattle.octets.specs.Octets.{AllOctets}
 use Rattle.octets.specs.Written.{onto}
+use Rattle.octets.specs.Options.{onlyOne, orElse}
 use Rattle.address.specs.Address.{plain, canonical, isCanonical}
 use Rattle.address.specs.Answers.{writtenOf, ontoIfFits}
 use Rattle.address.specs.declared.Written.{Written}
@@ -22,13 +23,12 @@ use Rattle.address.proofs.Spelling.{plain-is-canonical, canonical-most, canonic
 use Rattle.header.specs.Header.{FieldText}
 use Rattle.header.proofs.Unfolding.{value-within, value-there, value-there-from}
 use Rattle.list.specs.List.{addresses}
-use Rattle.list.specs.Answers.{between, onlyOf, onlyIn, Within}
+use Rattle.list.specs.Answers.{between, onlyIn, Within}
 use Rattle.list.specs.declared.Only.{Only as ListOnly}
 use Rattle.list.specs.declared.Only.the-variants.{One as OneAddress, Other as NoOne}
-use Rattle.list.proofs.Readable.{only-some, readable-at}
-use Rattle.list.proofs.Octetwise.{only-octets}
+use Rattle.list.proofs.Readable.{only-plain, only-octets}
 use Rattle.slots.specs.Slot.{addressRoom}
-use Rattle.fields.specs.Fields.{fieldsIn, valuesOf, onlyValue}
+use Rattle.fields.specs.Fields.{fieldsIn, valuesOf}
 use Rattle.fields.specs.Answers.{valueAt, valueIn}
 use Rattle.fields.specs.declared.Kind.the-variants.{From}
 use Rattle.fields.specs.declared.Only.{Only}
@@ -41,28 +41,24 @@ use Rattle.outer.specs.declared.Sender.{Sender}
 use Rattle.outer.specs.declared.Sender.the-variants.{Address, NotOne}
 use Rattle.outer.proofs.Texts.{part-there, part-within}
 
--- the one address of a list is plain
-only-plain : (v a : List ℕ) → some a ≡ onlyOf (addresses v) → plain a ≡ true
-only-plain v a e = readable-at v (a ∷ []) (only-some (addresses v) a e) 0 (omega arith)
-
 -- the sender's address is the canonical form of a plain address
 canonical-some : (o : Option (List ℕ)) (a : List ℕ) → canonicalOf o ≡ some a → (b : List ℕ) × ((o ≡ some b) × (a ≡ canonical b))
 unfolding canonicalOf
 canonical-some none a e = let z : _≡_ {A = ℕ} 0 1 = cc in absurd (omega arith)
 canonical-some (some b) a e = (b, (refl, cc))
 
-by-some : (o : Option (List ℕ)) (a : List ℕ) → senderBy o ≡ some a → (v : List ℕ) × ((o ≡ some v) × (canonicalOf (onlyOf (addresses v)) ≡ some a))
+by-some : (o : Option (List ℕ)) (a : List ℕ) → senderBy o ≡ some a → (v : List ℕ) × ((o ≡ some v) × (canonicalOf (onlyOne (orElse [] (addresses v))) ≡ some a))
 unfolding senderBy
 by-some none a e = let z : _≡_ {A = ℕ} 0 1 = cc in absurd (omega arith)
 by-some (some v) a e = (v, (refl, e))
 
 module _ (fs : List FieldText) (a : List ℕ) (e : senderIn fs ≡ some a) where
-  value : (v : List ℕ) × ((onlyValue (valuesOf From fs) ≡ some v) × (canonicalOf (onlyOf (addresses v)) ≡ some a))
+  value : (v : List ℕ) × ((onlyOne (valuesOf From fs) ≡ some v) × (canonicalOf (onlyOne (orElse [] (addresses v))) ≡ some a))
   unfolding senderIn
-  value = by-some (onlyValue (valuesOf From fs)) a e
+  value = by-some (onlyOne (valuesOf From fs)) a e
 
-  given : (b : List ℕ) × ((onlyOf (addresses (value .0)) ≡ some b) × (a ≡ canonical b))
-  given = canonical-some (onlyOf (addresses (value .0))) a (value .1 .1)
+  given : (b : List ℕ) × ((onlyOne (orElse [] (addresses (value .0))) ≡ some b) × (a ≡ canonical b))
+  given = canonical-some (onlyOne (orElse [] (addresses (value .0)))) a (value .1 .1)
 
   given-plain : plain (given .0) ≡ true
   given-plain = only-plain (value .0) (given .0) (sym (given .1 .0))
@@ -76,12 +72,12 @@ sender-octets s a o e =
     let v : List ℕ = value (fieldsIn s) a e .0 in
     let b : List ℕ = given (fieldsIn s) a e .0 in
     let h : AllOctets v = value-octets From (fieldsIn s) v (fields-octets s o) (value (fieldsIn s) a e .1 .0) in
-    rw (given (fieldsIn s) a e .1 .1) (canonical-octets b (only-octets v h b (sym (given (fieldsIn s) a e .1 .0))))
+    rw (given (fieldsIn s) a e .1 .1) (canonical-octets b (only-octets v b (sym (given (fieldsIn s) a e .1 .0)) h))
 
-module _ (s : List ℕ) (k : Only) (fs : List FieldText) (p : valueIn s k ≡ onlyValue (valuesOf From fs)) where
+module _ (s : List ℕ) (k : Only) (fs : List FieldText) (p : valueIn s k ≡ onlyOne (valuesOf From fs)) where
   other : k ≡ Other → senderIn fs ≡ none
   unfolding senderIn senderBy
-  other q = ap senderBy (value-none s k (onlyValue (valuesOf From fs)) p q)
+  other q = ap senderBy (value-none s k (onlyOne (valuesOf From fs)) p q)
 
   pub sent-no-field : k ≡ Other → NotOne ≡ senderOf (senderIn fs)
   unfolding senderOf
@@ -93,16 +89,16 @@ module _ (s : List ℕ) (k : Only) (fs : List FieldText) (p : valueIn s k ≡ on
 
   -- the value of the one From field was unfolded to the text, and the list in it was read
   module _ (v e : ℕ) (q : k ≡ One v e) (text d : List ℕ) (n : ℕ) (c : n ≡ length (valueAt s v e)) (t : text ≡ onto (valueAt s v e) d)
-      (j : ListOnly) (y : onlyIn (take (n - 0) (drop 0 text)) j ≡ onlyOf (addresses (take (n - 0) (drop 0 text)))) where
+      (j : ListOnly) (y : onlyIn (take (n - 0) (drop 0 text)) j ≡ onlyOne (orElse [] (addresses (take (n - 0) (drop 0 text))))) where
     there : take (n - 0) (drop 0 text) ≡ valueAt s v e
     there = value-there-from (valueAt s v e) d text n c t
 
-    one : onlyIn (valueAt s v e) j ≡ onlyOf (addresses (valueAt s v e))
+    one : onlyIn (valueAt s v e) j ≡ onlyOne (orElse [] (addresses (valueAt s v e)))
     one = rw there at y
 
     told : senderIn fs ≡ canonicalOf (onlyIn (valueAt s v e) j)
     unfolding senderIn senderBy
-    told = ap senderBy (value-is s k v e q (onlyValue (valuesOf From fs)) p) ∙ ap canonicalOf (sym one)
+    told = ap senderBy (value-is s k v e q (onlyOne (valuesOf From fs)) p) ∙ ap canonicalOf (sym one)
 
     no-one : j ≡ NoOne → senderIn fs ≡ none
     unfolding onlyIn canonicalOf
@@ -129,7 +125,7 @@ module _ (s : List ℕ) (k : Only) (fs : List FieldText) (p : valueIn s k ≡ on
       part : between text from to ≡ between (valueAt s v e) from to
       part = part-there (valueAt s v e) d text t from to sent-from (lies .1)
 
-      only : some (between text from to) ≡ onlyOf (addresses (valueAt s v e))
+      only : some (between text from to) ≡ onlyOne (orElse [] (addresses (valueAt s v e)))
       unfolding onlyIn
       only = ap some part ∙ sym (ap (onlyIn (valueAt s v e)) z) ∙ one
 

@@ -7,18 +7,19 @@ use mathlib.Core.Bool.{Bool, true, false}
 use mathlib.Core.List.{List, [], _∷_, map}
 use mathlib.Core.Option.{Option, some, none, bind}
 use Rattle.octets.specs.Octets.{ascii, lower, lowered, sameName, sameOctets, blank}
+use Rattle.octets.specs.Options.{inFront, orElse, onlyOne}
+use Rattle.octets.specs.Finding.{holds}
 use Rattle.octets.specs.Tests.{every}
 use Rattle.runs.specs.Runs.{belongs, run}
 use Rattle.header.specs.Header as header
 use Rattle.tokens.specs.Tokens.{control, kindOf, past, afterQuote}
 use Rattle.address.specs.Pieces.{onFirst, pieces, before, behind}
-use Rattle.address.specs.Address.{addressOctet, atom, localPart, freeEnds, label, domain, plain, canonical}
-use Rattle.list.specs.List.{openingOf, holdsAt, runToken, quotedToken, tokenAt, firstToken, afterAddress, after, inFront, listedBy, listed, addresses, given}
-use Rattle.list.specs.Answers.{onlyOf}
+use Rattle.address.specs.Address.{atom, localPart, freeEnds, label, domain, plain, canonical}
+use Rattle.list.specs.List.{openingOf, runToken, quotedToken, tokenAt, firstToken, afterAddress, after, listedBy, listed, addresses}
 use Rattle.calendar.specs.Calendar as calendar
 use Rattle.datewords.specs.Words as words
 use Rattle.date.specs.Date as date
-use Rattle.fields.specs.Fields.{readFields, fieldsIn, isKind, valuesOf, onlyValue}
+use Rattle.fields.specs.Fields.{fieldsIn, isKind, valuesOf}
 use Rattle.outer.specs.Outer.{canonicalOf, senderBy, senderIn, anyReport, isReported, dateBy, dateIn, addressesIn, recipientsIn}
 
 abbrev senderOf : String → Option (List ℕ)
@@ -36,7 +37,7 @@ senders :
     ∷ "From: a@b\nX"
     ∷ [])
     ≡ some (ascii "alice@b.org") ∷ some (ascii "a@b") ∷ none ∷ none ∷ none ∷ none ∷ none ∷ []
-unfolding header.fieldsOf header.fields header.fieldsWithin header.inFront header.unfolded header.over header.ofEnding header.opensField run header.rawLength belongs header.closes sameName sameOctets lowered lower openingOf holdsAt runToken quotedToken tokenAt firstToken afterAddress after inFront listedBy listed addresses atom localPart freeEnds label domain plain every onFirst pieces before behind control blank kindOf past afterQuote canonical onlyOf readFields fieldsIn isKind valuesOf onlyValue canonicalOf senderBy senderIn
+unfolding header.fieldsOf header.fields header.fieldsWithin inFront header.unfolded header.over header.ofEnding header.opensField run header.rawLength belongs header.closes sameName sameOctets lowered lower openingOf holds runToken quotedToken tokenAt firstToken afterAddress after listedBy listed addresses atom localPart freeEnds label domain plain every onFirst pieces before behind control blank kindOf past afterQuote canonical onlyOne orElse fieldsIn isKind valuesOf canonicalOf senderBy senderIn
 senders = refl
 
 abbrev isReport : String → Bool
@@ -51,7 +52,7 @@ reports :
     ∷ "Subject: multipart/report"
     ∷ [])
     ≡ true ∷ true ∷ false ∷ false ∷ []
-unfolding header.fieldsOf header.fields header.fieldsWithin header.inFront header.unfolded header.over header.ofEnding header.opensField run header.rawLength belongs blank header.closes header.isReport header.opensReport header.mayFollow sameName sameOctets lowered lower readFields fieldsIn isKind valuesOf anyReport isReported
+unfolding header.fieldsOf header.fields header.fieldsWithin inFront header.unfolded header.over header.ofEnding header.opensField run header.rawLength belongs blank header.closes header.isReport header.opensReport header.mayFollow sameName sameOctets lowered lower orElse fieldsIn isKind valuesOf anyReport isReported
 reports = refl
 
 -- with the receipt time 100
@@ -67,10 +68,10 @@ dates :
     ∷ "Date: 1 Jan 1970 00:02 GMT"
     ∷ [])
     ≡ 60 ∷ 100 ∷ 100 ∷ 100 ∷ []
-unfolding header.fieldsOf header.fields header.fieldsWithin header.inFront header.unfolded header.over header.ofEnding header.opensField run header.rawLength belongs header.closes sameName sameOctets lowered lower blank past kindOf control bind calendar.leap calendar.leapDay calendar.monthLength calendar.yearDays calendar.monthDays calendar.dayCount words.openingOf words.further words.tokenAt words.firstToken words.onlyIf words.digitOf words.valueFrom words.numberOf words.hereOr words.placeFrom words.markOf words.dayOf words.monthOf words.yearBy words.yearOf words.twoDigits words.offsetBy words.offsetOf words.hoursWest words.eastBy words.westBy words.meant date.readOf date.andThen date.next date.optional date.existing date.calendarDay date.timeOfDay date.localTime date.zoned date.ended date.dateOf date.effectiveDate readFields fieldsIn isKind valuesOf onlyValue dateBy dateIn
+unfolding header.fieldsOf header.fields header.fieldsWithin inFront header.unfolded header.over header.ofEnding header.opensField run header.rawLength belongs header.closes sameName sameOctets lowered lower blank past kindOf control bind calendar.leap calendar.leapDay calendar.monthLength calendar.yearDays calendar.monthDays calendar.dayCount words.openingOf words.further words.tokenAt words.firstToken words.onlyIf words.digitOf words.valueFrom words.numberOf words.hereOr words.placeFrom words.markOf words.dayOf words.monthOf words.yearBy words.yearOf words.twoDigits words.offsetBy words.offsetOf words.hoursWest words.eastBy words.westBy words.meant date.readOf date.andThen date.next date.optional date.existing date.calendarDay date.timeOfDay date.localTime date.zoned date.ended date.dateOf date.effectiveDate orElse fieldsIn isKind valuesOf onlyOne dateBy dateIn
 dates = refl
 
 -- as they stand, in order; an unreadable list gives none, and takes none from the others
 recipients : recipientsIn (fieldsIn (ascii "Cc: C <c@D>\nTo: a@b, a@c\nBcc: x@y\nTo: b@c,\nREPLY-TO: e@f")) ≡ map ascii ("c@D" ∷ "a@b" ∷ "a@c" ∷ "e@f" ∷ [])
-unfolding header.fieldsOf header.fields header.fieldsWithin header.inFront header.unfolded header.over header.ofEnding header.opensField run header.rawLength belongs header.closes sameName sameOctets lowered lower openingOf holdsAt runToken quotedToken tokenAt firstToken afterAddress after inFront listedBy listed addresses given atom localPart freeEnds label domain plain every onFirst pieces before behind control blank kindOf past afterQuote readFields fieldsIn isKind valuesOf addressesIn recipientsIn
+unfolding header.fieldsOf header.fields header.fieldsWithin inFront header.unfolded header.over header.ofEnding header.opensField run header.rawLength belongs header.closes sameName sameOctets lowered lower openingOf holds runToken quotedToken tokenAt firstToken afterAddress after listedBy listed addresses orElse atom localPart freeEnds label domain plain every onFirst pieces before behind control blank kindOf past afterQuote fieldsIn isKind valuesOf addressesIn recipientsIn
 recipients = refl

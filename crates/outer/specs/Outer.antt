@@ -8,12 +8,12 @@ use Prim.Native.Nat.{ℕ}
 use mathlib.Core.Bool.{Bool, false, _||_}
 use mathlib.Core.List.{List, [], _∷_, _++_}
 use mathlib.Core.Option.{Option, some, none}
+use Rattle.octets.specs.Options.{orElse, onlyOne}
 use Rattle.header.specs.Header.{FieldText, isReport}
 use Rattle.address.specs.Address.{canonical}
-use Rattle.list.specs.List.{addresses, given}
-use Rattle.list.specs.Answers.{onlyOf}
+use Rattle.list.specs.List.{addresses}
 use Rattle.date.specs.Date.{dateOf, effectiveDate}
-use Rattle.fields.specs.Fields.{valuesOf, onlyValue}
+use Rattle.fields.specs.Fields.{valuesOf}
 use Rattle.fields.specs.declared.Kind.the-variants.{From, ContentType, Date, Recipients}
 
 unfoldable pub canonicalOf : Option (List ℕ) → Option (List ℕ)
@@ -23,10 +23,10 @@ canonicalOf (some a) = some (canonical a)
 -- "a readable list of exactly one address", in canonical form
 unfoldable pub senderBy : Option (List ℕ) → Option (List ℕ)
 senderBy none = none
-senderBy (some v) = canonicalOf (onlyOf (addresses v))
+senderBy (some v) = canonicalOf (onlyOne (orElse [] (addresses v)))
 
 unfoldable pub senderIn : List FieldText → Option (List ℕ)
-senderIn fs = senderBy (onlyValue (valuesOf From fs))
+senderIn fs = senderBy (onlyOne (valuesOf From fs))
 
 -- "a Content-Type is multipart/report": any one of them
 unfoldable pub anyReport : List (List ℕ) → Bool
@@ -42,7 +42,7 @@ dateBy none = none
 dateBy (some v) = dateOf v
 
 abbrev pub saidDate : List FieldText → Option ℕ
-saidDate fs = dateBy (onlyValue (valuesOf Date fs))
+saidDate fs = dateBy (onlyOne (valuesOf Date fs))
 
 unfoldable pub dateIn : List FieldText → ℕ → ℕ
 dateIn fs receipt = effectiveDate (saidDate fs) receipt
@@ -50,7 +50,7 @@ dateIn fs receipt = effectiveDate (saidDate fs) receipt
 -- the addresses of each value that is a readable list, as they stand there
 unfoldable pub addressesIn : List (List ℕ) → List (List ℕ)
 addressesIn [] = []
-addressesIn (v ∷ rest) = given (addresses v) ++ addressesIn rest
+addressesIn (v ∷ rest) = orElse [] (addresses v) ++ addressesIn rest
 
 -- "in a readable To, Cc or Reply-To"
 unfoldable pub recipientsIn : List FieldText → List (List ℕ)

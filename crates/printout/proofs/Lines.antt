@@ -16,11 +16,12 @@ use native.Mathlib.Omega.{arith}
 use borrow.Author.Needs.{needs}
 use borrow.Author.Tests.{not-true, not-false}
 use lib.ListN.{length, length-append}
+use Rattle.octets.specs.Options.{orElse, isSome}
 use Rattle.octets.proofs.Lists.{left-one}
 use Rattle.octets.proofs.Writing.{Wrote, begin-at, kept, counted, puts, done-at}
 use Rattle.slots.specs.declared.Slot.{Slot}
 use Rattle.slots.specs.Slot.{marked, addressOf, numbersOf}
-use Rattle.slots.specs.Entry.{Entry, Direct, Gossip, entryOf, numbersFor, present, orElse, isPresent, noDirect, noGossip}
+use Rattle.slots.specs.Entry.{Entry, Direct, Gossip, entryOf, numbersFor, present, noDirect, noGossip}
 use Rattle.slots.proofs.Sounds.{sound-parts}
 use Rattle.slots.proofs.Entries.{numbers-back}
 use Rattle.table.specs.Table.{slots, slotAt, checked}
@@ -31,12 +32,15 @@ use Rattle.printout.specs.Printout.{line, lineOf, slotText, linesFrom}
 use Rattle.printout.specs.Steps.{Room, Put, ended, directPart, gossipPart, numbersPart}
 use Rattle.printout.proofs.Placing.{room-one, room-two, two-put}
 
--- an absent half has no time and one that is there its own; the same of last seen
-half-time : {A : Type 0} (f : A → ℕ) (d : A) (h : Option A) → present (isPresent h) (f (orElse d h)) ≡ Option·map f h
+-- an absent half has no time and one that is there its own
+half-time : {A : Type 0} (f : A → ℕ) (d : A) (h : Option A) → present (isSome h) (f (orElse d h)) ≡ Option·map f h
+unfolding isSome orElse
 half-time f d none = refl
 half-time f d (some x) = refl
 
-seen-time : (h : Option ℕ) → present (isPresent h) (orElse 0 h) ≡ h
+-- last seen, where it is there
+seen-time : (h : Option ℕ) → present (isSome h) (orElse 0 h) ≡ h
+unfolding isSome orElse
 seen-time none = refl
 seen-time (some x) = refl
 

@@ -9,6 +9,7 @@ use mathlib.Core.Option.{some, none}
 use mathlib.Core.List.{[], _∷_}
 use lib.ListN.{replicate}
 use Rattle.octets.specs.Octets.{ascii, allZero, sameOctets}
+use Rattle.octets.specs.Options.{orElse}
 use Rattle.slots.specs.Slot.{slotLength, timeLimit, free, marked}
 use Rattle.slots.specs.Entry.{Entry}
 use Rattle.table.specs.Table.{slots, slotAt, right, whole, judged, checked}
@@ -24,7 +25,7 @@ alice =
     }
 
 one-line : lineOf alice ≡ ascii "alice@a.example 1000 1000 3 mutual - 0\n"
-unfolding lineOf line timeText preferenceText decimal lastDigits
+unfolding lineOf line timeText preferenceText decimal lastDigits orElse
 one-line = refl
 
 nought : decimal 0 ≡ ascii "0"

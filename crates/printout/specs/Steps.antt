@@ -3,7 +3,7 @@
 --     Put            a text was written from a place on
 --     ended          a field and the octet behind it
 --     directPart     what a line says of the direct half, by the numbers of its slot
---     gossipPart     the same of the gossip half
+--     gossipPart     what it says of the gossip half
 --     numbersPart    all that stands behind the address
 use Prim.Native.Nat.{ℕ, _+_, _≤_}
 use mathlib.Core.Path.{_≡_}

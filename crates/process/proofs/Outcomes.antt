@@ -12,15 +12,16 @@
 use Prim.Native.Nat.{ℕ, _≤_}
 use mathlib.Core.Path.{_≡_, refl, sym, ap, subst, _∙_}
 use mathlib.Core.Bool.{Bool, true, false, not, _&&_}
-use mathlib.Core.List.{List, [], _∷_, _++_}
+use mathlib.Core.List.{List, [], _++_}
 use mathlib.Core.Option.{Option, some, none}
 use borrow.Author.Tests.{leb-true, not-false}
 use lib.Dec.{leb}
 use Rattle.octets.specs.Octets.{AllOctets}
+use Rattle.octets.specs.Options.{Each}
 use Rattle.octets.proofs.Tests.{by-test}
-use Rattle.header.specs.Header.{FieldText, fieldsOf, readable}
-use Rattle.header.proofs.Octetwise.{ValuesOctets, block-octets}
-use Rattle.refusals.specs.Rows.{Row, _when_, _unless_, firstOf, answerOf, mentions}
+use Rattle.header.specs.Header.{readable}
+use Rattle.header.proofs.Values.{ValuesOctets, block-octets}
+use Rattle.refusals.specs.Rows.{firstOf, answerOf, mentions}
 use Rattle.refusals.specs.declared.Refusal.{Refusal}
 use Rattle.refusals.specs.declared.Refusal.the-variants.{BrokenSlot, ReceiptTime, OuterBlock, Sender, Report, PayloadBlock, NoFreeSlot}
 use Rattle.refusals.specs.declared.Answer.the-variants.{Done, Refused}
@@ -37,7 +38,6 @@ use Rattle.update.proofs.Applying.{applied-sound, applied-octets, applied-entry
 use Rattle.fields.specs.Fields.{fieldsIn}
 use Rattle.fields.proofs.Values.{fields-read}
 use Rattle.outer.specs.Outer.{senderIn, isReported}
-use Rattle.delivery.specs.Delivery.{messageBy}
 use Rattle.delivery.proofs.Good.{message-good as by-blocks}
 use Rattle.process.specs.Processing.{taken, payloadIn, hasSender, senderOr, messageRows, messageOf, roomRows, processingRows, refusedProcessing, leftByProcessing}
 use Rattle.process.specs.declared.Gossip.{Gossip}
@@ -74,7 +74,7 @@ module _ (receipt : ℕ) (outer payload : List ℕ) (g : Gossip) where
   module _ (h : InOrder receipt outer payload g) where
     -- gossip is taken of a readable payload, or of none
     pub payload-octets : AllOctets payload → ValuesOctets (payloadIn g payload)
-    unfolding payloadIn ValuesOctets
+    unfolding payloadIn Each
     payload-octets v = by-test (taken g) (λ k. rw (payloadIn, k) (taking k)) (λ k. rw (payloadIn, k) tt)
       where
         taking : taken g ≡ true → ValuesOctets (fieldsIn payload)

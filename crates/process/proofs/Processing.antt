@@ -4,26 +4,27 @@
 --     the rulesets                   taking, for `is_taken`; delivering, for `deliver`; sending, for `process_from`; asking, for `process_with`;
 --                                    making-room, for `process_read`; opening, for `process_sound`; processing, for `process`
 -- Assumes nothing.
-use Prim.Native.Nat.{ℕ, _-_, _<_, _≤_, min}
+use Prim.Native.Nat.{ℕ, _-_, _<_, _≤_}
 use mathlib.Core.Path.{_≡_, refl, sym, ap, _∙_}
 use mathlib.Core.Bool.{Bool, true, false, not, _&&_}
 use mathlib.Core.List.{List, [], _∷_}
-use mathlib.Core.Option.{Option, some, none}
+use mathlib.Core.Option.{Option, some}
 use native.Mathlib.Omega.{arith}
 use borrow.Author.Needs.{needs}
 use borrow.Author.Tests.{le-leb, lt-leb, leb-true, not-true, not-false}
 use lib.Dec.{leb}
 use lib.ListN.{length, take, drop}
+use Rattle.octets.specs.Options.{isSome}
 use Rattle.octets.proofs.Tests.{by-test, and-left, and-right}
-use Rattle.header.specs.Header.{isSome, fieldsOf, readable, limit}
+use Rattle.header.specs.Header.{fieldsOf, readable}
 use Rattle.header.proofs.Fields.{fields-empty}
 use Rattle.address.specs.Address.{isCanonical}
-use Rattle.refusals.specs.Rows.{Row, _when_, _unless_, firstOf, answeredBy, answerOf, unlessRefused}
+use Rattle.refusals.specs.Rows.{Row, _when_, firstOf, answeredBy, answerOf, unlessRefused}
 use Rattle.refusals.specs.declared.Refusal.{Refusal}
 use Rattle.refusals.specs.declared.Refusal.the-variants.{ReceiptTime, OuterBlock, Sender, Report, PayloadBlock, NoFreeSlot}
 use Rattle.refusals.specs.declared.Answer.{Answer}
 use Rattle.refusals.specs.declared.Answer.the-variants.{Done, Refused}
-use Rattle.refusals.proofs.Rows.{first-behind, when-refuses, unless-refuses, unless-passes, told-refuses, denied-refuses, denied-passes, no-row, front-refuses, front-passes, rows}
+use Rattle.refusals.proofs.Rows.{first-behind, when-refuses, unless-refuses, unless-passes, told-refuses, denied-refuses, denied-passes, no-row, front-refuses, front-passes}
 use Rattle.slots.specs.Slot.{timeLimit}
 use Rattle.table.specs.Table.{checked}
 use Rattle.table.specs.declared.Checked.the-variants.{Sound}
@@ -31,7 +32,7 @@ use Rattle.inspect.specs.Inspecting.{tableRows}
 use Rattle.inspect.proofs.Tables.{checked-sound}
 use Rattle.update.specs.Message.{Message, hasRoom, applied}
 use Rattle.fields.specs.Fields.{fieldsIn}
-use Rattle.fields.specs.Spans.{SurveyAs, SurveyedAs}
+use Rattle.fields.specs.Spans.{SurveyedAs}
 use Rattle.fields.specs.declared.Survey.{Survey}
 use Rattle.fields.specs.declared.Surveyed.{Surveyed}
 use Rattle.fields.specs.declared.Surveyed.the-variants.{Readable, Unreadable}

@@ -11,7 +11,8 @@ use mathlib.Core.Bool.{true}
 use mathlib.Core.List.{List, []}
 use mathlib.Core.Option.{Option, some, none}
 use native.Mathlib.Omega.{arith}
-use Rattle.header.specs.Header.{FieldText, inFront, fieldsOf, isSome}
+use Rattle.octets.specs.Options.{inFront, isSome}
+use Rattle.header.specs.Header.{FieldText, fieldsOf}
 use Rattle.header.specs.Answers.{fieldsFrom, stepAt, fieldAt}
 use Rattle.header.specs.declared.Step.{Step}
 use Rattle.header.specs.declared.Step.the-variants as step

@@ -19,13 +19,14 @@ use lib.Dec.{leb}
 use lib.ListN.{length, take, drop}
 use mir.Syntax.{w64}
 use mir.Val.{Fits}
+use Rattle.octets.specs.Options.{orElse, isSome}
 use Rattle.refusals.specs.Rows.{Row, _unless_, answeredBy, answerOf, mentions}
 use Rattle.refusals.specs.declared.Refusal.{Refusal}
 use Rattle.refusals.specs.declared.Refusal.the-variants.{BrokenSlot, Recipients}
 use Rattle.refusals.specs.declared.Answer.{Answer}
 use Rattle.refusals.specs.declared.Answer.the-variants.{Done as Admitted, Refused as NotAdmitted}
 use Rattle.refusals.proofs.Rows.{by-refusal, none-here, none-front, none-behind, front-only, refused-is, done-is, answer-refused, answer-done, rows}
-use Rattle.list.specs.List.{addresses, given, isGiven}
+use Rattle.list.specs.List.{addresses}
 use Rattle.list.specs.Answers.{countedOf}
 use Rattle.list.specs.declared.Counted.{Counted}
 use Rattle.list.specs.declared.Counted.the-variants.{Count, Unreadable}
@@ -61,8 +62,8 @@ pub ruleset counting = (list-none, list-counted, needs)
 
 pub ruleset admitting = (rows)
 
-list-readable : (o : Option (List (List ℕ))) → recipientList o ≡ true → isGiven o ≡ true
-unfolding recipientList isGiven
+list-readable : (o : Option (List (List ℕ))) → recipientList o ≡ true → isSome o ≡ true
+unfolding recipientList isSome
 list-readable none e = e
 list-readable (some list) e = refl
 
@@ -75,7 +76,7 @@ module _ (t s : List ℕ) (e : refusedRecommending t s ≡ none) where
   unfolding refusedRecommending recommendingRows
   admitted-sound = rows-sound t (none-front (tableRows t) last e)
 
-  pub admitted-list : isGiven (addresses s) ≡ true
+  pub admitted-list : isSome (addresses s) ≡ true
   unfolding refusedRecommending recommendingRows
   admitted-list =
       list-readable (addresses s)
@@ -102,14 +103,14 @@ module _ (t s : List ℕ) (k : Answer) (e : k ≡ answerOf (refusedRecommending 
     pub table-taken : checked t ≡ Sound
     table-taken = admitted-sound t s in-order
 
-    pub list-given : isGiven (addresses s) ≡ true
+    pub list-given : isSome (addresses s) ≡ true
     list-given = admitted-list t s in-order
 
-    pub advice-given : (m reply : Bool) (a : Advice) → a ≡ overall (advised t m reply (given (addresses s))) → Done a ≡ recommendedOf t s m reply
+    pub advice-given : (m reply : Bool) (a : Advice) → a ≡ overall (advised t m reply (orElse [] (addresses s))) → Done a ≡ recommendedOf t s m reply
     unfolding recommendedOf
     advice-given m reply a h = ap Done h ∙ sym (done-is Refused _ (refusedRecommending t s) in-order)
 
-    pub part-given : (place : ℕ) (p : Part) → p ≡ targetAt t (given (addresses s)) place → p ≡ targetPartOf t s place
+    pub part-given : (place : ℕ) (p : Part) → p ≡ targetAt t (orElse [] (addresses s)) place → p ≡ targetPartOf t s place
     unfolding targetPartOf
     part-given place p h = h ∙ sym (done-is (λ (x : Refusal). noPart) _ (refusedRecommending t s) in-order)
 
@@ -123,7 +124,7 @@ module _ (t s : List ℕ) (place : ℕ) where
   unfolding targetPartOf
   part-none r e = refused-is (λ (x : Refusal). noPart) _ (refusedRecommending t s) r e
 
-  part-some : refusedRecommending t s ≡ none → targetPartOf t s place ≡ targetAt t (given (addresses s)) place
+  part-some : refusedRecommending t s ≡ none → targetPartOf t s place ≡ targetAt t (orElse [] (addresses s)) place
   unfolding targetPartOf
   part-some e = done-is (λ (x : Refusal). noPart) _ (refusedRecommending t s) e
 
@@ -131,14 +132,14 @@ module _ (t s : List ℕ) (place : ℕ) where
   part-within =
       by-refusal (refusedRecommending t s)
       (λ r e. rw (part-none r e) zero-le)
-      (λ e. rw (part-some e) (place-within t (admitted-sound t s e) (given (addresses s)) place))
+      (λ e. rw (part-some e) (place-within t (admitted-sound t s e) (orElse [] (addresses s)) place))
 
   pub part-key : octetsAt t (targetPartOf t s place) ≡ targetKeyOf t s place
   unfolding targetKeyOf octetsAt answeredBy
   part-key =
       by-refusal (refusedRecommending t s)
       (λ r e. rw (part-none r e, targetKeyOf, e))
-      (λ e. rw (part-some e, targetKeyOf, e) (place-octets t (admitted-sound t s e) (given (addresses s)) place))
+      (λ e. rw (part-some e, targetKeyOf, e) (place-octets t (admitted-sound t s e) (orElse [] (addresses s)) place))
 
   module _ (p : Part) (h : p ≡ targetPartOf t s place) where
     pub part-end : p .start + p .length ≤ length t
@@ -161,7 +162,7 @@ pub ruleset handing = (part-end, part-fits, part-octets, part-is-key, needs)
 -- what comes with each answer
 module _ (t s : List ℕ) (m reply : Bool) where
   abbrev advice : Advice
-  advice = overall (advised t m reply (given (addresses s)))
+  advice = overall (advised t m reply (orElse [] (addresses s)))
 
   by-answer : (o : Option Refusal) (a : Recommended) → answeredBy o Refused (Done advice) ≡ a → {P : Type 0}
       → ((r : Refusal) → o ≡ some r → a ≡ Refused r → P) → (o ≡ none → a ≡ Done advice → P) → P

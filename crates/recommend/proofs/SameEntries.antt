@@ -6,12 +6,13 @@ use Prim.Native.Nat.{ℕ}
 use mathlib.Core.Path.{_≡_, sym, _∙_}
 use mathlib.Core.Bool.{Bool}
 use mathlib.Core.List.{List, [], _∷_}
+use Rattle.octets.specs.Options.{orElse}
 use Rattle.refusals.specs.Rows.{Row, _unless_}
 use Rattle.refusals.specs.declared.Refusal.the-variants.{Recipients}
 use Rattle.refusals.proofs.Rows.{first-rest}
 use Rattle.inspect.specs.Inspecting.{tableRows}
 use Rattle.inspect.proofs.Tables.{sound-rows}
-use Rattle.list.specs.List.{addresses, given}
+use Rattle.list.specs.List.{addresses}
 use Rattle.table.specs.Table.{checked}
 use Rattle.table.specs.Entries.{Alike}
 use Rattle.table.specs.declared.Checked.the-variants.{Sound}
@@ -29,8 +30,8 @@ module _ (t u : List ℕ) (e : checked t ≡ Sound) (f : checked u ≡ Sound) (h
 
   pub recommended-alike : (m reply : Bool) → recommendedOf t s m reply ≡ recommendedOf u s m reply
   unfolding recommendedOf
-  recommended-alike m reply = rw (refused-alike, overall-alike t u h m reply (given (addresses s)))
+  recommended-alike m reply = rw (refused-alike, overall-alike t u h m reply (orElse [] (addresses s)))
 
   pub key-alike : (place : ℕ) → targetKeyOf t s place ≡ targetKeyOf u s place
   unfolding targetKeyOf
-  key-alike place = rw (refused-alike, targets-alike t u h (given (addresses s)))
+  key-alike place = rw (refused-alike, targets-alike t u h (orElse [] (addresses s)))

@@ -10,10 +10,11 @@ use mathlib.Core.List.{List, [], _∷_, _++_}
 use mathlib.Core.Option.{Option, some, none}
 use lib.ListN.{length, getD}
 use Rattle.octets.specs.Tests.{oneTo}
+use Rattle.octets.specs.Options.{orElse}
 use Rattle.refusals.specs.Rows.{Row, _unless_, firstOf, answeredBy, unlessRefused}
 use Rattle.refusals.specs.declared.Refusal.{Refusal}
 use Rattle.refusals.specs.declared.Refusal.the-variants.{Recipients}
-use Rattle.list.specs.List.{addresses, given}
+use Rattle.list.specs.List.{addresses}
 use Rattle.inspect.specs.Inspecting.{tableRows}
 use Rattle.advice.specs.Advice.{overall, advised, targets}
 use Rattle.advice.specs.Places.{noPart, targetAt}
@@ -39,14 +40,14 @@ refusedRecommending table recipients = firstOf (recommendingRows table recipient
 -- what the first call answers
 unfoldable pub recommendedOf : List ℕ → List ℕ → Bool → Bool → Recommended
 recommendedOf table recipients isMutual reply =
-    answeredBy (refusedRecommending table recipients) Refused (Done (overall (advised table isMutual reply (given (addresses recipients)))))
+    answeredBy (refusedRecommending table recipients) Refused (Done (overall (advised table isMutual reply (orElse [] (addresses recipients)))))
 
 -- "A second call .. hands back that recipient's target key as a part of the lent table, an empty part without one, past the list or where the
 -- first call refuses."
 unfoldable pub targetPartOf : List ℕ → List ℕ → ℕ → Part
-targetPartOf table recipients place = unlessRefused (refusedRecommending table recipients) noPart (targetAt table (given (addresses recipients)) place)
+targetPartOf table recipients place = unlessRefused (refusedRecommending table recipients) noPart (targetAt table (orElse [] (addresses recipients)) place)
 
 -- the key that this part is: that of the entry
 unfoldable pub targetKeyOf : List ℕ → List ℕ → ℕ → List ℕ
 targetKeyOf table recipients place =
-    unlessRefused (refusedRecommending table recipients) [] (getD (targets table (given (addresses recipients))) place [])
+    unlessRefused (refusedRecommending table recipients) [] (getD (targets table (orElse [] (addresses recipients))) place [])

@@ -15,7 +15,7 @@
 --     the ruleset                        rows
 -- Assumes nothing.
 use Prim.Native.Nat.{ℕ}
-use mathlib.Core.Path.{_≡_, refl, sym, ap, subst, _∙_}
+use mathlib.Core.Path.{_≡_, refl, sym, ap, _∙_}
 use mathlib.Core.Logic.{_↔_}
 use mathlib.Core.Bool.{Bool, true, false, not, _||_, false≢true}
 use mathlib.Core.List.{List, [], _∷_, _++_}
@@ -25,7 +25,7 @@ use borrow.Author.Needs.{needs}
 use borrow.Author.Tests.{eq-eqb, not-true, not-false}
 use lib.Dec.{eqb}
 use Rattle.refusals.specs.Refusals.{numberOf}
-use Rattle.refusals.specs.Rows.{Row, _when_, _unless_, firstOf, answeredBy, answerOf, unlessRefused, numberIn, Gives, nothing, here, behind, mentions}
+use Rattle.refusals.specs.Rows.{Row, _when_, _unless_, firstOf, answeredBy, answerOf, numberIn, Gives, nothing, here, behind, mentions}
 use Rattle.refusals.specs.declared.Refusal.{Refusal}
 use Rattle.refusals.specs.declared.Answer.{Answer}
 use Rattle.refusals.specs.declared.Answer.the-variants.{Done, Refused}

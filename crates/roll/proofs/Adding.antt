@@ -6,18 +6,20 @@
 --     list-readable .. list-written   a list that is readable, and one that is not
 -- Assumes nothing.
 use Prim.Native.Nat.{ℕ, _+_, _<_, _≤_}
-use mathlib.Core.Path.{_≡_, refl, sym, _∙_}
+use mathlib.Core.Path.{_≡_, sym, _∙_, ap}
 use mathlib.Core.Bool.{true, false≢true}
 use mathlib.Core.List.{List, [], _++_, append-nil}
-use mathlib.Core.Option.{Option, some, none}
+use mathlib.Core.Option.{Option}
 use native.Mathlib.Nat.{add-zero}
 use native.Mathlib.Omega.{arith}
 use borrow.Author.Needs.{needs}
 use lib.ListN.{length, take, set, length-append, length-take, length-drop, length-set, take-append-drop}
 use lib.Seq.{length-take-le}
 use Rattle.octets.specs.Written.{putAt}
+use Rattle.octets.specs.Options.{inFront, orElse, isSome}
 use Rattle.octets.proofs.Writing.{Wrote, begin-at, kept, counted, put, puts, done-at}
-use Rattle.list.specs.List.{inFront, addresses, given, isGiven}
+use Rattle.octets.proofs.Options.{some-front, else-front}
+use Rattle.list.specs.List.{addresses}
 use Rattle.list.specs.Answers.{between, beginning, left, Hands, countedOf}
 use Rattle.list.specs.declared.Cursor.{Cursor}
 use Rattle.list.specs.declared.Handed.{Handed}
@@ -54,19 +56,19 @@ add-end a at = omega (arith, entry-length a)
 pub ruleset adding-one = (add-at, add-room, add-written, add-kept, add-end, needs)
 
 -- the addresses that a list gives from a cursor on, those from the next cursor on, and one that is handed out between
-given-front : (a : List ℕ) (o : Option (List (List ℕ))) → isGiven (inFront a o) ≡ true
-    → (isGiven o ≡ true) × (rolled (given (inFront a o)) ≡ entry a ++ rolled (given o))
-unfolding inFront given isGiven
-given-front a none e = absurd (false≢true e)
-given-front a (some rest) e = (refl, rolled-one a rest)
+given-front : (a : List ℕ) (o : Option (List (List ℕ))) → isSome (inFront a o) ≡ true
+    → (isSome o ≡ true) × (rolled (orElse [] (inFront a o)) ≡ entry a ++ rolled (orElse [] o))
+given-front a o e =
+    let h : isSome o ≡ true = sym (some-front a o) ∙ e in
+    (h, ap rolled (else-front a o h) ∙ rolled-one a (orElse [] o))
 
 pub record Adding (s d out : List ℕ) (at o : ℕ) (here : Cursor) : Type 0 where
   pub fits : at + length (rolled (listedIn s)) ≤ length d
-  pub readable : isGiven (left s here) ≡ true
-  pub so-far : Wrote (take at d ++ rolled (listedIn s)) d out o (rolled (given (left s here)))
+  pub readable : isSome (left s here) ≡ true
+  pub so-far : Wrote (take at d ++ rolled (listedIn s)) d out o (rolled (orElse [] (left s here)))
 
 pub adding-begin :
-    (s d : List ℕ) (at : ℕ) (here : Cursor) → isGiven (addresses s) ≡ true → at + length (rolled (listedIn s)) ≤ length d → here ≡ beginning
+    (s d : List ℕ) (at : ℕ) (here : Cursor) → isSome (addresses s) ≡ true → at + length (rolled (listedIn s)) ≤ length d → here ≡ beginning
     → Adding s d d at at here
 unfolding listedIn
 adding-begin s d at here g h e =
@@ -78,16 +80,16 @@ adding-begin s d at here g h e =
 
 module _ (s d out : List ℕ) (at o : ℕ) (here : Cursor) (h : Adding s d out at o here) where
   pub adding-kept : length out ≡ length d
-  adding-kept = kept (take at d ++ rolled (listedIn s)) d out o (rolled (given (left s here))) (h .so-far)
+  adding-kept = kept (take at d ++ rolled (listedIn s)) d out o (rolled (orElse [] (left s here))) (h .so-far)
 
   module _ (k : Handed) (p : Hands s here k) where
     module _ (from to : ℕ) (next : Cursor) (q : k ≡ Address from to next) where
-      parts : (isGiven (left s next) ≡ true) × (rolled (given (left s here)) ≡ entry (between s from to) ++ rolled (given (left s next)))
+      parts : (isSome (left s next) ≡ true) × (rolled (orElse [] (left s here)) ≡ entry (between s from to) ++ rolled (orElse [] (left s next)))
       parts =
           let e : left s here ≡ inFront (between s from to) (left s next) = hand-gives s here k p from to next q in
           rw e (given-front (between s from to) (left s next) (rw e at (h .readable)))
 
-      wrote : Wrote (take at d ++ rolled (listedIn s)) d out o (entry (between s from to) ++ rolled (given (left s next)))
+      wrote : Wrote (take at d ++ rolled (listedIn s)) d out o (entry (between s from to) ++ rolled (orElse [] (left s next)))
       wrote = rw (parts .1) at (h .so-far)
 
       pub adding-short : length (between s from to) < 256
@@ -95,9 +97,9 @@ module _ (s d out : List ℕ) (at o : ℕ) (here : Cursor) (h : Adding s d out a
 
       pub adding-room : o + length (entry (between s from to)) ≤ length out
       adding-room =
-          let n : o + length (entry (between s from to) ++ rolled (given (left s next))) ≡ length (take at d ++ rolled (listedIn s)) =
-          counted (take at d ++ rolled (listedIn s)) d out o (entry (between s from to) ++ rolled (given (left s next))) wrote in
-          omega (arith, adding-kept, h .so-far .room, length-append (entry (between s from to)) (rolled (given (left s next))))
+          let n : o + length (entry (between s from to) ++ rolled (orElse [] (left s next))) ≡ length (take at d ++ rolled (listedIn s)) =
+          counted (take at d ++ rolled (listedIn s)) d out o (entry (between s from to) ++ rolled (orElse [] (left s next))) wrote in
+          omega (arith, adding-kept, h .so-far .room, length-append (entry (between s from to)) (rolled (orElse [] (left s next))))
 
       pub adding-on :
           (end : ℕ) (last : List ℕ) → end ≡ o + length (entry (between s from to)) → last ≡ putAt out o (entry (between s from to))
@@ -108,11 +110,11 @@ module _ (s d out : List ℕ) (at o : ℕ) (here : Cursor) (h : Adding s d out a
             readable = parts .0;
             so-far =
                 rw (e, f)
-                (puts (take at d ++ rolled (listedIn s)) d out o (entry (between s from to)) (rolled (given (left s next))) wrote);
+                (puts (take at d ++ rolled (listedIn s)) d out o (entry (between s from to)) (rolled (orElse [] (left s next))) wrote);
           }
 
     -- nothing is left
-    module _ (e : given (left s here) ≡ []) where
+    module _ (e : orElse [] (left s here) ≡ []) where
       all : Wrote (take at d ++ rolled (listedIn s)) d out o []
       all = rw (e, rolled-none) at (h .so-far)
 
@@ -124,8 +126,8 @@ module _ (s d out : List ℕ) (at o : ℕ) (here : Cursor) (h : Adding s d out a
       all-written : out ≡ putAt d at (rolled (listedIn s))
       all-written = done-at (rolled (listedIn s)) d out at o (h .fits) all
 
-    at-end : k ≡ End → given (left s here) ≡ []
-    unfolding given
+    at-end : k ≡ End → orElse [] (left s here) ≡ []
+    unfolding orElse
     at-end q = rw (hand-end s here k p q)
 
     pub adding-end : k ≡ End → o ≡ at + length (rolled (listedIn s))
@@ -136,7 +138,7 @@ module _ (s d out : List ℕ) (at o : ℕ) (here : Cursor) (h : Adding s d out a
 
     -- a readable list stays readable
     never : k ≡ Unreadable → ⊥
-    unfolding isGiven
+    unfolding isSome
     never q = false≢true (rw (hand-unread s here k p q) at (h .readable))
 
     pub adding-never-end : k ≡ Unreadable → o ≡ at + length (rolled (listedIn s))
@@ -150,8 +152,8 @@ pub ruleset adding =
 
 -- a whole list, by its count
 module _ (s : List ℕ) (k : Counted) (t : k ≡ countedOf (addresses s)) where
-  pub list-readable : (n : ℕ) → k ≡ Count n → isGiven (addresses s) ≡ true
-  unfolding isGiven
+  pub list-readable : (n : ℕ) → k ≡ Count n → isSome (addresses s) ≡ true
+  unfolding isSome
   list-readable n q = rw (counted-some (addresses s) n (sym q ∙ t) .1 .0)
 
   none-there : k ≡ Uncounted → rolled (listedIn s) ≡ []

@@ -1,6 +1,6 @@
 -- What a caller knows of a roll that was added to. In each law `roll` is the memory as it came and `out` as it is now.
 --     add-grows      up to its new end it is what it was, and what was added
---     add-rolled     the same of a roll of addresses
+--     add-rolled     a roll of addresses to which one was added is the roll of all of them
 -- Assumes nothing.
 use Prim.Native.Nat.{ℕ, _+_, _≤_}
 use mathlib.Core.Path.{_≡_, sym}

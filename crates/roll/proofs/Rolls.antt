@@ -17,9 +17,10 @@ use native.Mathlib.Numerals.{add-one}
 use native.Mathlib.Omega.{arith}
 use lib.ListN.{length, take, drop, length-append, length-drop}
 use lib.Seq.{take-append-seam, drop-append-seam}
+use Rattle.octets.specs.Options.{orElse}
 use Rattle.address.specs.Address.{plain}
 use Rattle.address.proofs.Sides.{plain-most}
-use Rattle.list.specs.List.{addresses, given}
+use Rattle.list.specs.List.{addresses}
 use Rattle.roll.specs.Roll.{entry, rolled, unrolledWithin, unrolled, listedIn}
 
 pub entry-length : (a : List ℕ) → length (entry a) ≡ length a + 1
@@ -90,9 +91,9 @@ plain-enters a p = omega (arith, plain-most a p)
 
 module _ (s : List ℕ) where
   pub listed-readable : (list : List (List ℕ)) → addresses s ≡ some list → listedIn s ≡ list
-  unfolding listedIn given
+  unfolding listedIn orElse
   listed-readable list e = rw (listedIn, e)
 
   pub listed-unreadable : addresses s ≡ none → listedIn s ≡ []
-  unfolding listedIn given
+  unfolding listedIn orElse
   listed-unreadable e = rw (listedIn, e)

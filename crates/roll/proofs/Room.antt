@@ -9,12 +9,13 @@ use mathlib.Core.List.{List, [], _∷_, _++_}
 use mathlib.Core.Option.{Option, some, none}
 use native.Mathlib.Omega.{arith}
 use lib.ListN.{length}
+use Rattle.octets.specs.Options.{total}
 use Rattle.list.specs.List.{addresses}
-use Rattle.list.proofs.Room.{total, total-room}
+use Rattle.list.proofs.Room.{addressesTotal, total-room}
 use Rattle.roll.specs.Roll.{rolled, listedIn}
 use Rattle.roll.proofs.Rolls.{rolled-none, rolled-length, rolled-append-length, listed-readable, listed-unreadable}
 
-pub rolled-total : (list : List (List ℕ)) → length (rolled list) ≡ total list
+pub rolled-total : (list : List (List ℕ)) → length (rolled list) ≡ addressesTotal list
 unfolding total
 rolled-total [] = ap length rolled-none
 rolled-total (a ∷ rest) = rolled-length a rest ∙ rw (rolled-total rest)

@@ -5,12 +5,14 @@ use mathlib.Core.Path.{_≡_, refl}
 use mathlib.Core.Bool.{true, false}
 use mathlib.Core.List.{List, [], _∷_, _++_, map}
 use Rattle.octets.specs.Octets.{ascii, sameOctets, lower, lowered, blank}
+use Rattle.octets.specs.Options.{inFront, orElse}
+use Rattle.octets.specs.Finding.{holds}
 use Rattle.octets.specs.Tests.{every}
 use Rattle.runs.specs.Runs.{belongs, run}
 use Rattle.tokens.specs.Tokens.{control, kindOf, past, afterQuote}
 use Rattle.address.specs.Pieces.{onFirst, pieces, before, behind}
-use Rattle.address.specs.Address.{addressOctet, atom, localPart, freeEnds, label, domain, plain, canonical}
-use Rattle.list.specs.List.{openingOf, holdsAt, runToken, quotedToken, tokenAt, firstToken, afterAddress, after, inFront, listedBy, listed, addresses, among, given}
+use Rattle.address.specs.Address.{atom, localPart, freeEnds, label, domain, plain, canonical}
+use Rattle.list.specs.List.{openingOf, runToken, quotedToken, tokenAt, firstToken, afterAddress, after, listedBy, listed, addresses, among}
 use Rattle.roll.specs.Roll.{entry, rolled, unrolledWithin, unrolled, listedIn}
 
 abbrev two : List ℕ
@@ -32,5 +34,5 @@ pub worked :
     × Lists "A <a@b>, c@de" ("a@b" ∷ "c@de" ∷ [])
     × Lists "g:;" []
     × Lists "a@b," []
-unfolding entry rolled unrolledWithin unrolled listedIn among given canonical sameOctets lower lowered openingOf holdsAt runToken quotedToken tokenAt firstToken afterAddress after inFront listedBy listed addresses belongs atom localPart freeEnds label domain plain every onFirst pieces before behind run control blank kindOf past afterQuote
+unfolding entry rolled unrolledWithin unrolled listedIn among orElse canonical sameOctets lower lowered openingOf holds runToken quotedToken tokenAt firstToken afterAddress after inFront listedBy listed addresses belongs atom localPart freeEnds label domain plain every onFirst pieces before behind run control blank kindOf past afterQuote
 worked = (refl, refl, refl, refl, refl, refl, refl, refl, refl, refl, refl, refl)

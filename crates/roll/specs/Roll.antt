@@ -6,7 +6,8 @@
 use Prim.Native.Nat.{ℕ, zero, suc}
 use mathlib.Core.List.{List, [], _∷_, _++_}
 use lib.ListN.{length, take, drop}
-use Rattle.list.specs.List.{addresses, given}
+use Rattle.octets.specs.Options.{orElse}
+use Rattle.list.specs.List.{addresses}
 
 unfoldable pub entry : List ℕ → List ℕ
 entry a = length a ∷ a
@@ -27,4 +28,4 @@ unrolled s = unrolledWithin (length s) s
 
 -- the addresses of a list, none where it is unreadable
 unfoldable pub listedIn : List ℕ → List (List ℕ)
-listedIn s = given (addresses s)
+listedIn s = orElse [] (addresses s)

@@ -5,7 +5,8 @@ ghost use mathlib.Core.Path.{_≡_};
 ghost use mathlib.Core.Bool.{true};
 ghost use lib.ListN.{length, getD};
 ghost use Rattle.octets.specs.Written.{putAt};
-ghost use Rattle.list.specs.List.{addresses, among, isGiven};
+ghost use Rattle.octets.specs.Options.{isSome};
+ghost use Rattle.list.specs.List.{addresses, among};
 ghost use Rattle.roll.specs.Roll.{entry, rolled, unrolled, listedIn};
 use list::Counted;
 use list::Handed;
@@ -35,7 +36,7 @@ pub fn add_list(roll: &mut [u8], at: usize, list: &[u8]) -> usize
 
 // The same of a list that is readable.
 fn add_readable(roll: &mut [u8], at: usize, list: &[u8]) -> usize
-    requires { ⌜ (isGiven (addresses (now list)) ≡ true) × (at + length (rolled (listedIn (now list))) ≤ length (now roll)) ⌝ }
+    requires { ⌜ (isSome (addresses (now list)) ≡ true) × (at + length (rolled (listedIn (now list))) ≤ length (now roll)) ⌝ }
     ensures { λ r. ⌜ r ≡ at + length (rolled (listedIn (now (list .entry)))) ⌝ }
     ensures { λ _. ⌜ now (roll .exit) ≡ putAt (now (roll .entry)) at (rolled (listedIn (now (list .entry)))) ⌝ }
 {

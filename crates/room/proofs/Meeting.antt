@@ -22,7 +22,7 @@ use Rattle.table.specs.declared.Checked.the-variants.{Sound}
 use Rattle.table.specs.declared.Found.{Found}
 use Rattle.table.specs.declared.Found.the-variants.{At, Nothing}
 use Rattle.table.proofs.Entries.{slots-most}
-use Rattle.table.proofs.Replaced.{free-most}
+use Rattle.table.proofs.Lowest.{free-most}
 use Rattle.roll.specs.Roll.{entry, rolled, unrolled}
 use Rattle.roll.proofs.Rolls.{entry-length, rolled-none, unrolled-none, unrolled-taken}
 use Rattle.roll.proofs.Growing.{add-rolled}

@@ -12,7 +12,7 @@ use native.Mathlib.Nat.{sub-zero}
 use borrow.Author.Needs.{needs}
 use lib.Dec.{ltb}
 use lib.ListN.{length, take, drop}
-use Rattle.header.specs.Header.{isSome}
+use Rattle.octets.specs.Options.{isSome}
 use Rattle.header.specs.Answers.{fieldsFrom}
 use Rattle.address.specs.Address.{isCanonical}
 use Rattle.list.specs.List.{among}

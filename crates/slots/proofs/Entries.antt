@@ -17,6 +17,7 @@ use lib.Seq.{length-take-le, take-all}
 use Rattle.octets.specs.Octets.{AllOctets, allZero, sameOctets}
 use Rattle.octets.specs.Numbers.{number, digits}
 use Rattle.octets.specs.Written.{putAt}
+use Rattle.octets.specs.Options.{orElse, isSome}
 use Rattle.octets.proofs.Lists.{drop-one, given-octets, take-octets, drop-octets}
 use Rattle.octets.proofs.Numerals.{digits-number}
 use Rattle.octets.proofs.Zeros.{zero-true}
@@ -25,7 +26,7 @@ use Rattle.address.specs.Address.{plain, canonical, isCanonical}
 use Rattle.address.proofs.Sides.{plain-most}
 use Rattle.slots.specs.declared.Slot.{Slot}
 use Rattle.slots.specs.Slot.{slotLength, addressRoom, keyLimit, part, odd, addressLength, bits, hasLastSeen, hasDirect, hasGossip, isMutual, lastSeen, timestamp, gossipTimestamp, directLength, gossipLength, addressArea, directArea, gossipArea, addressOf, directKeyOf, gossipKeyOf, numbersOf, sound}
-use Rattle.slots.specs.Entry.{Direct, Gossip, Entry, present, orElse, isPresent, noDirect, noGossip, entryOf, numbersFor, bitsOf, opening, times, lengths, head, padded, areas, slotOf, seenBy, withDirect, withGossip, numbersSeen, numbersDirect, numbersGossip}
+use Rattle.slots.specs.Entry.{Direct, Gossip, Entry, present, noDirect, noGossip, entryOf, numbersFor, bitsOf, opening, times, lengths, head, padded, areas, slotOf, seenBy, withDirect, withGossip, numbersSeen, numbersDirect, numbersGossip}
 use Rattle.slots.proofs.Parts.{follows, put-front, put-over, put-behind}
 use Rattle.slots.proofs.Heads.{length-head, length-padded}
 use Rattle.slots.specs.Facts.{Sound}
@@ -36,11 +37,13 @@ unfolding isCanonical
 canonical-most a h = plain-most a (and-left (plain a) (sameOctets (canonical a) a) h)
 
 -- a part that may be absent
-pub present-is : {A : Type 0} (b : Bool) (x : A) → isPresent (present b x) ≡ b
+pub present-is : {A : Type 0} (b : Bool) (x : A) → isSome (present b x) ≡ b
+unfolding isSome
 present-is true x = refl
 present-is false x = refl
 
 pub present-or : {A B : Type 0} (f : A → B) (d x : A) (b : Bool) → (b ≡ false → f d ≡ f x) → f (orElse d (present b x)) ≡ f x
+unfolding orElse
 present-or f d x true h = refl
 present-or f d x false h = h refl
 
@@ -233,15 +236,15 @@ module _ (s : List ℕ) (l : length s ≡ slotLength) (p : Sound s) where
 
 -- the numbers that a writer changes are those of the changed entry, and the areas that it leaves are the entry's
 changed-seen : (e : Entry) (date : ℕ) → numbersFor (seenBy date e) ≡ numbersSeen date (numbersFor e)
-unfolding numbersFor seenBy
+unfolding numbersFor seenBy isSome orElse
 changed-seen e date = refl
 
 changed-direct : (e : Entry) (d : Direct) → numbersFor (withDirect d e) ≡ numbersDirect (d .timestamp) (length (d .key)) (d .«mutual») (numbersFor e)
-unfolding numbersFor withDirect
+unfolding numbersFor withDirect isSome orElse
 changed-direct e d = refl
 
 changed-gossip : (e : Entry) (g : Gossip) → numbersFor (withGossip g e) ≡ numbersGossip (g .timestamp) (length (g .key)) (numbersFor e)
-unfolding numbersFor withGossip
+unfolding numbersFor withGossip isSome orElse
 changed-gossip e g = refl
 
 kept-seen : (e : Entry) (date : ℕ) → areas (seenBy date e) ≡ areas e
@@ -251,7 +254,7 @@ kept-seen e date = refl
 -- octets 296 to 2343, or 2344 to 4391, written over behind the numbers
 areas-direct : (n : Slot) (e : Entry) (d : Direct) → length (e .address) ≤ addressRoom → length (orElse noDirect (e .direct) .key) ≤ keyLimit → length (d .key) ≤ keyLimit
     → putAt (head n ++ areas e) 296 (padded keyLimit (d .key)) ≡ head n ++ areas (withDirect d e)
-unfolding areas withDirect
+unfolding areas withDirect orElse
 areas-direct n e d a k m =
     let x : List ℕ = padded addressRoom (e .address) in
     let y : List ℕ = padded keyLimit (orElse noDirect (e .direct) .key) in
@@ -265,7 +268,7 @@ areas-direct n e d a k m =
 areas-gossip : (n : Slot) (e : Entry) (g : Gossip) → length (e .address) ≤ addressRoom → length (orElse noDirect (e .direct) .key) ≤ keyLimit
     → length (orElse noGossip (e .gossip) .key) ≤ keyLimit → length (g .key) ≤ keyLimit
     → putAt (head n ++ areas e) 2344 (padded keyLimit (g .key)) ≡ head n ++ areas (withGossip g e)
-unfolding areas withGossip
+unfolding areas withGossip orElse
 areas-gossip n e g a k j m =
     let x : List ℕ = padded addressRoom (e .address) in
     let y : List ℕ = padded keyLimit (orElse noDirect (e .direct) .key) in

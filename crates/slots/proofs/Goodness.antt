@@ -12,15 +12,16 @@ use native.Mathlib.Nat.{le-max-left, max-le}
 use native.Mathlib.Omega.{arith}
 use lib.ListN.{length, take, drop}
 use Rattle.octets.specs.Octets.{AllOctets}
+use Rattle.octets.specs.Options.{orElse, IfSome, isSome}
 use Rattle.octets.proofs.Lists.{take-octets, drop-octets}
 use Rattle.address.specs.Address.{isCanonical}
 use Rattle.slots.specs.Slot.{slotLength, timeLimit, hasLastSeen, hasDirect, hasGossip, isMutual, lastSeen, timestamp, gossipTimestamp, addressLength, addressArea, directLength, gossipLength, directArea, gossipArea, addressOf, directKeyOf, gossipKeyOf}
-use Rattle.slots.specs.Entry.{Direct, Gossip, Entry, present, orElse, entryOf, newcomer, seenBy, withDirect, withGossip, GoodKey, GoodDirect, GoodGossip, GoodHalf, Good}
+use Rattle.slots.specs.Entry.{Direct, Gossip, Entry, present, entryOf, newcomer, seenBy, withDirect, withGossip, GoodKey, GoodDirect, GoodGossip, Good}
 use Rattle.slots.specs.Facts.{Sound}
 use Rattle.slots.proofs.Entries.{direct-long, gossip-long}
 use Rattle.slots.proofs.Made.{good-seen}
 
-half-of : {A : Type 0} (P : A → Type 0) (b : Bool) (x : A) → (b ≡ true → P x) → GoodHalf P (present b x)
+half-of : {A : Type 0} (P : A → Type 0) (b : Bool) (x : A) → (b ≡ true → P x) → IfSome P (present b x)
 half-of P true x h = h refl
 half-of P false x h = tt
 
@@ -59,6 +60,7 @@ module _ (s : List ℕ) (l : length s ≡ slotLength) (p : Sound s) (o : AllOcte
 
   direct-half : hasDirect s ≡ true
       → GoodDirect (present (hasLastSeen s) (lastSeen s)) (record { timestamp = timestamp s; key = directKeyOf s; «mutual» = isMutual s })
+  unfolding isSome orElse
   direct-half e =
       let q : hasLastSeen s ≡ true = p .direct-seen e .0 in
       record { key = direct-key e; was-seen = rw q; not-below = rw q (p .direct-seen e .1) }
@@ -84,7 +86,8 @@ unfolding newcomer
 good-newcomer a c o = record { canonical = c; octets = o; seen = tt; direct = tt; gossip = tt }
 
 -- a direct half stays good where last seen is raised
-seen-later : (o : Option ℕ) (date : ℕ) (d : Option Direct) → GoodHalf (GoodDirect o) d → GoodHalf (GoodDirect (some (max (orElse 0 o) date))) d
+seen-later : (o : Option ℕ) (date : ℕ) (d : Option Direct) → IfSome (GoodDirect o) d → IfSome (GoodDirect (some (max (orElse 0 o) date))) d
+unfolding isSome orElse
 seen-later o date none g = tt
 seen-later o date (some d) g = record { key = g .key; was-seen = refl; not-below = omega (arith, g .not-below, le-max-left (orElse 0 o) date) }
 

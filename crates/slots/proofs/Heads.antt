@@ -14,6 +14,7 @@ use borrow.Author.Needs.{needs}
 use lib.ListN.{length, take, drop, replicate, length-append, length-replicate, length-take, length-drop, replicate-append-replicate}
 use Rattle.octets.specs.Numbers.{digits}
 use Rattle.octets.specs.Written.{putAt}
+use Rattle.octets.specs.Options.{isSome, orElse}
 use Rattle.octets.proofs.Copying.{length-digits}
 use Rattle.slots.specs.declared.Slot.{Slot}
 use Rattle.slots.specs.Slot.{slotLength, mark, addressRoom, emptyNumbers}
@@ -118,7 +119,7 @@ over-zeros h a p r k g m eh la em =
 
 pub begun : (d a o₁ o₂ o₃ : List ℕ) (n : Slot) → (length d ≡ slotLength) × (length a ≤ addressRoom)
     → o₁ ≡ replicate (length d) 0 → n ≡ emptyNumbers (length a) → o₂ ≡ putAt o₁ 0 (head n) → o₃ ≡ putAt o₂ 40 a → o₃ ≡ slotOf (newcomer a)
-unfolding slotOf areas numbersFor newcomer
+unfolding slotOf areas numbersFor newcomer isSome orElse
 begun d a o₁ o₂ o₃ n h e₁ en e₂ e₃ =
     e₃
     ∙ rw (e₂, e₁, en, padded-none)

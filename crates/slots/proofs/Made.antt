@@ -17,6 +17,7 @@ use lib.ListN.{length, take, drop, replicate, length-append}
 use lib.Seq.{take-at, drop-at, take-all}
 use Rattle.octets.specs.Octets.{AllOctets, allZero}
 use Rattle.octets.specs.Numbers.{number, digits}
+use Rattle.octets.specs.Options.{orElse, isSome, IfSome}
 use Rattle.octets.proofs.Comparing.{same-refl}
 use Rattle.octets.proofs.Joined.{more-octets, append-octets, replicate-octets, digits-octets}
 use Rattle.octets.proofs.Numerals.{number-digits}
@@ -24,7 +25,7 @@ use Rattle.octets.proofs.Zeros.{zero-replicate}
 use Rattle.octets.specs.Tests.{oneTo}
 use Rattle.slots.specs.declared.Slot.{Slot}
 use Rattle.slots.specs.Slot.{slotLength, addressRoom, keyLimit, timeLimit, mark, part, odd, addressLength, bits, lastSeen, timestamp, directLength, gossipLength, addressArea, directArea, gossipArea, addressOf, directKeyOf, gossipKeyOf, numbersOf, marked, canonicalAddress, clear, inRange, lengthsInRange, absentZero, zeroPast, mutualDirect, directSeen, sound}
-use Rattle.slots.specs.Entry.{Direct, Gossip, Entry, present, orElse, isPresent, noDirect, noGossip, entryOf, numbersFor, bitsOf, opening, times, lengths, head, padded, areas, slotOf, GoodKey, GoodDirect, GoodGossip, GoodHalf, Good}
+use Rattle.slots.specs.Entry.{Direct, Gossip, Entry, present, noDirect, noGossip, entryOf, numbersFor, bitsOf, opening, times, lengths, head, padded, areas, slotOf, GoodKey, GoodDirect, GoodGossip, Good}
 use Rattle.slots.proofs.Parts.{drop-past}
 use Rattle.slots.proofs.Heads.{length-head, length-padded}
 use Rattle.slots.proofs.Entries.{canonical-most}
@@ -132,22 +133,26 @@ module _ (n : Slot) where
         }
 
 -- parts that may be absent
-present-back : {A : Type 0} (d : A) (o : Option A) → present (isPresent o) (orElse d o) ≡ o
+present-back : {A : Type 0} (d : A) (o : Option A) → present (isSome o) (orElse d o) ≡ o
+unfolding isSome orElse
 present-back d none = refl
 present-back d (some x) = refl
 
 -- what holds of a part that is there and of what stands for one that is not
-half-holds : {A : Type 0} (P Q : A → Type 0) (d : A) → Q d → ((x : A) → P x → Q x) → (o : Option A) → GoodHalf P o → Q (orElse d o)
+half-holds : {A : Type 0} (P Q : A → Type 0) (d : A) → Q d → ((x : A) → P x → Q x) → (o : Option A) → IfSome P o → Q (orElse d o)
+unfolding orElse
 half-holds P Q d z f none g = z
 half-holds P Q d z f (some x) g = f x g
 
 -- a test that asks something of a part that is there, or of one that is not
-asked-there : {A : Type 0} (P : A → Type 0) (test : A → Bool) (d : A) → ((x : A) → P x → test x ≡ true) → (o : Option A) → GoodHalf P o
-    → (not (isPresent o) || test (orElse d o)) ≡ true
+asked-there : {A : Type 0} (P : A → Type 0) (test : A → Bool) (d : A) → ((x : A) → P x → test x ≡ true) → (o : Option A) → IfSome P o
+    → (not (isSome o) || test (orElse d o)) ≡ true
+unfolding isSome orElse
 asked-there P test d f none g = refl
 asked-there P test d f (some x) g = f x g
 
-asked-absent : {A : Type 0} (test : A → Bool) (d : A) → test d ≡ true → (o : Option A) → (isPresent o || test (orElse d o)) ≡ true
+asked-absent : {A : Type 0} (test : A → Bool) (d : A) → test d ≡ true → (o : Option A) → (isSome o || test (orElse d o)) ≡ true
+unfolding isSome orElse
 asked-absent test d z none = z
 asked-absent test d z (some x) = refl
 
@@ -355,17 +360,17 @@ module _ (e : Entry) (g : Good e) where
       )
 
   made-mutual : mutualDirect (numbersFor e) ≡ true
-  unfolding numbersFor
+  unfolding numbersFor isSome orElse
   made-mutual = go (e .direct)
     where
-      go : (o : Option Direct) → (not (orElse noDirect o .«mutual») || isPresent o) ≡ true
+      go : (o : Option Direct) → (not (orElse noDirect o .«mutual») || isSome o) ≡ true
       go none = refl
       go (some d) = or-true (not (d .«mutual»))
 
   made-seen : directSeen (numbersFor e) ≡ true
   unfolding numbersFor
   made-seen =
-      asked-there (GoodDirect (e .lastSeen)) (λ (d : Direct). isPresent (e .lastSeen) && leb (d .timestamp) (orElse 0 (e .lastSeen))) noDirect
+      asked-there (GoodDirect (e .lastSeen)) (λ (d : Direct). isSome (e .lastSeen) && leb (d .timestamp) (orElse 0 (e .lastSeen))) noDirect
       (λ d h. rw (h .was-seen, le-leb (d .timestamp) (orElse 0 (e .lastSeen)) (h .not-below)))
       (e .direct)
       (g .direct)

@@ -11,12 +11,13 @@ use mathlib.Core.Option.{some, none}
 use mathlib.Core.List.{[], _∷_}
 use Rattle.octets.specs.Octets.{ascii}
 use Rattle.octets.specs.Numbers.{number, digits}
+use Rattle.octets.specs.Options.{isSome, orElse}
 use Rattle.slots.specs.Slot.{emptyNumbers, mutualDirect, directSeen, addressOf, directKeyOf, gossipKeyOf}
 use Rattle.slots.specs.Entry.{Entry, entryOf, numbersFor, bitsOf, opening, times, lengths, head, padded, areas, slotOf, newcomer, numbersSeen, numbersDirect}
 
 empty-head : head (numbersFor (newcomer (ascii "a@b")))
     ≡ 65 ∷ 49 ∷ 3 ∷ 0 ∷ 0 ∷ 0 ∷ 0 ∷ 0 ∷ 0 ∷ 0 ∷ 0 ∷ 0 ∷ 0 ∷ 0 ∷ 0 ∷ 0 ∷ 0 ∷ 0 ∷ 0 ∷ 0 ∷ 0 ∷ 0 ∷ 0 ∷ 0 ∷ 0 ∷ 0 ∷ 0 ∷ 0 ∷ 0 ∷ 0 ∷ 0 ∷ 0 ∷ 0 ∷ 0 ∷ 0 ∷ 0 ∷ 0 ∷ 0 ∷ 0 ∷ 0 ∷ []
-unfolding head opening times lengths digits bitsOf numbersFor newcomer
+unfolding head opening times lengths digits bitsOf numbersFor newcomer isSome orElse
 empty-head = refl
 
 abbrev alice : Entry
@@ -30,15 +31,15 @@ alice =
 
 alice-head : head (numbersFor alice)
     ≡ 65 ∷ 49 ∷ 15 ∷ 0 ∷ 11 ∷ 0 ∷ 0 ∷ 0 ∷ 232 ∷ 3 ∷ 0 ∷ 0 ∷ 0 ∷ 0 ∷ 0 ∷ 0 ∷ 232 ∷ 3 ∷ 0 ∷ 0 ∷ 0 ∷ 0 ∷ 0 ∷ 0 ∷ 0 ∷ 0 ∷ 0 ∷ 0 ∷ 0 ∷ 0 ∷ 0 ∷ 0 ∷ 3 ∷ 0 ∷ 0 ∷ 0 ∷ 0 ∷ 0 ∷ 0 ∷ 0 ∷ []
-unfolding head opening times lengths digits bitsOf numbersFor
+unfolding head opening times lengths digits bitsOf numbersFor isSome orElse
 alice-head = refl
 
 alice-read : entryOf (slotOf alice) ≡ alice
-unfolding entryOf slotOf areas padded head opening times lengths digits bitsOf numbersFor addressOf directKeyOf gossipKeyOf number
+unfolding entryOf slotOf areas padded head opening times lengths digits bitsOf numbersFor addressOf directKeyOf gossipKeyOf number isSome orElse
 alice-read = refl
 
 zero-is-time : entryOf (slotOf (record { address = ascii "a@b"; lastSeen = some 0; direct = none; gossip = none })) .lastSeen ≡ some 0
-unfolding entryOf slotOf areas padded head opening times lengths digits bitsOf numbersFor addressOf directKeyOf gossipKeyOf number
+unfolding entryOf slotOf areas padded head opening times lengths digits bitsOf numbersFor addressOf directKeyOf gossipKeyOf number isSome orElse
 zero-is-time = refl
 
 mutual-alone : mutualDirect (record {

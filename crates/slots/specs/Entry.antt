@@ -11,6 +11,7 @@ use mathlib.Core.Option.{Option, some, none}
 use mathlib.Core.List.{List, [], _++_}
 use lib.ListN.{length, replicate}
 use Rattle.octets.specs.Octets.{AllOctets}
+use Rattle.octets.specs.Options.{isSome, orElse, IfSome}
 use Rattle.octets.specs.Numbers.{digits}
 use Rattle.address.specs.Address.{isCanonical}
 use Rattle.slots.specs.declared.Slot.{Slot}
@@ -54,22 +55,14 @@ noDirect = record { timestamp = 0; key = []; «mutual» = false }
 abbrev pub noGossip : Gossip
 noGossip = record { timestamp = 0; key = [] }
 
-abbrev pub orElse : {A : Type 0} → A → Option A → A
-orElse d none = d
-orElse d (some x) = x
-
-abbrev pub isPresent : {A : Type 0} → Option A → Bool
-isPresent none = false
-isPresent (some x) = true
-
 -- the numbers that octets 2 to 39 say of an entry
 unfoldable pub numbersFor : Entry → Slot
 numbersFor e =
     record {
       «address_length» = length (e .address);
-      seen = isPresent (e .lastSeen);
-      direct = isPresent (e .direct);
-      gossip = isPresent (e .gossip);
+      seen = isSome (e .lastSeen);
+      direct = isSome (e .direct);
+      gossip = isSome (e .gossip);
       «mutual» = orElse noDirect (e .direct) .«mutual»;
       «last_seen» = orElse 0 (e .lastSeen);
       timestamp = orElse noDirect (e .direct) .timestamp;
@@ -136,23 +129,19 @@ pub record GoodKey (k : List ℕ) : Type 0 where
 -- "a direct key implies last seen present and not below the Autocrypt timestamp"
 pub record GoodDirect (seen : Option ℕ) (d : Direct) : Type 0 where
   pub key : GoodKey (d .key)
-  pub was-seen : isPresent seen ≡ true
+  pub was-seen : isSome seen ≡ true
   pub not-below : d .timestamp ≤ orElse 0 seen
 
 pub record GoodGossip (g : Gossip) : Type 0 where
   pub key : GoodKey (g .key)
   pub in-range : g .timestamp ≤ timeLimit
 
-abbrev pub GoodHalf : {A : Type 0} → (A → Type 0) → Option A → Type 0
-GoodHalf P none = Unit
-GoodHalf P (some x) = P x
-
 pub record Good (e : Entry) : Type 0 where
   pub canonical : isCanonical (e .address) ≡ true
   pub octets : AllOctets (e .address)
-  pub seen : GoodHalf (λ t. t ≤ timeLimit) (e .lastSeen)
-  pub direct : GoodHalf (GoodDirect (e .lastSeen)) (e .direct)
-  pub gossip : GoodHalf GoodGossip (e .gossip)
+  pub seen : IfSome (λ t. t ≤ timeLimit) (e .lastSeen)
+  pub direct : IfSome (GoodDirect (e .lastSeen)) (e .direct)
+  pub gossip : IfSome GoodGossip (e .gossip)
 
 -- what the writers change in the numbers
 abbrev pub numbersSeen : ℕ → Slot → Slot

@@ -3,7 +3,7 @@
 --     slotLength, addressRoom, keyLimit, timeLimit    the limits
 --     mark .. gossipKey          the parts of a slot, in the table's order
 --     numbersOf                  what octets 2 to 39 say, as the code's own `Slot`
---     emptyNumbers               the same for an entry that holds an address only
+--     emptyNumbers               what they say of an entry that holds an address only
 --     free                       "A free slot is all zero."
 --     marked .. directSeen       the conditions of a sound slot, each by its words
 --     sound                      all of them; that the address stands in no lower slot is the table's to say

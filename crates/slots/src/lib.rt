@@ -39,7 +39,8 @@ impl Slot {
     // "40-295 address"
     pub const ADDRESS_ROOM: usize = 256;
 
-    // The widths of a length and of a time, and the place of each part, from the one before.
+    // The widths of a length and of a time, and the place of each part, from the one before. Octets 5 to 7, behind the bits, and
+    // 36 to 39, behind the lengths, must be clear.
     pub const LENGTH_WIDTH: usize = 2;
 
     pub const TIME_WIDTH: usize = 8;
@@ -48,9 +49,9 @@ impl Slot {
 
     pub const BITS_AT: usize = Self::ADDRESS_LENGTH_AT + Self::LENGTH_WIDTH;
 
-    pub const CLEAR_AT: usize = Self::BITS_AT + 1;
+    pub const CLEAR_BEHIND_BITS_AT: usize = Self::BITS_AT + 1;
 
-    pub const LAST_SEEN_AT: usize = Self::CLEAR_AT + 3;
+    pub const LAST_SEEN_AT: usize = Self::CLEAR_BEHIND_BITS_AT + 3;
 
     pub const TIMESTAMP_AT: usize = Self::LAST_SEEN_AT + Self::TIME_WIDTH;
 
@@ -60,9 +61,9 @@ impl Slot {
 
     pub const GOSSIP_LENGTH_AT: usize = Self::DIRECT_LENGTH_AT + Self::LENGTH_WIDTH;
 
-    pub const CLEAR_TOO_AT: usize = Self::GOSSIP_LENGTH_AT + Self::LENGTH_WIDTH;
+    pub const CLEAR_BEHIND_LENGTHS_AT: usize = Self::GOSSIP_LENGTH_AT + Self::LENGTH_WIDTH;
 
-    pub const ADDRESS_AT: usize = Self::CLEAR_TOO_AT + 4;
+    pub const ADDRESS_AT: usize = Self::CLEAR_BEHIND_LENGTHS_AT + 4;
 
     pub const DIRECT_AT: usize = Self::ADDRESS_AT + Self::ADDRESS_ROOM;
 
@@ -238,7 +239,7 @@ impl Slot {
             self.address_length as u64,
         );
         octets::put_number(slot, Self::BITS_AT, 1, self.bits());
-        octets::put_number(slot, Self::CLEAR_AT, 3, 0);
+        octets::put_number(slot, Self::CLEAR_BEHIND_BITS_AT, 3, 0);
     }
 
     // Writes octets 8 to 31.
@@ -273,7 +274,7 @@ impl Slot {
             Self::LENGTH_WIDTH,
             self.gossip_length as u64,
         );
-        octets::put_number(slot, Self::CLEAR_TOO_AT, 4, 0);
+        octets::put_number(slot, Self::CLEAR_BEHIND_LENGTHS_AT, 4, 0);
     }
 
     // Writes octets 0 to 39.
@@ -345,8 +346,8 @@ fn is_clear(slot: &[u8]) -> bool
     ensures { λ r. ⌜ r ≡ clear (now (slot .entry)) ⌝ }
 {
     (slot[Slot::BITS_AT] < 16)
-        & octets::is_zero(&slot[Slot::CLEAR_AT..Slot::LAST_SEEN_AT])
-        & octets::is_zero(&slot[Slot::CLEAR_TOO_AT..Slot::ADDRESS_AT])
+        & octets::is_zero(&slot[Slot::CLEAR_BEHIND_BITS_AT..Slot::LAST_SEEN_AT])
+        & octets::is_zero(&slot[Slot::CLEAR_BEHIND_LENGTHS_AT..Slot::ADDRESS_AT])
 }
 
 // "everything .. past a length is zero"
@@ -425,7 +426,8 @@ pub fn raise_seen(slot: &mut [u8], date: u64)
 // Sets timestamp, key and preference of the direct half.
 pub fn set_direct(slot: &mut [u8], timestamp: u64, key: &[u8], mutual: bool)
     requires { ⌜ (length (now slot) ≡ slotLength) × (sound (now slot) ≡ true) × (length (now key) ≤ keyLimit) ⌝ }
-    ensures { λ _. ⌜ now (slot .exit) ≡ slotOf (withDirect (record { timestamp = timestamp; key = now (key .entry); «mutual» = «mutual» }) (entryOf (now (slot .entry)))) ⌝ }
+    ensures { λ _. ⌜ now (slot .exit) ≡ slotOf
+        (withDirect (record { timestamp = timestamp; key = now (key .entry); «mutual» = «mutual» }) (entryOf (now (slot .entry)))) ⌝ }
 {
     let n = Slot::read(slot).with_direct(timestamp, key.len(), mutual);
     n.put(slot);

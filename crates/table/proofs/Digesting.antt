@@ -2,8 +2,8 @@
 --     Digested s k d                 d is the digest of the first k octets
 --     digest-begin .. digest-end     the loop over an address
 --     digest-same                    the digest of an address that is equal to it
---     among-begin .. among-end       the loop over the digests
---     among-at                       a number that stands there is among them
+--     first-begin .. first-end       the loop over the digests
+--     first-at                       a number that stands there is among them
 --     digests-begin, digests-next    the digests of no slot, and of one slot more
 --     lower-apart                    a digest that is not among the lower ones is that of an address in no lower slot
 -- Assumes nothing.
@@ -22,9 +22,9 @@ use lib.Seq.{getD-set-same, getD-set-other}
 use Rattle.octets.proofs.Lists.{lt-or-le, drop-one, drop-done}
 use Rattle.octets.proofs.Tests.{by-test}
 use Rattle.slots.specs.Slot.{addressOf}
-use Rattle.table.specs.Table.{slotAt, holds, isAt, inLower}
-use Rattle.table.specs.Digests.{withOctet, digestAfter, digestOf, among, Digests}
-use Rattle.table.proofs.Finding.{lowest-none, holds-address}
+use Rattle.table.specs.Table.{slotAt, hasAddress, isAt, inLower}
+use Rattle.table.specs.Digests.{withOctet, digestAfter, digestOf, inFirst, Digests}
+use Rattle.table.proofs.Finding.{lowest-none, has-address}
 
 pub record Digested (s : List ℕ) (k d : ℕ) : Type 0 where
   pub upto : k ≤ length s
@@ -49,26 +49,26 @@ pub digest-same : (a b : List ℕ) (d : ℕ) → d ≡ digestOf a → a ≡ b �
 digest-same a b d e p = e ∙ ap digestOf p
 
 module _ (x : ℕ) (ds : List ℕ) where
-  pub among-begin : false ≡ among x ds 0
-  unfolding among
-  among-begin = refl
+  pub first-begin : false ≡ inFirst x ds 0
+  unfolding inFirst
+  first-begin = refl
 
-  pub among-next : (k : ℕ) (b : Bool) → b ≡ among x ds k → (b || eqb (getD ds k 0) x) ≡ among x ds (k + 1)
-  unfolding among
-  among-next k b e = rw (add-one, among, e)
+  pub first-next : (k : ℕ) (b : Bool) → b ≡ inFirst x ds k → (b || eqb (getD ds k 0) x) ≡ inFirst x ds (k + 1)
+  unfolding inFirst
+  first-next k b e = rw (add-one, inFirst, e)
 
-  pub among-end : (n k : ℕ) (b : Bool) → b ≡ among x ds k → k ≤ n → n ≤ k → b ≡ among x ds n
-  among-end n k b e l m = let q : k ≡ n = omega arith in e ∙ rw q
+  pub first-end : (n k : ℕ) (b : Bool) → b ≡ inFirst x ds k → k ≤ n → n ≤ k → b ≡ inFirst x ds n
+  first-end n k b e l m = let q : k ≡ n = omega arith in e ∙ rw q
 
-  among-at : (n k : ℕ) → k < n → getD ds k 0 ≡ x → among x ds n ≡ true
-  unfolding among
-  among-at zero k l e = absurd (omega arith)
-  among-at (suc n) k l e =
-      ⊎-elim (λ (m : k < n). rw (among-at n k m e))
-      (λ (m : n ≤ k). let q : k ≡ n = omega arith in rw (eq-eqb (getD ds n 0) x (rw q at e)) (or-true (among x ds n)))
+  first-at : (n k : ℕ) → k < n → getD ds k 0 ≡ x → inFirst x ds n ≡ true
+  unfolding inFirst
+  first-at zero k l e = absurd (omega arith)
+  first-at (suc n) k l e =
+      ⊎-elim (λ (m : k < n). rw (first-at n k m e))
+      (λ (m : n ≤ k). let q : k ≡ n = omega arith in rw (eq-eqb (getD ds n 0) x (rw q at e)) (or-true (inFirst x ds n)))
       (lt-or-le k n)
 
-pub ruleset looking-through = (among-begin, among-next, among-end, needs)
+pub ruleset looking-through = (first-begin, first-next, first-end, needs)
 
 pub digests-begin : (t ds : List ℕ) → length ds ≡ 256 → Digests t ds 0
 digests-begin t ds e = record { few = omega arith; room = e; each = λ k l. absurd (omega arith) }
@@ -86,18 +86,18 @@ digests-next t ds i d h l e =
 
 -- the digest of slot i is that of each slot with the same address
 module _ (t ds : List ℕ) (i : ℕ) (h : Digests t ds (i + 1)) where
-  told : (m : ℕ) → m < i → holds (addressOf (slotAt t i)) (slotAt t m) ≡ true → among (getD ds i 0) ds i ≡ true
+  told : (m : ℕ) → m < i → hasAddress (addressOf (slotAt t i)) (slotAt t m) ≡ true → inFirst (getD ds i 0) ds i ≡ true
   told m l p =
-      among-at (getD ds i 0) ds i m l
-      (h .each m (omega arith) ∙ ap digestOf (holds-address (addressOf (slotAt t i)) (slotAt t m) p) ∙ sym (h .each i (omega arith)))
+      first-at (getD ds i 0) ds i m l
+      (h .each m (omega arith) ∙ ap digestOf (has-address (addressOf (slotAt t i)) (slotAt t m) p) ∙ sym (h .each i (omega arith)))
 
-  pub lower-apart : (b : Bool) → b ≡ among (getD ds i 0) ds i → not b ≡ true → false ≡ inLower t i
+  pub lower-apart : (b : Bool) → b ≡ inFirst (getD ds i 0) ds i → not b ≡ true → false ≡ inLower t i
   unfolding inLower
   lower-apart b e q =
       sym
       (ap isAt
-      (lowest-none (holds (addressOf (slotAt t i))) t 0 i
+      (lowest-none (hasAddress (addressOf (slotAt t i))) t 0 i
       (λ m _ l.
-      by-test (holds (addressOf (slotAt t i)) (slotAt t m))
+      by-test (hasAddress (addressOf (slotAt t i)) (slotAt t m))
       (λ p. absurd (false≢true (sym (sym e ∙ not-true b q) ∙ told m (omega arith) p)))
       (λ p. p))))

@@ -1,7 +1,7 @@
 -- Where an address stands, as callers ask for it.
 --     lowest-at, lowest-nothing, lowest-none    what the lowest slot that passes a test tells, and that there is none
 --     found-at, found-nothing                   the slot of an address: an index of the table, a used slot with that address; or no slot has it
---     free-at, free-nothing                     the lowest free slot
+--     free-at                                   the lowest free slot
 -- Assumes nothing.
 use Prim.Native.Nat.{ℕ, suc, zero, _+_, _<_, _≤_}
 use mathlib.Core.Path.{_≡_, refl, sym, _∙_}
@@ -15,7 +15,7 @@ use Rattle.octets.proofs.Comparing.{same-true}
 use Rattle.octets.proofs.Lists.{lt-or-le}
 use Rattle.octets.proofs.Tests.{and-left, and-right, by-test}
 use Rattle.slots.specs.Slot.{marked, addressOf}
-use Rattle.table.specs.Table.{slots, slotAt, unused, holds, lowest, found, lowestFree}
+use Rattle.table.specs.Table.{slots, slotAt, unused, hasAddress, lowest, found, lowestFree}
 use Rattle.table.specs.declared.Found.the-variants.{At, Nothing}
 use Rattle.table.proofs.Scanning.{lowest-here, lowest-later}
 
@@ -69,28 +69,28 @@ module _ (test : List ℕ → Bool) (t : List ℕ) where
       lowest-later test t i k (h i (omega arith) (omega arith)) ∙ lowest-none (i + 1) k (λ m a b. h m (omega arith) (omega arith))
 
 -- a used slot with this address
-pub holds-used : (a s : List ℕ) → holds a s ≡ true → marked s ≡ true
-unfolding holds
-holds-used a s h = and-left (marked s) (sameOctets (addressOf s) a) h
+pub has-used : (a s : List ℕ) → hasAddress a s ≡ true → marked s ≡ true
+unfolding hasAddress
+has-used a s h = and-left (marked s) (sameOctets (addressOf s) a) h
 
-pub holds-address : (a s : List ℕ) → holds a s ≡ true → addressOf s ≡ a
-unfolding holds
-holds-address a s h = same-true (addressOf s) a (and-right (marked s) (sameOctets (addressOf s) a) h)
+pub has-address : (a s : List ℕ) → hasAddress a s ≡ true → addressOf s ≡ a
+unfolding hasAddress
+has-address a s h = same-true (addressOf s) a (and-right (marked s) (sameOctets (addressOf s) a) h)
 
 module _ (t a : List ℕ) where
-  pub found-at : (i : ℕ) → found t a ≡ At i → (i < slots t) × (holds a (slotAt t i) ≡ true)
+  pub found-at : (i : ℕ) → found t a ≡ At i → (i < slots t) × (hasAddress a (slotAt t i) ≡ true)
   unfolding found
-  found-at i e = let r = lowest-at (holds a) t 0 (slots t) i e in (omega (arith, r .below), r .passes)
+  found-at i e = let r = lowest-at (hasAddress a) t 0 (slots t) i e in (omega (arith, r .below), r .passes)
 
   pub found-used : (i : ℕ) → found t a ≡ At i → marked (slotAt t i) ≡ true
-  found-used i e = holds-used a (slotAt t i) (found-at i e .1)
+  found-used i e = has-used a (slotAt t i) (found-at i e .1)
 
   pub found-address : (i : ℕ) → found t a ≡ At i → addressOf (slotAt t i) ≡ a
-  found-address i e = holds-address a (slotAt t i) (found-at i e .1)
+  found-address i e = has-address a (slotAt t i) (found-at i e .1)
 
-  pub found-nothing : found t a ≡ Nothing → (j : ℕ) → j < slots t → holds a (slotAt t j) ≡ false
+  pub found-nothing : found t a ≡ Nothing → (j : ℕ) → j < slots t → hasAddress a (slotAt t j) ≡ false
   unfolding found
-  found-nothing e j l = lowest-nothing (holds a) t 0 (slots t) e j (omega arith) (omega arith)
+  found-nothing e j l = lowest-nothing (hasAddress a) t 0 (slots t) e j (omega arith) (omega arith)
 
 module _ (t : List ℕ) where
   pub free-at : (i : ℕ) → lowestFree t ≡ At i → (i < slots t) × (marked (slotAt t i) ≡ false)
@@ -98,7 +98,3 @@ module _ (t : List ℕ) where
   free-at i e =
       let r = lowest-at unused t 0 (slots t) i e in
       (omega (arith, r .below), not-true (marked (slotAt t i)) (r .passes))
-
-  pub free-nothing : lowestFree t ≡ Nothing → (j : ℕ) → j < slots t → unused (slotAt t j) ≡ false
-  unfolding lowestFree
-  free-nothing e j l = lowest-nothing unused t 0 (slots t) e j (omega arith) (omega arith)

@@ -20,7 +20,7 @@ use Rattle.octets.proofs.Lists.{left-one}
 use Rattle.octets.proofs.Tests.{and-right}
 use Rattle.slots.specs.Slot.{slotLength, marked, free, sound, addressOf}
 use Rattle.slots.proofs.Sounds.{marked-not-free, unmarked-not-sound}
-use Rattle.table.specs.Table.{slots, slotAt, holds, lowest, isAt, inLower, right, whole, judged, checked}
+use Rattle.table.specs.Table.{slots, slotAt, hasAddress, lowest, isAt, inLower, right, whole, judged, checked}
 use Rattle.table.specs.declared.Checked.the-variants.{Sound, Length, Slot}
 use Rattle.table.specs.declared.Found.{Found}
 use Rattle.table.specs.declared.Found.the-variants.{At, Nothing}
@@ -52,7 +52,7 @@ module _ (t s : List ℕ) (i : ℕ) (m : Bool) (e : (s ≡ slotAt t i) × (lengt
 pub ruleset being-right = (right-free, right-not, right-used, needs)
 
 -- the address of slot i, looked for in the lower slots
-module _ (t a : List ℕ) (i : ℕ) (r : Found) (ea : a ≡ addressOf (slotAt t i)) (er : r ≡ lowest (holds a) t 0 i) where
+module _ (t a : List ℕ) (i : ℕ) (r : Found) (ea : a ≡ addressOf (slotAt t i)) (er : r ≡ lowest (hasAddress a) t 0 i) where
   lower-is : inLower t i ≡ isAt r
   unfolding inLower
   lower-is = sym (rw (er, ea))

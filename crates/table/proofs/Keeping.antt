@@ -23,14 +23,14 @@ use Rattle.slots.specs.Slot.{slotLength, marked, free, sound, addressOf}
 use Rattle.slots.specs.Entry.{Entry, slotOf, Good}
 use Rattle.slots.proofs.Sounds.{marked-not-free, unmarked-not-sound}
 use Rattle.slots.proofs.Made.{slot-long, slot-sound, address-kept}
-use Rattle.table.specs.Table.{slots, slotAt, withSlot, holds, lowest, isAt, inLower, right, whole, judged, checked, found}
+use Rattle.table.specs.Table.{slots, slotAt, withSlot, hasAddress, lowest, isAt, inLower, right, whole, judged, checked, found}
 use Rattle.table.specs.Slotwise.{SoundTable}
 use Rattle.table.specs.declared.Checked.the-variants.{Sound, Length, Slot}
 use Rattle.table.specs.declared.Found.{Found}
 use Rattle.table.specs.declared.Found.the-variants.{At, Nothing}
 use Rattle.table.proofs.Slots.{length-kept, slots-kept, slot-same, slot-other}
 use Rattle.table.proofs.Judging.{judged-on, judged-here, checked-slots, checked-length}
-use Rattle.table.proofs.Finding.{lowest-nothing, lowest-none, found-at, found-nothing, holds-used, holds-address}
+use Rattle.table.proofs.Finding.{lowest-nothing, lowest-none, found-at, found-nothing, has-used, has-address}
 
 module _ (t : List ℕ) where
   judged-each : (i k : ℕ) → judged t i k ≡ Sound → (m : ℕ) → i ≤ m → m < i + k → right t m ≡ true
@@ -91,14 +91,14 @@ not-at Nothing e = refl
 
 module _ (t : List ℕ) where
   -- the address of slot i stands in no lower slot
-  pub lower-not : (i : ℕ) → inLower t i ≡ false → (m : ℕ) → m < i → holds (addressOf (slotAt t i)) (slotAt t m) ≡ false
+  pub lower-not : (i : ℕ) → inLower t i ≡ false → (m : ℕ) → m < i → hasAddress (addressOf (slotAt t i)) (slotAt t m) ≡ false
   unfolding inLower
   lower-not i e m l =
-      lowest-nothing (holds (addressOf (slotAt t i))) t 0 i (not-at (lowest (holds (addressOf (slotAt t i))) t 0 i) e) m (omega arith) (omega arith)
+      lowest-nothing (hasAddress (addressOf (slotAt t i))) t 0 i (not-at (lowest (hasAddress (addressOf (slotAt t i))) t 0 i) e) m (omega arith) (omega arith)
 
-  pub not-lower : (i : ℕ) → ((m : ℕ) → m < i → holds (addressOf (slotAt t i)) (slotAt t m) ≡ false) → inLower t i ≡ false
+  pub not-lower : (i : ℕ) → ((m : ℕ) → m < i → hasAddress (addressOf (slotAt t i)) (slotAt t m) ≡ false) → inLower t i ≡ false
   unfolding inLower
-  not-lower i h = rw (lowest-none (holds (addressOf (slotAt t i))) t 0 i (λ m a b. h m (omega arith)))
+  not-lower i h = rw (lowest-none (hasAddress (addressOf (slotAt t i))) t 0 i (λ m a b. h m (omega arith)))
 
 module _ (t : List ℕ) (s : SoundTable t) where
   pub used-sound : (i : ℕ) → i < slots t → marked (slotAt t i) ≡ true → (sound (slotAt t i) ≡ true) × (inLower t i ≡ false)
@@ -110,21 +110,21 @@ module _ (t : List ℕ) (s : SoundTable t) where
   unused-free i l m = free-or (free (slotAt t i)) (sound (slotAt t i)) (inLower t i) (s .each i l) (unmarked-not-sound (slotAt t i) m)
 
   -- the lower of two slots that have one address forbids the higher one
-  apart : (a : List ℕ) (i j : ℕ) → i < j → j < slots t → holds a (slotAt t i) ≡ true → holds a (slotAt t j) ≡ true → ⊥
+  apart : (a : List ℕ) (i j : ℕ) → i < j → j < slots t → hasAddress a (slotAt t i) ≡ true → hasAddress a (slotAt t j) ≡ true → ⊥
   apart a i j l k p q =
-      let n : holds (addressOf (slotAt t j)) (slotAt t i) ≡ false = lower-not t j (used-sound j k (holds-used a (slotAt t j) q) .1) i l in
-      let e : holds a (slotAt t i) ≡ false = rw (holds-address a (slotAt t j) q) at n in
+      let n : hasAddress (addressOf (slotAt t j)) (slotAt t i) ≡ false = lower-not t j (used-sound j k (has-used a (slotAt t j) q) .1) i l in
+      let e : hasAddress a (slotAt t i) ≡ false = rw (has-address a (slotAt t j) q) at n in
       false≢true (sym e ∙ p)
 
-  pub alone : (a : List ℕ) (i j : ℕ) → i < slots t → j < slots t → holds a (slotAt t i) ≡ true → holds a (slotAt t j) ≡ true → i ≡ j
+  pub alone : (a : List ℕ) (i j : ℕ) → i < slots t → j < slots t → hasAddress a (slotAt t i) ≡ true → hasAddress a (slotAt t j) ≡ true → i ≡ j
   alone a i j l k p q =
       ⊎-elim (λ (h : i < j). absurd (apart a i j h k p q))
       (λ (h : j ≤ i). ⊎-elim (λ (g : j < i). absurd (apart a j i g l q p)) (λ (g : i ≤ j). omega arith) (lt-or-le j i))
       (lt-or-le i j)
 
-  pub others-not : (a : List ℕ) (i : ℕ) → found t a ≡ At i → (j : ℕ) → j < slots t → (j ≡ i → ⊥) → holds a (slotAt t j) ≡ false
+  pub others-not : (a : List ℕ) (i : ℕ) → found t a ≡ At i → (j : ℕ) → j < slots t → (j ≡ i → ⊥) → hasAddress a (slotAt t j) ≡ false
   others-not a i e j l n =
-      by-test (holds a (slotAt t j)) (λ h. absurd (n (alone a j i l (found-at t a i e .0) h (found-at t a i e .1)))) (λ h. h)
+      by-test (hasAddress a (slotAt t j)) (λ h. absurd (n (alone a j i l (found-at t a i e .0) h (found-at t a i e .1)))) (λ h. h)
 
 -- two lists that differ, either way round
 same-not : (a b : List ℕ) → sameOctets a b ≡ false → sameOctets b a ≡ false
@@ -136,7 +136,7 @@ same-not a b e =
     (λ h. h)
 
 module _ (t : List ℕ) (s : SoundTable t) (e : Entry) (g : Good e) (i : ℕ) (l : i < slots t)
-    (n : (j : ℕ) → j < slots t → (j ≡ i → ⊥) → holds (e .address) (slotAt t j) ≡ false) where
+    (n : (j : ℕ) → j < slots t → (j ≡ i → ⊥) → hasAddress (e .address) (slotAt t j) ≡ false) where
   long : length (slotOf e) ≡ slotLength
   long = slot-long e g
 
@@ -147,8 +147,8 @@ module _ (t : List ℕ) (s : SoundTable t) (e : Entry) (g : Good e) (i : ℕ) (l
   there j d = slot-other t (slotOf e) i l long j d
 
   -- the new slot has an address that a used slot has not
-  new-not : (j : ℕ) → j < slots t → (j ≡ i → ⊥) → marked (slotAt t j) ≡ true → holds (addressOf (slotAt t j)) (slotOf e) ≡ false
-  unfolding holds
+  new-not : (j : ℕ) → j < slots t → (j ≡ i → ⊥) → marked (slotAt t j) ≡ true → hasAddress (addressOf (slotAt t j)) (slotOf e) ≡ false
+  unfolding hasAddress
   new-not j k d m =
       let h : (marked (slotAt t j) && sameOctets (addressOf (slotAt t j)) (e .address)) ≡ false = n j k d in
       let f : sameOctets (addressOf (slotAt t j)) (e .address) ≡ false = rw m at h in

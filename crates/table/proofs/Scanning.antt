@@ -23,7 +23,7 @@ use Rattle.octets.proofs.Comparing.{Same, same-begin, same-next, same-stop, sam
 use Rattle.octets.proofs.Lists.{left-one}
 use Rattle.octets.proofs.Tests.{and-left, and-right, by-test}
 use Rattle.slots.specs.Slot.{slotLength, marked, addressOf, addressLength, addressArea}
-use Rattle.table.specs.Table.{slots, slotAt, unused, holds, lowest, howMany, found, lowestFree, freeCount}
+use Rattle.table.specs.Table.{slots, slotAt, unused, hasAddress, lowest, howMany, found, lowestFree, freeCount}
 use Rattle.table.specs.declared.Found.{Found}
 use Rattle.table.specs.declared.Found.the-variants.{At, Nothing}
 
@@ -76,11 +76,11 @@ address-octet s k l =
       getD-take (addressLength s) (addressArea s) k 0 (omega arith) ∙ getD-take 256 (drop 40 s) k 0 (omega arith) ∙ getD-drop 40 s k 0,
     )
 
-module _ (t a : List ℕ) (n i : ℕ) (h : Scan (holds a) t n i) where
+module _ (t a : List ℕ) (n i : ℕ) (h : Scan (hasAddress a) t n i) where
   module _ (l : i < n) (s : List ℕ) (e : (s ≡ slotAt t i) × (length s ≡ slotLength)) where
-    pub pass-by : (b : Bool) → b ≡ (marked s && eqb (length (addressOf s)) (length a)) → not b ≡ true → Scan (holds a) t n (i + 1)
-    unfolding holds
-    pass-by b p q = scan-no (holds a) t n i h l (rw (← e .0) (not-held (sym p ∙ not-true b q)))
+    pub pass-by : (b : Bool) → b ≡ (marked s && eqb (length (addressOf s)) (length a)) → not b ≡ true → Scan (hasAddress a) t n (i + 1)
+    unfolding hasAddress
+    pass-by b p q = scan-no (hasAddress a) t n i h l (rw (← e .0) (not-held (sym p ∙ not-true b q)))
       where
         not-held : (marked s && eqb (length (addressOf s)) (length a)) ≡ false → (marked s && sameOctets (addressOf s) a) ≡ false
         not-held f =
@@ -90,24 +90,24 @@ module _ (t a : List ℕ) (n i : ℕ) (h : Scan (holds a) t n i) where
             rw m (sym (same-long (addressOf s) a (eqb-false (length (addressOf s)) (length a) g))))
             (λ m. rw m)
 
-    pub differs : (k : ℕ) → Same (addressOf s) a k → k < length a → (getD s (40 + k) 0 ≡ getD a k 0 → ⊥) → Scan (holds a) t n (i + 1)
-    unfolding holds
+    pub differs : (k : ℕ) → Same (addressOf s) a k → k < length a → (getD s (40 + k) 0 ≡ getD a k 0 → ⊥) → Scan (hasAddress a) t n (i + 1)
+    unfolding hasAddress
     differs k p q d =
         let w : k < length (addressOf s) = omega (arith, p .long) in
         let f : sameOctets (addressOf s) a ≡ false = sym (same-stop (addressOf s) a k p w (λ r. d (sym (address-octet s k w .1) ∙ r))) in
-        scan-no (holds a) t n i h l (rw (← e .0, f) (and-false (marked s)))
+        scan-no (hasAddress a) t n i h l (rw (← e .0, f) (and-false (marked s)))
 
     pub stands : (b : Bool) (k : ℕ) → b ≡ (marked s && eqb (length (addressOf s)) (length a)) → not b ≡ false → Same (addressOf s) a k → length a ≤ k
-        → At (i + 1 - 1) ≡ lowest (holds a) t 0 n
-    unfolding holds
+        → At (i + 1 - 1) ≡ lowest (hasAddress a) t 0 n
+    unfolding hasAddress
     stands b k p q r m =
         let u : marked s ≡ true = and-left (marked s) (eqb (length (addressOf s)) (length a)) (sym p ∙ not-false b q) in
         let f : sameOctets (addressOf s) a ≡ true = sym (same-end (addressOf s) a k r (omega (arith, r .long))) in
         let g : i + 1 - 1 ≡ i = omega arith in
-        rw g (scan-yes (holds a) t n i h l (rw (← e .0, u, f)))
+        rw g (scan-yes (hasAddress a) t n i h l (rw (← e .0, u, f)))
 
-  pub nowhere : (f : Found) → f ≡ Nothing → n ≤ i → f ≡ lowest (holds a) t 0 n
-  nowhere f e l = e ∙ scan-end (holds a) t n i h l
+  pub nowhere : (f : Found) → f ≡ Nothing → n ≤ i → f ≡ lowest (hasAddress a) t 0 n
+  nowhere f e l = e ∙ scan-end (hasAddress a) t n i h l
 
 module _ (s a : List ℕ) where
   pub long-enough : (b : Bool) → b ≡ (marked s && eqb (length (addressOf s)) (length a)) → not b ≡ false → Same (addressOf s) a 0
@@ -127,19 +127,19 @@ pub within-slots : (t : List ℕ) (n i : ℕ) → n ≤ slots t → i < n → i 
 within-slots t n i h l = omega arith
 
 pub record Seek (t a : List ℕ) (n i : ℕ) (f : Found) : Type 0 where
-  pub scan : Scan (holds a) t n i
+  pub scan : Scan (hasAddress a) t n i
   pub unfound : f ≡ Nothing
 
 pub seek-begin : (t a : List ℕ) (n : ℕ) → Seek t a n 0 Nothing
-seek-begin t a n = record { scan = scan-begin (holds a) t n; unfound = refl }
+seek-begin t a n = record { scan = scan-begin (hasAddress a) t n; unfound = refl }
 
-pub seek-on : (t a : List ℕ) (n i : ℕ) (f : Found) → f ≡ Nothing → Scan (holds a) t n i → Seek t a n i f
+pub seek-on : (t a : List ℕ) (n i : ℕ) (f : Found) → f ≡ Nothing → Scan (hasAddress a) t n i → Seek t a n i f
 seek-on t a n i f e h = record { scan = h; unfound = e }
 
 pub ruleset searching = (within-slots, seek-begin, seek-on, pass-by, differs, stands, nowhere, long-enough, within-slot, agrees, needs)
 
 -- the whole table
-pub found-is : (t a : List ℕ) (n : ℕ) (f : Found) → n ≡ slots t → f ≡ lowest (holds a) t 0 n → f ≡ found t a
+pub found-is : (t a : List ℕ) (n : ℕ) (f : Found) → n ≡ slots t → f ≡ lowest (hasAddress a) t 0 n → f ≡ found t a
 unfolding found
 found-is t a n f e p = p ∙ rw e
 

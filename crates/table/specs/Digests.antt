@@ -1,6 +1,6 @@
 -- What the check compares before it compares addresses: a number of 32 bits for each slot, made of its address.
 --     digestOf         the digest of an address: from 0 on, for each octet 129 times what it was, plus the octet, modulo 2 to the 32
---     among            is a number one of the first n of a list?
+--     inFirst          is a number one of the first n of a list?
 --     Digests t ds n   ds has the digests of the addresses of the first n slots, and room for those of a whole table
 use Prim.Native.Nat.{ℕ, zero, suc, _+_, _*_, _%_, _^_, _<_, _≤_}
 use mathlib.Core.Path.{_≡_}
@@ -23,9 +23,9 @@ digestAfter d (x ∷ s) = digestAfter (withOctet d x) s
 unfoldable pub digestOf : List ℕ → ℕ
 digestOf s = digestAfter 0 s
 
-unfoldable pub among : ℕ → List ℕ → ℕ → Bool
-among x ds zero = false
-among x ds (suc n) = among x ds n || eqb (getD ds n 0) x
+unfoldable pub inFirst : ℕ → List ℕ → ℕ → Bool
+inFirst x ds zero = false
+inFirst x ds (suc n) = inFirst x ds n || eqb (getD ds n 0) x
 
 pub record Digests (t ds : List ℕ) (n : ℕ) : Type 0 where
   pub few : n ≤ mostSlots

@@ -2,7 +2,7 @@
 --     slots, slotAt            its slots: how many, and the one at an index
 --     withSlot                 the table with one slot replaced
 --     unused                   a slot without the mark
---     holds                    a used slot whose address this is
+--     hasAddress               a used slot whose address this is
 --     lowest, howMany          the lowest of some slots that pass a test, and how many of them do
 --     found                    where an address stands
 --     lowestFree, freeCount    the free slots
@@ -40,8 +40,8 @@ unfoldable pub unused : List ℕ → Bool
 unused s = not (marked s)
 
 -- "Addresses are compared in canonical form only.": the slots hold that form
-unfoldable pub holds : List ℕ → List ℕ → Bool
-holds a s = marked s && sameOctets (addressOf s) a
+unfoldable pub hasAddress : List ℕ → List ℕ → Bool
+hasAddress a s = marked s && sameOctets (addressOf s) a
 
 -- of the k slots from slot i on
 unfoldable pub lowest : (List ℕ → Bool) → List ℕ → ℕ → ℕ → Found
@@ -53,7 +53,7 @@ howMany test t i zero = 0
 howMany test t i (suc k) = elim (test (slotAt t i)) [ true ↦ 1 + howMany test t (i + 1) k | false ↦ howMany test t (i + 1) k ]
 
 unfoldable pub found : List ℕ → List ℕ → Found
-found t a = lowest (holds a) t 0 (slots t)
+found t a = lowest (hasAddress a) t 0 (slots t)
 
 -- "takes the lowest free slot"
 unfoldable pub lowestFree : List ℕ → Found
@@ -69,7 +69,7 @@ isAt Nothing = false
 
 -- "in no lower slot": whether the address of slot i stands in one
 unfoldable pub inLower : List ℕ → ℕ → Bool
-inLower t i = isAt (lowest (holds (addressOf (slotAt t i))) t 0 i)
+inLower t i = isAt (lowest (hasAddress (addressOf (slotAt t i))) t 0 i)
 
 -- "a slot is neither free nor sound", denied
 unfoldable pub right : List ℕ → ℕ → Bool

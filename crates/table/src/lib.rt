@@ -7,8 +7,8 @@ ghost use lib.Dec.{eqb};
 ghost use lib.ListN.{length, getD};
 ghost use Rattle.slots.specs.Slot.{slotLength, addressRoom, keyLimit, numbersOf, marked, addressOf, sound};
 ghost use Rattle.slots.specs.Entry.{entryOf, slotOf, newcomer, seenBy, withDirect, withGossip};
-ghost use Rattle.table.specs.Table.{mostSlots, slots as slotsOf, slotAt, withSlot, unused, holds, lowest, found, lowestFree, freeCount, inLower, right, whole, checked};
-ghost use Rattle.table.specs.Digests.{withOctet, digestOf, among, Digests};
+ghost use Rattle.table.specs.Table.{mostSlots, slots as slotsOf, slotAt, withSlot, unused, hasAddress, lowest, found, lowestFree, freeCount, inLower, right, whole, checked};
+ghost use Rattle.table.specs.Digests.{withOctet, digestOf, inFirst, Digests};
 use slots::Slot;
 
 // Whether a table is one: refusal 1 for its length, 2 with the lowest slot that is neither free nor sound.
@@ -52,7 +52,7 @@ fn could_hold(slot: &[u8], length: usize) -> bool
 // differs leads on to the next slot, and the first equal address out of the scan.
 fn search(table: &[u8], address: &[u8], n: usize) -> Found
     requires { ⌜ n ≤ slotsOf (now table) ⌝ }
-    ensures { λ r. ⌜ r ≡ lowest (holds (now (address .entry))) (now (table .entry)) 0 n ⌝ }
+    ensures { λ r. ⌜ r ≡ lowest (hasAddress (now (address .entry))) (now (table .entry)) 0 n ⌝ }
 {
     let mut i = 0;
     let mut found = Found::Nothing;
@@ -159,7 +159,7 @@ fn digest_at(table: &[u8], i: usize) -> u32
 // are compared at once.
 fn is_among_lower(digests: &[u32; Slot::MOST], i: usize) -> bool
     requires { ⌜ i < mostSlots ⌝ }
-    ensures { λ r. ⌜ r ≡ among (getD (now (digests .entry)) i 0) (now (digests .entry)) i ⌝ }
+    ensures { λ r. ⌜ r ≡ inFirst (getD (now (digests .entry)) i 0) (now (digests .entry)) i ⌝ }
 {
     let own = digests[i];
     let mut among = false;
@@ -274,7 +274,8 @@ pub fn raise_seen(table: &mut [u8], i: usize, date: u64)
 // Sets timestamp, key and preference of an entry's direct half.
 pub fn set_direct(table: &mut [u8], i: usize, timestamp: u64, key: &[u8], mutual: bool)
     requires { ⌜ (i < slotsOf (now table)) × (sound (slotAt (now table) i) ≡ true) × (length (now key) ≤ keyLimit) ⌝ }
-    ensures { λ _. ⌜ now (table .exit) ≡ withSlot (now (table .entry)) i (slotOf (withDirect (record { timestamp = timestamp; key = now (key .entry); «mutual» = «mutual» }) (entryOf (slotAt (now (table .entry)) i)))) ⌝ }
+    ensures { λ _. ⌜ now (table .exit) ≡ withSlot (now (table .entry)) i
+        (slotOf (withDirect (record { timestamp = timestamp; key = now (key .entry); «mutual» = «mutual» }) (entryOf (slotAt (now (table .entry)) i)))) ⌝ }
 {
     let at = i * Slot::LEN;
     slots::set_direct(&mut table[at..at + Slot::LEN], timestamp, key, mutual);
@@ -283,7 +284,8 @@ pub fn set_direct(table: &mut [u8], i: usize, timestamp: u64, key: &[u8], mutual
 // Sets timestamp and key of an entry's gossip half.
 pub fn set_gossip(table: &mut [u8], i: usize, timestamp: u64, key: &[u8])
     requires { ⌜ (i < slotsOf (now table)) × (sound (slotAt (now table) i) ≡ true) × (length (now key) ≤ keyLimit) ⌝ }
-    ensures { λ _. ⌜ now (table .exit) ≡ withSlot (now (table .entry)) i (slotOf (withGossip (record { timestamp = timestamp; key = now (key .entry) }) (entryOf (slotAt (now (table .entry)) i)))) ⌝ }
+    ensures { λ _. ⌜ now (table .exit) ≡ withSlot (now (table .entry)) i
+        (slotOf (withGossip (record { timestamp = timestamp; key = now (key .entry) }) (entryOf (slotAt (now (table .entry)) i)))) ⌝ }
 {
     let at = i * Slot::LEN;
     slots::set_gossip(&mut table[at..at + Slot::LEN], timestamp, key);

@@ -11,10 +11,11 @@ use borrow.Author.Tests.{leb-true, ne-eqb}
 use lib.Dec.{leb, eqb}
 use lib.ListN.{length, getD}
 use Rattle.octets.specs.Octets.{octet, blank}
+use Rattle.octets.specs.Options.{inFront}
 use Rattle.octets.proofs.Tests.{and-left, by-test}
 use Rattle.runs.specs.Runs.{belongs, runLength, run}
 use Rattle.runs.specs.declared.Class.the-variants.{Name, Blank}
-use Rattle.header.specs.Header.{unfolded, FieldText, inFront, fields}
+use Rattle.header.specs.Header.{unfolded, FieldText, fields}
 use Rattle.header.proofs.InFront.{field-in-front}
 use Rattle.trip.specs.RoundTrip.{Lines, none, one, inFrontAll}
 

@@ -9,8 +9,9 @@ use mathlib.Core.Bool.{Bool, true, false, not}
 use mathlib.Core.List.{List, [], _∷_}
 use mathlib.Core.Option.{Option, some, none}
 use Rattle.octets.specs.Octets.{AllOctets}
+use Rattle.octets.specs.Options.{orElse}
 use Rattle.address.specs.Address.{plain, canonical}
-use Rattle.list.specs.List.{addresses, among, given}
+use Rattle.list.specs.List.{addresses, among}
 use Rattle.list.proofs.Readable.{plain-alone}
 use Rattle.keyfield.specs.Field.{validFields}
 use Rattle.slots.specs.Entry.{Direct}
@@ -48,7 +49,7 @@ module _ (t a : List ℕ) (s : checked t ≡ Sound) (p : plain a ≡ true) where
   not-refused = first-rest (tableRows t) ((Recipients unless recipientList (addresses a)) ∷ []) (sound-rows t s) ∙ first-behind Recipients _ [] (ap not listed)
 
   pub alone-taken : targetKeyOf t a 0 ≡ targetIn t a
-  unfolding targetKeyOf given targets
+  unfolding targetKeyOf orElse targets
   alone-taken = done-is (λ (r : Refusal). []) _ (refusedRecommending t a) not-refused ∙ rw (plain-alone a p)
 
 module _ (t : List ℕ) (receipt : ℕ) (outer payload : List ℕ) (setting : Gossip) (table-octets : AllOctets t) (outer-octets : AllOctets outer)

@@ -2,32 +2,28 @@
 --     holding-fields    its fields, where the octets are read back as one
 -- Assumes nothing.
 use Prim.Native.Nat.{ℕ}
-use mathlib.Core.Path.{_≡_, refl, sym, ap, _∙_}
+use mathlib.Core.Path.{_≡_, sym, ap, _∙_}
 use mathlib.Core.Bool.{Bool}
 use mathlib.Core.List.{List, [], _∷_, _++_}
 use mathlib.Core.Option.{Option, some, none}
 use native.Mathlib.Omega.{arith}
 use lib.Dec.{leb}
 use lib.ListN.{length}
+use Rattle.octets.specs.Options.{inFront, orElse}
+use Rattle.octets.proofs.Options.{front-some}
 use Rattle.octets.proofs.Tests.{by-test}
-use Rattle.header.specs.Header.{limit, FieldText, inFront, fields, fieldsOf}
-use Rattle.fields.specs.Fields.{readFields}
+use Rattle.header.specs.Header.{limit, FieldText, fields, fieldsOf}
 use Rattle.trip.specs.RoundTrip.{inFrontAll, ReadsBack, Holding, behind}
 
 -- fields in front of a readable rest
-in-front : (f : FieldText) (o : Option (List FieldText)) (all : List FieldText) → inFront f o ≡ some all → (rest : List FieldText) × ((o ≡ some rest) × (all ≡ f ∷ rest))
-unfolding inFront
-in-front f none all e = let z : _≡_ {A = ℕ} 0 1 = cc in absurd (omega arith)
-in-front f (some rest) all e = (rest, (refl, cc))
-
 all-in-front : (fs : List FieldText) (f : FieldText) (o : Option (List FieldText)) (all : List FieldText)
-    → inFrontAll fs (inFront f o) ≡ some all → all ≡ fs ++ (f ∷ readFields o)
-unfolding inFrontAll readFields
+    → inFrontAll fs (inFront f o) ≡ some all → all ≡ fs ++ (f ∷ orElse [] o)
+unfolding inFrontAll orElse
 all-in-front [] f o all e =
-    let r = in-front f o all e in
-    r .1 .1 ∙ ap (λ (x : Option (List FieldText)). f ∷ readFields x) (sym (r .1 .0))
+    let r = front-some f o all e in
+    r .1 .1 ∙ ap (λ (x : Option (List FieldText)). f ∷ orElse [] x) (sym (r .1 .0))
 all-in-front (g ∷ fs) f o all e =
-    let r = in-front g (inFrontAll fs (inFront f o)) all e in
+    let r = front-some g (inFrontAll fs (inFront f o)) all e in
     r .1 .1 ∙ ap (λ (x : List FieldText). g ∷ x) (all-in-front fs f o (r .0) (r .1 .0))
 
 readable-fields : (s : List ℕ) (fs : List FieldText) → fieldsOf s ≡ some fs → fields s ≡ some fs

@@ -15,6 +15,7 @@ use lib.ListN.{length, getD, take, drop}
 use lib.Seq.{take-append-seam}
 use Rattle.octets.specs.Octets.{ascii, octet, AllOctets, cr, lf, blank}
 use Rattle.octets.specs.Written.{onto}
+use Rattle.octets.specs.Options.{inFront}
 use Rattle.octets.specs.Tests.{every}
 use Rattle.octets.proofs.Tests.{and-left, and-right}
 use Rattle.octets.proofs.Every.{every-append, every-weaker}
@@ -29,7 +30,7 @@ use Rattle.lines.proofs.Joined.{ending-other, spread-free, spread-read-back}
 use Rattle.address.specs.Address.{plain, canonical, addressOctet}
 use Rattle.address.proofs.Sides.{plain-octets, low-apart}
 use Rattle.address.proofs.Spelling.{canonical-twice, plain-canonical}
-use Rattle.header.specs.Header.{over, inFront, fields}
+use Rattle.header.specs.Header.{over, fields}
 use Rattle.header.proofs.Unfolding.{NoLf}
 use Rattle.header.proofs.Fields.{fields-over}
 use Rattle.header.proofs.InFront.{field-in-front}

@@ -10,10 +10,11 @@ use mathlib.Core.List.{List, [], _∷_, _++_}
 use mathlib.Core.Option.{Option, some, none}
 use borrow.Author.Tests.{not-true}
 use Rattle.octets.specs.Octets.{sameOctets}
+use Rattle.octets.specs.Options.{orElse}
 use Rattle.octets.proofs.Comparing.{same-refl}
 use Rattle.octets.specs.Tests.{every}
 use Rattle.octets.proofs.Tests.{and-left, and-right, by-test}
-use Rattle.slots.specs.Entry.{Direct, Entry, orElse, newcomer, seenBy, withDirect, withGossip}
+use Rattle.slots.specs.Entry.{Direct, Entry, newcomer, seenBy, withDirect, withGossip}
 use Rattle.update.specs.Update.{younger, withField, updated, youngerGossip, heard}
 use Rattle.update.specs.Message.{Gossiped, Message, gossipAddresses, entryPut, entryHeard, entryAfter}
 use Rattle.update.proofs.Writing.{updated-older, updated-now, heard-older, heard-now}
@@ -22,12 +23,12 @@ use Rattle.trip.specs.Standing.{directHalf, gossipHalf, noneAbout}
 
 -- an entry that is begun has neither half
 begun-direct : (a : List ℕ) (e : Option Entry) → orElse (newcomer a) e .direct ≡ directHalf e
-unfolding directHalf newcomer
+unfolding directHalf newcomer orElse
 begun-direct a none = refl
 begun-direct a (some x) = refl
 
 begun-gossip : (a : List ℕ) (e : Option Entry) → orElse (newcomer a) e .gossip ≡ gossipHalf e
-unfolding gossipHalf newcomer
+unfolding gossipHalf newcomer orElse
 begun-gossip a none = refl
 begun-gossip a (some x) = refl
 

@@ -21,7 +21,7 @@ use Rattle.slots.specs.Entry.{Entry}
 use Rattle.table.specs.Table.{checked}
 use Rattle.table.specs.Entries.{entryIn}
 use Rattle.table.specs.declared.Checked.the-variants.{Sound}
-use Rattle.table.proofs.Replaced.{entry-good}
+use Rattle.table.proofs.Entries.{entry-good}
 use Rattle.update.specs.Message.{Gossiped, Message, entryAfter}
 use Rattle.fields.specs.Fields.{fieldsIn, isKind, valuesOf}
 use Rattle.fields.specs.declared.Kind.the-variants.{Autocrypt, AutocryptGossip}

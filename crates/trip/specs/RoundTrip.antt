@@ -12,14 +12,14 @@ use mathlib.Core.List.{List, [], _∷_, _++_}
 use mathlib.Core.Option.{Option, some}
 use lib.ListN.{length, getD}
 use Rattle.octets.specs.Octets.{octet, AllOctets}
+use Rattle.octets.specs.Options.{inFront, orElse}
 use Rattle.octets.specs.Tests.{oneTo}
 use Rattle.runs.specs.Runs.{belongs, runLength}
 use Rattle.runs.specs.declared.Class.the-variants.{Name, Blank}
-use Rattle.header.specs.Header.{unfolded, FieldText, inFront, fields}
+use Rattle.header.specs.Header.{unfolded, FieldText, fields}
 use Rattle.header.specs.Blocks.{isRaw}
 use Rattle.address.specs.Address.{plain, canonical}
 use Rattle.keyfield.specs.Field.{keyLimit, fieldOf}
-use Rattle.fields.specs.Fields.{readFields}
 
 -- what a field can be written for
 pub record Writable (address key : List ℕ) : Type 0 where
@@ -57,7 +57,7 @@ pub record Holding (block octets : List ℕ) : Type 0 where
 
 module _ {block octets : List ℕ} (h : Holding block octets) where
   unfoldable pub behind : List FieldText
-  behind = readFields (fields (h .rest))
+  behind = orElse [] (fields (h .rest))
 
   unfoldable pub others : List FieldText
   others = h .before ++ behind

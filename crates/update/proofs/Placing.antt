@@ -28,7 +28,8 @@ use Rattle.table.specs.declared.Found.{Found}
 use Rattle.table.specs.declared.Found.the-variants.{At, Nothing}
 use Rattle.table.proofs.Finding.{found-nothing, free-at}
 use Rattle.table.proofs.Keeping.{table-sound, write-new}
-use Rattle.table.proofs.Replaced.{by-found, found-written, written-octets}
+use Rattle.table.proofs.Replaced.{found-written, written-octets}
+use Rattle.table.proofs.Lowest.{by-found}
 use Rattle.update.specs.Update.{begunAt, begun, changedAt, put}
 
 module _ (t a : List ℕ) where

@@ -16,22 +16,24 @@ use mathlib.Core.List.{List}
 use native.Mathlib.Omega.{arith}
 use lib.ListN.{length}
 use Rattle.octets.specs.Octets.{AllOctets, sameOctets}
+use Rattle.octets.specs.Options.{orElse, IfSome}
 use Rattle.octets.proofs.Comparing.{same-true}
 use Rattle.octets.proofs.Tests.{by-test}
 use Rattle.address.specs.Address.{isCanonical}
 use Rattle.slots.specs.Slot.{timeLimit, keyLimit, marked, addressOf}
-use Rattle.slots.specs.Entry.{Direct, Entry, orElse, entryOf, slotOf, newcomer, seenBy, withDirect, withGossip, GoodKey, GoodHalf, Good}
+use Rattle.slots.specs.Entry.{Direct, Entry, entryOf, slotOf, newcomer, seenBy, withDirect, withGossip, GoodKey, Good}
 use Rattle.slots.proofs.Made.{slot-octets, slot-long, entry-back}
 use Rattle.slots.proofs.Goodness.{good-newcomer, good-seen-by, good-with-gossip}
-use Rattle.table.specs.Table.{slots, slotAt, withSlot, holds, found, lowestFree, isAt, checked}
+use Rattle.table.specs.Table.{slots, slotAt, withSlot, found, lowestFree, isAt, checked, hasAddress}
 use Rattle.table.specs.Entries.{entryIn}
 use Rattle.table.specs.declared.Checked.the-variants.{Sound}
 use Rattle.table.specs.declared.Found.the-variants.{At}
 use Rattle.table.proofs.Slots.{slot-same}
 use Rattle.table.proofs.Finding.{found-at, found-address, free-at}
 use Rattle.table.proofs.Keeping.{table-sound, others-not, write-own}
-use Rattle.table.proofs.Replaced.{by-found, written-octets, entry-written, entry-kept, found-good}
-use Rattle.table.proofs.Entries.{entry-at, entry-nothing}
+use Rattle.table.proofs.Replaced.{written-octets, entry-written, entry-kept}
+use Rattle.table.proofs.Entries.{entry-at, entry-nothing, found-good}
+use Rattle.table.proofs.Lowest.{by-found}
 use Rattle.update.specs.Update.{younger, withField, updated, youngerGossip, heard, begun, put}
 use Rattle.update.specs.Message.{entryPut, GoodBrought}
 use Rattle.update.proofs.Placing.{begun-own, begun-new, begun-full, begun-found, begun-sound, begun-octets, put-at, put-nothing}
@@ -42,7 +44,7 @@ pub record Keeps (change : Entry → Entry) : Type 0 where
   pub address : (e : Entry) → change e .address ≡ e .address
 
 module _ (date : ℕ) (h : date ≤ timeLimit) where
-  good-field : (brought : Option Direct) → GoodHalf (GoodBrought date) brought → (e : Entry) → Good e → Good (withField brought (seenBy date e))
+  good-field : (brought : Option Direct) → IfSome (GoodBrought date) brought → (e : Entry) → Good e → Good (withField brought (seenBy date e))
   unfolding withField
   good-field none b e g = good-seen-by e g date h
   good-field (some d) b e g = good-updated e g date h d (b .key) (b .dated)
@@ -52,7 +54,7 @@ module _ (date : ℕ) (h : date ≤ timeLimit) where
   field-address none e = refl
   field-address (some d) e = refl
 
-  pub keeps-updated : (brought : Option Direct) → GoodHalf (GoodBrought date) brought → Keeps (updated date brought)
+  pub keeps-updated : (brought : Option Direct) → IfSome (GoodBrought date) brought → Keeps (updated date brought)
   keeps-updated brought b =
       record {
         good = λ e g.
@@ -83,12 +85,12 @@ unfoldable pub hasPlace : List ℕ → List ℕ → Bool
 hasPlace t a = isAt (found t a) || isAt (lowestFree t)
 
 -- a free slot holds nothing, and a slot that holds one address holds no other
-unmarked-holds : (b s : List ℕ) → marked s ≡ false → holds b s ≡ false
-unfolding holds
+unmarked-holds : (b s : List ℕ) → marked s ≡ false → hasAddress b s ≡ false
+unfolding hasAddress
 unmarked-holds b s m = rw m
 
-other-holds : (a b s : List ℕ) → addressOf s ≡ a → sameOctets a b ≡ false → holds b s ≡ false
-unfolding holds
+other-holds : (a b s : List ℕ) → addressOf s ≡ a → sameOctets a b ≡ false → hasAddress b s ≡ false
+unfolding hasAddress
 other-holds a b s e n = rw (e, n) (and-false (marked s))
 
 -- the entry of a slot has the slot's address
@@ -101,7 +103,7 @@ module _ (t a : List ℕ) (c : isCanonical a ≡ true) (p : AllOctets a) where
   new = good-newcomer a c p
 
   pub begun-entry : hasPlace t a ≡ true → entryIn (begun t a) a ≡ some (orElse (newcomer a) (entryIn t a))
-  unfolding hasPlace
+  unfolding hasPlace orElse
   begun-entry h =
       by-found (found t a) (λ i e. rw (begun-own t a i e, entry-at t a i e))
       (λ e.
@@ -133,7 +135,7 @@ module _ (t a : List ℕ) (c : isCanonical a ≡ true) (p : AllOctets a) where
       pub changed-address : change (entryOf (slotAt (begun t a) i)) .address ≡ a
       changed-address = k .address (entryOf (slotAt (begun t a) i)) ∙ entry-address (slotAt (begun t a) i) ∙ found-address (begun t a) a i f
 
-      changed-others : (j : ℕ) → j < slots (begun t a) → (j ≡ i → ⊥) → holds (change (entryOf (slotAt (begun t a) i)) .address) (slotAt (begun t a) j) ≡ false
+      changed-others : (j : ℕ) → j < slots (begun t a) → (j ≡ i → ⊥) → hasAddress (change (entryOf (slotAt (begun t a) i)) .address) (slotAt (begun t a) j) ≡ false
       changed-others j l d = rw changed-address (others-not (begun t a) (table-sound (begun t a) begun-is-sound) a i f j l d)
 
       changed-entry : entryIn (put t a change) a ≡ some (change (entryOf (slotAt (begun t a) i)))

@@ -14,34 +14,37 @@ use mathlib.Core.List.{List, [], _∷_, _++_}
 use native.Mathlib.Omega.{arith}
 use lib.ListN.{length}
 use Rattle.octets.specs.Octets.{AllOctets, sameOctets}
+use Rattle.octets.specs.Options.{isSome}
 use Rattle.octets.proofs.Comparing.{same-true}
 use Rattle.octets.specs.Tests.{every}
 use Rattle.octets.proofs.Tests.{and-left, and-right, by-test}
 use Rattle.address.specs.Address.{canonical, isCanonical}
 use Rattle.address.proofs.Spelling.{canonical-same}
 use Rattle.list.specs.List.{among}
-use Rattle.slots.specs.Entry.{Entry, isPresent, entryOf, newcomer}
+use Rattle.slots.specs.Entry.{Entry, entryOf, newcomer}
 use Rattle.slots.proofs.Goodness.{good-newcomer}
 use Rattle.table.specs.Table.{slotAt, found, lowestFree, freeCount, isAt, checked}
 use Rattle.table.specs.Entries.{entryIn}
 use Rattle.table.specs.declared.Checked.the-variants.{Sound}
 use Rattle.table.specs.declared.Found.the-variants.{At, Nothing}
 use Rattle.table.proofs.Finding.{found-at, found-used, free-at}
-use Rattle.table.proofs.Replaced.{by-found, free-fewer, free-same, some-free}
+use Rattle.table.proofs.Replaced.{free-fewer, free-same}
 use Rattle.table.proofs.Entries.{entry-at, entry-nothing}
+use Rattle.table.proofs.Lowest.{by-found, some-free}
 use Rattle.update.specs.Update.{begun, put}
 use Rattle.update.specs.Message.{newcomers, entryPut}
 use Rattle.update.proofs.Placing.{begun-own, begun-new, put-at, put-nothing}
 use Rattle.update.proofs.Putting.{Keeps, hasPlace, changed-good, put-entry}
 
 -- an address has an entry where it stands somewhere
-pub stands-present : (t a : List ℕ) → isAt (found t a) ≡ isPresent (entryIn t a)
+pub stands-present : (t a : List ℕ) → isAt (found t a) ≡ isSome (entryIn t a)
+unfolding isSome
 stands-present t a = by-found (found t a) (λ i e. rw (e, entry-at t a i e)) (λ e. rw (e, entry-nothing t a e))
 
-present-put : (a b : List ℕ) (change : Entry → Entry) (e : Option Entry) → isPresent (entryPut a change b e) ≡ (isPresent e || sameOctets a b)
-unfolding entryPut
+present-put : (a b : List ℕ) (change : Entry → Entry) (e : Option Entry) → isSome (entryPut a change b e) ≡ (isSome e || sameOctets a b)
+unfolding entryPut isSome
 present-put a b change e =
-    by-test (sameOctets a b) (λ q. rw (entryPut, q) (sym (or-true (isPresent e)))) (λ q. rw (entryPut, q) (sym (or-false (isPresent e))))
+    by-test (sameOctets a b) (λ q. rw (entryPut, q) (sym (or-true (isSome e)))) (λ q. rw (entryPut, q) (sym (or-false (isSome e))))
 
 module _ (t a : List ℕ) (c : isCanonical a ≡ true) (p : AllOctets a) (change : Entry → Entry) (k : Keeps change) (s : checked t ≡ Sound) (o : AllOctets t) where
   put-free : freeCount (put t a change) ≡ freeCount (begun t a)

@@ -21,11 +21,12 @@ use mir.Val.{Fits}
 use lib.Dec.{ltb}
 use lib.ListN.{length, getD}
 use Rattle.octets.specs.Octets.{AllOctets}
+use Rattle.octets.specs.Options.{orElse, isSome}
 use Rattle.octets.proofs.Lists.{given-octets}
 use Rattle.address.specs.Address.{isCanonical}
 use Rattle.slots.specs.declared.Slot.{Slot}
 use Rattle.slots.specs.Slot.{slotLength, timeLimit, keyLimit, hasDirect, hasGossip, isMutual, timestamp, gossipTimestamp, directKeyOf, gossipKeyOf, numbersOf, sound}
-use Rattle.slots.specs.Entry.{Direct, Gossip, Entry, present, orElse, entryOf, slotOf, seenBy, withDirect, withGossip, GoodKey, Good}
+use Rattle.slots.specs.Entry.{Direct, Gossip, Entry, present, entryOf, slotOf, seenBy, withDirect, withGossip, GoodKey, Good}
 use Rattle.slots.proofs.Sounds.{sound-parts}
 use Rattle.slots.proofs.Entries.{slot-back}
 use Rattle.slots.proofs.Made.{slot-long, slot-sound, entry-back}
@@ -83,7 +84,7 @@ module _ (date : ℕ) (e : Entry) where
 
 -- a direct half that was brought, under last seen raised to its date
 pub good-updated : (e : Entry) → Good e → (date : ℕ) → date ≤ timeLimit → (d : Direct) → GoodKey (d .key) → d .timestamp ≡ date → Good (withDirect d (seenBy date e))
-unfolding seenBy
+unfolding seenBy isSome orElse
 good-updated e g date h d k q =
     good-with-direct (seenBy date e) (good-seen-by e g date h) d
     (record { key = k; was-seen = refl; not-below = rw q (le-max-right (orElse 0 (e .lastSeen)) date) })

@@ -13,10 +13,11 @@ use mathlib.Core.Option.{Option, some}
 use lib.Dec.{leb}
 use lib.ListN.{length}
 use Rattle.octets.specs.Octets.{sameOctets, AllOctets}
+use Rattle.octets.specs.Options.{orElse, IfSome}
 use Rattle.address.specs.Address.{isCanonical}
 use Rattle.list.specs.List.{among}
 use Rattle.slots.specs.Slot.{timeLimit}
-use Rattle.slots.specs.Entry.{Direct, Entry, orElse, newcomer, GoodKey, GoodHalf}
+use Rattle.slots.specs.Entry.{Direct, Entry, newcomer, GoodKey}
 use Rattle.table.specs.Table.{found, isAt, freeCount}
 use Rattle.update.specs.Update.{updated, heard, put}
 
@@ -95,5 +96,5 @@ pub record GoodMessage (m : Message) : Type 0 where
   pub canonical : isCanonical (m .sender) ≡ true
   pub octets : AllOctets (m .sender)
   pub in-range : m .date ≤ timeLimit
-  pub direct : GoodHalf (GoodBrought (m .date)) (m .direct)
+  pub direct : IfSome (GoodBrought (m .date)) (m .direct)
   pub gossip : GoodGossipeds (m .gossip)

@@ -67,8 +67,10 @@ pub fn update_keyless(table: &mut [u8], sender: &[u8], date: u64)
 
 // Raises last seen to the date and sets the direct half: what a field that counts does to an entry.
 fn set_field(table: &mut [u8], i: usize, date: u64, key: &[u8], mutual: bool)
-    requires { ⌜ (i < slots (now table)) × (sound (slotAt (now table) i) ≡ true) × (date ≤ timeLimit) × (1 ≤ length (now key)) × (length (now key) ≤ keyLimit) ⌝ }
-    ensures { λ _. ⌜ now (table .exit) ≡ withSlot (now (table .entry)) i (slotOf (withDirect (record { timestamp = date; key = now (key .entry); «mutual» = «mutual» }) (seenBy date (entryOf (slotAt (now (table .entry)) i))))) ⌝ }
+    requires { ⌜ (i < slots (now table)) × (sound (slotAt (now table) i) ≡ true) × (date ≤ timeLimit)
+        × (1 ≤ length (now key)) × (length (now key) ≤ keyLimit) ⌝ }
+    ensures { λ _. ⌜ now (table .exit) ≡ withSlot (now (table .entry)) i
+        (slotOf (withDirect (record { timestamp = date; key = now (key .entry); «mutual» = «mutual» }) (seenBy date (entryOf (slotAt (now (table .entry)) i))))) ⌝ }
 {
     table::raise_seen(table, i, date);
     table::set_direct(table, i, date, key, mutual);
@@ -76,8 +78,10 @@ fn set_field(table: &mut [u8], i: usize, date: u64, key: &[u8], mutual: bool)
 
 // A message of the sender with a field that counts.
 pub fn update_with_key(table: &mut [u8], sender: &[u8], date: u64, key: &[u8], mutual: bool)
-    requires { ⌜ (checked (now table) ≡ Sound) × (isCanonical (now sender) ≡ true) × (date ≤ timeLimit) × (1 ≤ length (now key)) × (length (now key) ≤ keyLimit) ⌝ }
-    ensures { λ _. ⌜ now (table .exit) ≡ put (now (table .entry)) (now (sender .entry)) (updated date (some (record { timestamp = date; key = now (key .entry); «mutual» = «mutual» }))) ⌝ }
+    requires { ⌜ (checked (now table) ≡ Sound) × (isCanonical (now sender) ≡ true) × (date ≤ timeLimit)
+        × (1 ≤ length (now key)) × (length (now key) ≤ keyLimit) ⌝ }
+    ensures { λ _. ⌜ now (table .exit) ≡ put (now (table .entry)) (now (sender .entry))
+        (updated date (some (record { timestamp = date; key = now (key .entry); «mutual» = «mutual» }))) ⌝ }
     ensures { λ _. ⌜ checked (now (table .exit)) ≡ Sound ⌝ }
 {
     match place(table, sender) {
@@ -92,7 +96,8 @@ pub fn update_with_key(table: &mut [u8], sender: &[u8], date: u64, key: &[u8], m
 
 // Gossip about an address.
 pub fn hear(table: &mut [u8], address: &[u8], date: u64, key: &[u8])
-    requires { ⌜ (checked (now table) ≡ Sound) × (isCanonical (now address) ≡ true) × (date ≤ timeLimit) × (1 ≤ length (now key)) × (length (now key) ≤ keyLimit) ⌝ }
+    requires { ⌜ (checked (now table) ≡ Sound) × (isCanonical (now address) ≡ true) × (date ≤ timeLimit)
+        × (1 ≤ length (now key)) × (length (now key) ≤ keyLimit) ⌝ }
     ensures { λ _. ⌜ now (table .exit) ≡ put (now (table .entry)) (now (address .entry)) (heard date (now (key .entry))) ⌝ }
     ensures { λ _. ⌜ checked (now (table .exit)) ≡ Sound ⌝ }
 {

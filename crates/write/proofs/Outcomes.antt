@@ -4,7 +4,7 @@
 --     Wrote, done-wrote          success: address and key were in order, and the field stands in front of the rest of the output
 -- Assumes nothing.
 use Prim.Native.Nat.{ℕ, _≤_}
-use mathlib.Core.Path.{_≡_, refl, sym, ap, _∙_}
+use mathlib.Core.Path.{_≡_, refl, sym, ap}
 use mathlib.Core.Bool.{Bool, true}
 use mathlib.Core.List.{List, [], _∷_}
 use mathlib.Core.Option.{Option, some, none}
@@ -21,7 +21,6 @@ use Rattle.refusals.specs.declared.Refusal.{Refusal}
 use Rattle.refusals.specs.declared.Refusal.the-variants.{OwnAddress, KeyLength, OutputLength}
 use Rattle.refusals.proofs.Rows.{none-here, none-rest, refused-is, done-is}
 use Rattle.write.specs.Writing.{writingRows, refusedWriting, writtenOf, leftByWriting}
-use Rattle.write.specs.declared.Written.{Written}
 use Rattle.write.specs.declared.Written.the-variants.{Done, Refused}
 
 module _ (d : ℕ) where

@@ -13,13 +13,12 @@ use borrow.Author.Needs.{needs}
 use mir.Syntax.{w64}
 use mir.Val.{Fits}
 use lib.ListN.{length, length-append}
-use Rattle.octets.specs.Octets.{ascii}
 use Rattle.octets.specs.Written.{putAt}
 use Rattle.octets.proofs.Putting.{over-none}
 use Rattle.letters.specs.Base64.{encode}
 use Rattle.lines.specs.Lines.{lines}
 use Rattle.lines.proofs.Lengths.{lines-counted}
-use Rattle.writer.specs.Writing.{preference, fieldText}
+use Rattle.writer.specs.Writing.{preferText, preference, fieldText}
 use Rattle.writer.specs.Steps.{opening, attributes}
 
 pub field-halves : (name address key : List ℕ) (m : Bool) → fieldText name address m key ≡ opening name address ++ attributes m key
@@ -34,17 +33,17 @@ preference-most false = omega arith
 -- the preference as the code puts it
 module _ (m : Bool) (at : ℕ) (d : List ℕ) where
   module _ (e : m ≡ true) where
-    said : preference m ≡ ascii "; prefer-encrypt=mutual"
+    said : preference m ≡ preferText
     unfolding preference
     said = rw e
 
-    pub said-room : at + length (preference m) ≤ length d → at + length (ascii "; prefer-encrypt=mutual") ≤ length d
+    pub said-room : at + length (preference m) ≤ length d → at + length preferText ≤ length d
     said-room h = rw said at h
 
-    pub said-place : (o : ℕ) → o ≡ at + length (ascii "; prefer-encrypt=mutual") → o ≡ at + length (preference m)
+    pub said-place : (o : ℕ) → o ≡ at + length preferText → o ≡ at + length (preference m)
     said-place o p = rw said p
 
-    pub said-put : (out : List ℕ) → out ≡ putAt d at (ascii "; prefer-encrypt=mutual") → out ≡ putAt d at (preference m)
+    pub said-put : (out : List ℕ) → out ≡ putAt d at preferText → out ≡ putAt d at (preference m)
     said-put out p = rw said p
 
   module _ (e : m ≡ false) where

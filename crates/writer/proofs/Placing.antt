@@ -13,12 +13,11 @@ use native.Mathlib.Omega.{arith}
 use native.Mathlib.Nat.{zero-add}
 use borrow.Author.Needs.{needs}
 use lib.ListN.{length, length-append}
-use Rattle.octets.specs.Octets.{ascii}
 use Rattle.octets.specs.Written.{putAt, onto}
 use Rattle.octets.proofs.Putting.{put-both, room-second}
 use Rattle.letters.specs.Base64.{encode}
 use Rattle.lines.specs.Lines.{lines}
-use Rattle.writer.specs.Writing.{preference, fieldText}
+use Rattle.writer.specs.Writing.{addrText, keyText, preference, fieldText}
 use Rattle.writer.specs.Steps.{opening, attributes}
 use Rattle.writer.proofs.Parts.{field-halves}
 
@@ -45,50 +44,50 @@ module _ (u v w d : List ℕ) (at : ℕ) (h : at + length (u ++ (v ++ w)) ≤ le
       three-put d₃ q₃ = rw (q₃, p₂, q₂, put-both d₁ o₁ v w room-rest, p₁, q₁) (put-both d at u (v ++ w) h)
 
 module _ (name address d : List ℕ) (h : length (opening name address) ≤ length d) where
-  opens : 0 + length (name ++ (ascii ": addr=" ++ address)) ≤ length d
+  opens : 0 + length (name ++ (addrText ++ address)) ≤ length d
   unfolding opening
   opens = rw zero-add h
 
   pub room-name : 0 + length name ≤ length d
-  room-name = room-first name (ascii ": addr=") address d 0 opens
+  room-name = room-first name addrText address d 0 opens
 
   module _ (o₁ : ℕ) (p₁ : o₁ ≡ 0 + length name) (d₁ : List ℕ) (q₁ : d₁ ≡ putAt d 0 name) where
-    pub room-addr : o₁ + length (ascii ": addr=") ≤ length d₁
-    room-addr = room-next name (ascii ": addr=") address d 0 opens o₁ p₁ d₁ q₁
+    pub room-addr : o₁ + length addrText ≤ length d₁
+    room-addr = room-next name addrText address d 0 opens o₁ p₁ d₁ q₁
 
-    module _ (o₂ : ℕ) (p₂ : o₂ ≡ o₁ + length (ascii ": addr=")) (d₂ : List ℕ) (q₂ : d₂ ≡ putAt d₁ o₁ (ascii ": addr=")) where
+    module _ (o₂ : ℕ) (p₂ : o₂ ≡ o₁ + length addrText) (d₂ : List ℕ) (q₂ : d₂ ≡ putAt d₁ o₁ addrText) where
       pub room-address : o₂ + length address ≤ length d₂
-      room-address = room-last name (ascii ": addr=") address d 0 opens o₁ p₁ d₁ q₁ o₂ p₂ d₂ q₂
+      room-address = room-last name addrText address d 0 opens o₁ p₁ d₁ q₁ o₂ p₂ d₂ q₂
 
       pub opening-place : (o₃ : ℕ) → o₃ ≡ o₂ + length address → o₃ ≡ 0 + length (opening name address)
       unfolding opening
-      opening-place = place-last name (ascii ": addr=") address d 0 opens o₁ p₁ d₁ q₁ o₂ p₂ d₂ q₂
+      opening-place = place-last name addrText address d 0 opens o₁ p₁ d₁ q₁ o₂ p₂ d₂ q₂
 
       pub opening-put : (d₃ : List ℕ) → d₃ ≡ putAt d₂ o₂ address → d₃ ≡ putAt d 0 (opening name address)
       unfolding opening
-      opening-put = three-put name (ascii ": addr=") address d 0 opens o₁ p₁ d₁ q₁ o₂ p₂ d₂ q₂
+      opening-put = three-put name addrText address d 0 opens o₁ p₁ d₁ q₁ o₂ p₂ d₂ q₂
 
 pub ruleset opening-up = (room-name, room-addr, room-address, opening-place, opening-put, needs)
 
 module _ (m : Bool) (key d : List ℕ) (at : ℕ) (h : at + length (attributes m key) ≤ length d) where
-  goes-on : at + length (preference m ++ (ascii "; keydata=\r\n" ++ lines (encode key))) ≤ length d
+  goes-on : at + length (preference m ++ (keyText ++ lines (encode key))) ≤ length d
   unfolding attributes
   goes-on = h
 
   pub room-preference : at + length (preference m) ≤ length d
-  room-preference = room-first (preference m) (ascii "; keydata=\r\n") (lines (encode key)) d at goes-on
+  room-preference = room-first (preference m) keyText (lines (encode key)) d at goes-on
 
   module _ (o₁ : ℕ) (p₁ : o₁ ≡ at + length (preference m)) (d₁ : List ℕ) (q₁ : d₁ ≡ putAt d at (preference m)) where
-    pub room-keydata : o₁ + length (ascii "; keydata=\r\n") ≤ length d₁
-    room-keydata = room-next (preference m) (ascii "; keydata=\r\n") (lines (encode key)) d at goes-on o₁ p₁ d₁ q₁
+    pub room-keydata : o₁ + length keyText ≤ length d₁
+    room-keydata = room-next (preference m) keyText (lines (encode key)) d at goes-on o₁ p₁ d₁ q₁
 
-    module _ (o₂ : ℕ) (p₂ : o₂ ≡ o₁ + length (ascii "; keydata=\r\n")) (d₂ : List ℕ) (q₂ : d₂ ≡ putAt d₁ o₁ (ascii "; keydata=\r\n")) where
+    module _ (o₂ : ℕ) (p₂ : o₂ ≡ o₁ + length keyText) (d₂ : List ℕ) (q₂ : d₂ ≡ putAt d₁ o₁ keyText) where
       pub room-lines : o₂ + length (lines (encode key)) ≤ length d₂
-      room-lines = room-last (preference m) (ascii "; keydata=\r\n") (lines (encode key)) d at goes-on o₁ p₁ d₁ q₁ o₂ p₂ d₂ q₂
+      room-lines = room-last (preference m) keyText (lines (encode key)) d at goes-on o₁ p₁ d₁ q₁ o₂ p₂ d₂ q₂
 
       pub attributes-put : (d₃ : List ℕ) → d₃ ≡ putAt d₂ o₂ (lines (encode key)) → d₃ ≡ putAt d at (attributes m key)
       unfolding attributes
-      attributes-put = three-put (preference m) (ascii "; keydata=\r\n") (lines (encode key)) d at goes-on o₁ p₁ d₁ q₁ o₂ p₂ d₂ q₂
+      attributes-put = three-put (preference m) keyText (lines (encode key)) d at goes-on o₁ p₁ d₁ q₁ o₂ p₂ d₂ q₂
 
 pub ruleset attributing = (room-preference, room-keydata, room-lines, attributes-put, needs)
 

@@ -4,13 +4,12 @@
 use Prim.Native.Nat.{ℕ}
 use mathlib.Core.Bool.{Bool}
 use mathlib.Core.List.{List, _++_}
-use Rattle.octets.specs.Octets.{ascii}
 use Rattle.letters.specs.Base64.{encode}
 use Rattle.lines.specs.Lines.{lines}
-use Rattle.writer.specs.Writing.{preference}
+use Rattle.writer.specs.Writing.{addrText, keyText, preference}
 
 unfoldable pub opening : List ℕ → List ℕ → List ℕ
-opening name address = name ++ (ascii ": addr=" ++ address)
+opening name address = name ++ (addrText ++ address)
 
 unfoldable pub attributes : Bool → List ℕ → List ℕ
-attributes isMutual key = preference isMutual ++ (ascii "; keydata=\r\n" ++ lines (encode key))
+attributes isMutual key = preference isMutual ++ (keyText ++ lines (encode key))

@@ -92,7 +92,8 @@ fn field_length(name: &[u8], address: &[u8], mutual: bool, key: &[u8]) -> usize
 fn fit_field(name: &[u8], address: &[u8], mutual: bool, key: &[u8], out: &mut [u8]) -> Written
     requires { ⌜ (length (now name) ≤ 256) × (length (now address) ≤ 256) ⌝ }
     ensures { λ r. ⌜ r ≡ writtenOf (fieldText (now (name .entry)) (now (address .entry)) «mutual» (now (key .entry))) (length (now (out .entry))) ⌝ }
-    ensures { λ _. ⌜ now (out .exit) ≡ ontoIfFits (fieldText (now (name .entry)) (now (address .entry)) «mutual» (now (key .entry))) (now (out .entry)) ⌝ }
+    ensures { λ _. ⌜ now (out .exit) ≡ ontoIfFits
+        (fieldText (now (name .entry)) (now (address .entry)) «mutual» (now (key .entry))) (now (out .entry)) ⌝ }
 {
     let n = field_length(name, address, mutual, key);
     if out.len() < n {
@@ -106,7 +107,8 @@ fn fit_field(name: &[u8], address: &[u8], mutual: bool, key: &[u8], out: &mut [u
 pub fn write_field(name: &[u8], address: &[u8], mutual: bool, key: &[u8], out: &mut [u8]) -> Written
     requires { ⌜ (length (now name) ≤ 256) × (plain (now address) ≡ true) ⌝ }
     ensures { λ r. ⌜ r ≡ writtenOf (written (now (name .entry)) (now (address .entry)) «mutual» (now (key .entry))) (length (now (out .entry))) ⌝ }
-    ensures { λ _. ⌜ now (out .exit) ≡ ontoIfFits (written (now (name .entry)) (now (address .entry)) «mutual» (now (key .entry))) (now (out .entry)) ⌝ }
+    ensures { λ _. ⌜ now (out .exit) ≡ ontoIfFits
+        (written (now (name .entry)) (now (address .entry)) «mutual» (now (key .entry))) (now (out .entry)) ⌝ }
 {
     let mut form = [0u8; 256];
     match address::canonical(address, &mut form) {

@@ -1,5 +1,4 @@
 -- `keyfield::leave_blanks` meets its contract: the laws of `Trimming` keep the loop's invariant and answer every need. Assumes nothing.
-use Prim.Native.Nat.{_-_}
 use Rattle.keyfield.proofs.Trimming.{Back, trimming-back}
 use Rattle.keyfield.proofs.leave_blanks.Statement.{statement}
 use Rattle.keyfield.proofs.leave_blanks.Tie as tie

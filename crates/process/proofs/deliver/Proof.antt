@@ -4,9 +4,10 @@ use Rattle.process.proofs.deliver.Tie as tie
 use Rattle.process.proofs.Processing.{delivering}
 
 deliver-requires : tie.Need-deliver-requires
-deliver-requires c κs =
-    (record { sound = search delivering; in-range = search delivering; surveyed = search delivering; room = search delivering; canonical = search delivering },
-    record { readably = search delivering; room = search delivering })
+deliver-requires c κs = (
+  record { sound = search delivering; in-range = search delivering; surveyed = search delivering; room = search delivering; canonical = search delivering },
+  record { readably = search delivering; room = search delivering },
+)
 
 same-length : tie.Need-same-length
 same-length c = search delivering

@@ -1,13 +1,13 @@
 -- `table::is_among_lower` meets its contract: the laws of `Digesting` keep the loop's invariant and answer every need. Assumes nothing.
 use Prim.Native.Nat.{_≤_, _-_}
 use mathlib.Core.Path.{_≡_}
-use Rattle.table.specs.Digests.{among as amongOf}
+use Rattle.table.specs.Digests.{inFirst}
 use Rattle.table.proofs.Digesting.{looking-through}
 use Rattle.table.proofs.is_among_lower.Statement.{statement}
 use Rattle.table.proofs.is_among_lower.Tie as tie
 
 abbrev Inv-loop : tie.InvT-loop
-Inv-loop digests i own among₀ k₀ among k = (k ≤ i) × (among ≡ amongOf own digests k)
+Inv-loop digests i own among₀ k₀ among k = (k ≤ i) × (among ≡ inFirst own digests k)
 
 abbrev μ-loop : tie.MeasureT-loop
 μ-loop digests i own among₀ k₀ among k = i - k
