@@ -1,6 +1,6 @@
 -- `printout::put_decimal` meets its contract: the laws of `Placing` answer every need. It ends since the number falls to its tenth. Assumes nothing.
 use Rattle.printout.proofs.Placing.{counting}
-use Prim.Native.Nat.{ℕ}
+use Prim.Native.Nat.{ℕ, _<_}
 use borrow.Fn.Kinds.{In}
 use borrow.Fn.PlainCycle.{Measures, is, falls, and}
 use Rattle.printout.proofs.put_decimal.Reads as put-decimal

@@ -2,7 +2,7 @@
 -- They end since `room` falls from a comment to its content, and `comment` at a room comes before `content` at the same. Assumes nothing.
 use Rattle.tokens.proofs.Commenting.{Inside, commenting}
 use lib.ListN.{length}
-use Prim.Native.Nat.{ℕ, _+_, _*_, _-_}
+use Prim.Native.Nat.{ℕ, _+_, _*_, _-_, _<_}
 use borrow.Fn.Kinds.{In}
 use borrow.Fn.PlainCycle.{Measures, is, falls, and}
 use Rattle.tokens.proofs.comment.Reads as comment
