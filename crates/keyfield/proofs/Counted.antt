@@ -1,5 +1,5 @@
 -- The field that counts, as callers ask for it.
---     naming-sender, naming-spoiled                  a field that names the sender, and one that is spoiled
+--     naming-sender, naming-other, naming-spoiled    a field that names the sender, one that names another, and one that is spoiled
 --     valid-is                                       what is valid is a field that names the sender
 --     valid-skip, valid-next, valid-append           the valid fields, from the front of the list, and of two lists
 --     counted-none, counted-one, counted-two         what counts, by how many are valid
@@ -8,6 +8,7 @@
 -- Assumes nothing.
 use Prim.Native.Nat.{ℕ}
 use mathlib.Core.Path.{_≡_, refl, sym, ap, _∙_}
+use mathlib.Core.Bool.{false}
 use mathlib.Core.List.{List, [], _∷_, _++_}
 use mathlib.Core.Option.{Option, some, none}
 use native.Mathlib.Omega.{arith}
@@ -22,6 +23,10 @@ module _ (sender s : List ℕ) where
   pub naming-sender : (f : Field) → fieldOf s ≡ some f → f .address ≡ sender → validFor sender s ≡ some f
   unfolding naming
   naming-sender f e a = rw (e, a, same-refl sender)
+
+  pub naming-other : (f : Field) → fieldOf s ≡ some f → sameOctets (f .address) sender ≡ false → validFor sender s ≡ none
+  unfolding naming
+  naming-other f e a = rw (e, a)
 
   pub naming-spoiled : fieldOf s ≡ none → validFor sender s ≡ none
   unfolding naming
