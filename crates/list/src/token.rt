@@ -6,6 +6,7 @@ ghost use Prim.Native.Nat.{_<_};
 ghost use mathlib.Core.Path.{_≡_};
 ghost use mathlib.Core.Bool.{true};
 ghost use lib.ListN.{length, getD, drop};
+ghost use Rattle.octets.specs.Octets.{octet};
 ghost use Rattle.octets.specs.Finding.{holds};
 ghost use Rattle.address.specs.Address.{addressOctet};
 ghost use Rattle.list.specs.List.{openingOf, runToken, quotedToken, tokenAt, firstToken};
