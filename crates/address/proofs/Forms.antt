@@ -22,7 +22,7 @@ use Rattle.octets.proofs.Lists.{drop-one, drop-done}
 use Rattle.octets.proofs.Letters.{by-case, length-lowered}
 use Rattle.address.specs.Address.{plain, canonical, isCanonical}
 use Rattle.address.specs.Answers.{writtenOf, ontoIfFits}
-use Rattle.address.specs.declared.Written.the-variants.{Length, NoRoom}
+use Rattle.address.specs.declared.Fitted.the-variants.{Length, NoRoom}
 use Rattle.address.proofs.Room.{written-fits, written-none, onto-fits, onto-none}
 
 pub small-is : (x : ℕ) → (ltb x 65 || ltb 90 x) ≡ eqb (lower x) x

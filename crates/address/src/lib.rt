@@ -23,7 +23,7 @@ enum Local {
 }
 
 // The length of what was written; or nothing was, since it has no room.
-pub enum Written {
+pub enum Fitted {
     Length(usize),
     NoRoom,
 }
@@ -131,15 +131,15 @@ pub fn is_canonical(s: &[u8]) -> bool
 }
 
 // Writes the canonical form to the front of `out`, where it fits.
-pub fn canonical(s: &[u8], out: &mut [u8]) -> Written
+pub fn canonical(s: &[u8], out: &mut [u8]) -> Fitted
     ensures { λ r. ⌜ r ≡ writtenOf (canonicalOf (now (s .entry))) (length (now (out .entry))) ⌝ }
     ensures { λ _. ⌜ now (out .exit) ≡ ontoIfFits (canonicalOf (now (s .entry))) (now (out .entry)) ⌝ }
 {
     if out.len() < s.len() {
-        return Written::NoRoom;
+        return Fitted::NoRoom;
     }
     octets::put_lower(out, 0, s);
-    Written::Length(s.len())
+    Fitted::Length(s.len())
 }
 
 // "Addresses are compared in canonical form only."

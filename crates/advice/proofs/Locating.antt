@@ -13,8 +13,8 @@ use borrow.Author.Needs.{needs}
 use lib.ListN.{length, take}
 use Rattle.address.specs.Address.{plain, canonical}
 use Rattle.address.specs.Answers.{writtenOf, ontoIfFits}
-use Rattle.address.specs.declared.Written.{Written}
-use Rattle.address.specs.declared.Written.the-variants.{Length, NoRoom}
+use Rattle.address.specs.declared.Fitted.{Fitted}
+use Rattle.address.specs.declared.Fitted.the-variants.{Length, NoRoom}
 use Rattle.address.proofs.Forming.{form-never, form-there, form-end}
 use Rattle.slots.specs.declared.Slot.{Slot}
 use Rattle.slots.specs.Slot.{timeLimit, numbersOf, sound}
@@ -26,7 +26,7 @@ use Rattle.table.specs.declared.Found.the-variants.{At, Nothing}
 use Rattle.table.proofs.Finding.{found-at}
 use Rattle.table.proofs.Entries.{entry-sound, slots-most}
 
-module _ (t a : List ℕ) (p : plain a ≡ true) (g : Written) (e : g ≡ writtenOf (canonical a) 256) where
+module _ (t a : List ℕ) (p : plain a ≡ true) (g : Fitted) (e : g ≡ writtenOf (canonical a) 256) where
   pub locate-none : g ≡ NoRoom → Nothing ≡ found t (canonical a)
   locate-none q = absurd (form-never a p 256 (omega arith) g e q)
 

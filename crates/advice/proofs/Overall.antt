@@ -12,12 +12,12 @@ use mathlib.Core.List.{List, [], _∷_}
 use borrow.Author.Needs.{needs}
 use Rattle.octets.specs.Options.{orElse, isSome}
 use Rattle.octets.proofs.Options.{some-front, else-front}
-use Rattle.list.specs.List.{addresses}
-use Rattle.list.specs.Answers.{between, beginning, left, Hands}
-use Rattle.list.specs.declared.Cursor.{Cursor}
-use Rattle.list.specs.declared.Handed.{Handed}
-use Rattle.list.specs.declared.Handed.the-variants.{Address, End, Unreadable}
-use Rattle.list.proofs.Handing.{left-beginning, hand-gives, hand-plain, hand-from, hand-upto, hand-less, hand-end, hand-unread}
+use Rattle.addresslist.specs.List.{addresses}
+use Rattle.addresslist.specs.Answers.{between, beginning, left, Hands}
+use Rattle.addresslist.specs.declared.Cursor.{Cursor}
+use Rattle.addresslist.specs.declared.Handed.{Handed}
+use Rattle.addresslist.specs.declared.Handed.the-variants.{Address, End, Unreadable}
+use Rattle.addresslist.proofs.Handing.{left-beginning, hand-gives, hand-plain, hand-from, hand-upto, hand-less, hand-end, hand-unread}
 use Rattle.advice.specs.Advice.{anyDisable, allEncrypt, anyDiscourage, overall, adviceIn, advised}
 use Rattle.advice.specs.Places.{lowerOf}
 use Rattle.advice.specs.declared.Advice.{Advice}

@@ -16,12 +16,12 @@ use Rattle.octets.specs.Options.{orElse, isSome}
 use Rattle.address.specs.Address.{canonical}
 use Rattle.slots.specs.declared.Slot.{Slot}
 use Rattle.slots.specs.Slot.{numbersOf}
-use Rattle.list.specs.List.{addresses}
-use Rattle.list.specs.Answers.{between, beginning, left, Hands}
-use Rattle.list.specs.declared.Cursor.{Cursor}
-use Rattle.list.specs.declared.Handed.{Handed}
-use Rattle.list.specs.declared.Handed.the-variants.{Address, End, Unreadable}
-use Rattle.list.proofs.Handing.{left-beginning, hand-plain, hand-from, hand-upto, hand-less}
+use Rattle.addresslist.specs.List.{addresses}
+use Rattle.addresslist.specs.Answers.{between, beginning, left, Hands}
+use Rattle.addresslist.specs.declared.Cursor.{Cursor}
+use Rattle.addresslist.specs.declared.Handed.{Handed}
+use Rattle.addresslist.specs.declared.Handed.the-variants.{Address, End, Unreadable}
+use Rattle.addresslist.proofs.Handing.{left-beginning, hand-plain, hand-from, hand-upto, hand-less}
 use Rattle.table.specs.Table.{slotAt, found}
 use Rattle.table.specs.declared.Found.{Found}
 use Rattle.table.specs.declared.Found.the-variants.{At, Nothing}

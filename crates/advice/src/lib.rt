@@ -6,13 +6,13 @@ ghost use mathlib.Core.Bool.{true};
 ghost use mathlib.Core.List.{[]};
 ghost use Rattle.octets.specs.Options.{orElse, isSome};
 ghost use Rattle.address.specs.Address.{plain, canonical as canonicalOf};
-ghost use Rattle.list.specs.List.{addresses};
+ghost use Rattle.addresslist.specs.List.{addresses};
 ghost use Rattle.slots.specs.Slot.{timeLimit};
 ghost use Rattle.table.specs.Table.{checked, found};
 ghost use Rattle.table.specs.declared.Checked.the-variants.{Sound};
 ghost use Rattle.advice.specs.Advice.{raised, adviceIn, overall, advised};
 ghost use Rattle.advice.specs.Places.{ratedAs, lowerOf, keyPart, targetPart, targetAt};
-use list::Handed;
+use addresslist::Handed;
 use slots::Slot;
 use table::Found;
 
@@ -101,8 +101,8 @@ fn locate(table: &[u8], address: &[u8]) -> Found
 {
     let mut form = [0u8; Slot::ADDRESS_ROOM];
     match address::canonical(address, &mut form) {
-        address::Written::Length(n) => table::find(table, &form[0..n]),
-        address::Written::NoRoom => Found::Nothing,
+        address::Fitted::Length(n) => table::find(table, &form[0..n]),
+        address::Fitted::NoRoom => Found::Nothing,
     }
 }
 
@@ -127,9 +127,9 @@ pub fn overall_advice(table: &[u8], recipients: &[u8], mutual: bool, reply: bool
     ensures { λ r. ⌜ r ≡ overall (advised (now (table .entry)) «mutual» reply (orElse [] (addresses (now (recipients .entry))))) ⌝ }
 {
     let mut least = Advice::Encrypt;
-    let mut here = list::start();
+    let mut here = addresslist::start();
     loop {
-        match list::next_address(recipients, here) {
+        match addresslist::next_address(recipients, here) {
             Handed::Address { from, to, next } => {
                 let one = advise(table, &recipients[from..to], mutual, reply);
                 least = lower(least, one);
@@ -185,9 +185,9 @@ pub fn target_at(table: &[u8], recipients: &[u8], place: usize) -> Part
     ensures { λ r. ⌜ r ≡ targetAt (now (table .entry)) (orElse [] (addresses (now (recipients .entry)))) place ⌝ }
 {
     let mut left = place;
-    let mut here = list::start();
+    let mut here = addresslist::start();
     loop {
-        match list::next_address(recipients, here) {
+        match addresslist::next_address(recipients, here) {
             Handed::Address { from, to, next } => {
                 if left == 0 {
                     return target(table, &recipients[from..to]);

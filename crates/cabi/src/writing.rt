@@ -4,7 +4,8 @@ use crate::numbers::Written;
 ghost use mathlib.Core.Path.{_≡_};
 ghost use mathlib.Core.Bool.{false};
 ghost use lib.ListN.{length};
-ghost use Rattle.write.specs.Writing.{autocryptName, gossipName, writtenOf, leftByWriting};
+ghost use Rattle.names.specs.Names.{autocrypt as autocryptName, gossip as gossipName};
+ghost use Rattle.write.specs.Writing.{writtenOf, leftByWriting};
 ghost use Rattle.cabi.specs.Numbers.{writtenInNumbers};
 
 #[no_mangle]

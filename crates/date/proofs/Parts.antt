@@ -17,13 +17,13 @@ use Rattle.datewords.specs.Words.{onlyIf, firstToken}
 use Rattle.date.specs.Date.{Read, got, readOf, andThen, next, existing, zoned, epoch, ended}
 use Rattle.datewords.specs.Answers.{meaning, tokenIn}
 use Rattle.date.specs.Answers.{datedOf, readIn}
-use Rattle.datewords.specs.declared.token.Found.{Found}
-use Rattle.datewords.specs.declared.token.Found.the-variants.{Between, End, Unreadable}
+use Rattle.datewords.specs.declared.token.WordAt.{WordAt}
+use Rattle.datewords.specs.declared.token.WordAt.the-variants.{Between, End, Unreadable}
 use Rattle.datewords.specs.declared.meaning.Place.the-variants.{East, West}
 use Rattle.datewords.specs.declared.meaning.Meaning.{Meaning}
 use Rattle.datewords.specs.declared.meaning.Meaning.the-variants.{Value, Nothing}
-use Rattle.date.specs.declared.Part.{Part}
-use Rattle.date.specs.declared.Part.the-variants.{Got, Missing}
+use Rattle.date.specs.declared.PartRead.{PartRead}
+use Rattle.date.specs.declared.PartRead.the-variants.{Got, Missing}
 use Rattle.date.specs.declared.Dated.{Dated}
 use Rattle.date.specs.declared.Dated.the-variants.{Available, Unavailable}
 use Rattle.datewords.proofs.Digits.{value-is, nothing-is}
@@ -61,12 +61,12 @@ got-read s to n m e = rw e
 
 pub ruleset parts = (then-got, then-missing, value-read, nothing-read, got-read, ranges, needs)
 
-module _ (s u : List ℕ) (local : ℕ) (g : Part) (e : readIn s g ≡ next East u) where
+module _ (s u : List ℕ) (local : ℕ) (g : PartRead) (e : readIn s g ≡ next East u) where
   pub zone-east : (o to n : ℕ) → g ≡ Got o to → n ≡ local - o → readIn s (Got n to) ≡ zoned local u
   unfolding zoned readIn
   zone-east o to n q p = rw (zoned, read-got s g (next East u) e o to q, p)
 
-  module _ (q : g ≡ Missing) (h : Part) (p : readIn s h ≡ next West u) where
+  module _ (q : g ≡ Missing) (h : PartRead) (p : readIn s h ≡ next West u) where
     pub zone-west : (o to : ℕ) → h ≡ Got o to → readIn s (Got (local + o) to) ≡ zoned local u
     unfolding zoned andThen readIn
     zone-west o to r = rw (zoned, read-missing s g (next East u) e q, read-got s h (next West u) p o to r)
@@ -81,7 +81,7 @@ epoch-is : epoch ≡ 2208988800
 unfolding leap leapDay monthLength yearDays monthDays dayCount
 epoch-is = refl
 
-module _ (s u : List ℕ) (n : ℕ) (g : Found) (e : tokenIn s g ≡ firstToken u) where
+module _ (s u : List ℕ) (n : ℕ) (g : WordAt) (e : tokenIn s g ≡ firstToken u) where
   pub end-here : (m : ℕ) → g ≡ End → m ≡ n - 2208988800 → Available m ≡ datedOf (ended (got n u))
   unfolding ended datedOf
   end-here m q p = rw (ended, first-end s u g e q, epoch-is, p)
@@ -97,7 +97,7 @@ module _ (s u : List ℕ) (n : ℕ) (g : Found) (e : tokenIn s g ≡ firstToken 
 pub ruleset endings = (end-here, end-more, end-unreadable, needs)
 
 -- the Date, where the reader's answer g is u
-module _ (s : List ℕ) (g : Part) (u : Read) (e : readIn s g ≡ u) where
+module _ (s : List ℕ) (g : PartRead) (u : Read) (e : readIn s g ≡ u) where
   pub date-last : (n to : ℕ) (r : Dated) → g ≡ Got n to → r ≡ datedOf (ended (got n (drop to s))) → r ≡ datedOf (ended u)
   date-last n to r q h = rw (read-got s g u e n to q) h
 

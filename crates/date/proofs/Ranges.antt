@@ -18,8 +18,8 @@ use Rattle.date.specs.Date.{Read, got, missing, readOf, andThen, next, o
 use Rattle.date.specs.Answers.{readIn}
 use Rattle.datewords.specs.declared.meaning.Place.{Place}
 use Rattle.datewords.specs.declared.meaning.Place.the-variants.{Day, Month, Year, UpTo, Colon, West}
-use Rattle.date.specs.declared.Part.{Part}
-use Rattle.date.specs.declared.Part.the-variants.{Got}
+use Rattle.date.specs.declared.PartRead.{PartRead}
+use Rattle.date.specs.declared.PartRead.the-variants.{Got}
 use Rattle.calendar.proofs.Counting.{monthLength-small, day-bound}
 use Rattle.datewords.proofs.Digits.{only-if-true, only-if-some, both-right}
 use Rattle.datewords.proofs.Large.{two-most, month-some, year-some, west-some}
@@ -117,7 +117,7 @@ module _ (u v : List ℕ) (n : ℕ) where
       omega (arith, days-in u a days pd, time-in a b seconds ps)))
 
 -- what a reader's answer g is, at most
-module _ (s u : List ℕ) (g : Part) (n to : ℕ) (q : g ≡ Got n to) where
+module _ (s u : List ℕ) (g : PartRead) (n to : ℕ) (q : g ≡ Got n to) where
   pub range-upto : (most : ℕ) → readIn s g ≡ next (UpTo most) u → n ≤ most
   range-upto most e = upto-most u (drop to s) n most (read-got s g _ e n to q)
 

@@ -8,8 +8,8 @@ use lib.ListN.{drop}
 use Rattle.date.specs.Date.{Read, got, missing}
 use Rattle.date.specs.declared.Dated.{Dated}
 use Rattle.date.specs.declared.Dated.the-variants.{Available, Unavailable}
-use Rattle.date.specs.declared.Part.{Part}
-use Rattle.date.specs.declared.Part.the-variants.{Got, Missing}
+use Rattle.date.specs.declared.PartRead.{PartRead}
+use Rattle.date.specs.declared.PartRead.the-variants.{Got, Missing}
 
 unfoldable pub datedOf : Option ℕ → Dated
 datedOf none = Unavailable
@@ -19,6 +19,6 @@ unfoldable pub optionOf : Dated → Option ℕ
 optionOf (Available n) = some n
 optionOf Unavailable = none
 
-unfoldable pub readIn : List ℕ → Part → Read
+unfoldable pub readIn : List ℕ → PartRead → Read
 readIn s (Got n to) = got n (drop to s)
 readIn s Missing = missing

@@ -4,7 +4,7 @@ use datewords::meaning;
 use datewords::meaning::Meaning;
 use datewords::meaning::Place;
 use datewords::token;
-use datewords::token::Found;
+use datewords::token::WordAt;
 ghost use Prim.Native.Nat.{_+_, _-_, _*_, _≤_};
 ghost use mathlib.Core.Path.{_≡_};
 ghost use lib.ListN.{drop};
@@ -16,7 +16,7 @@ ghost use Rattle.date.specs.Answers.{datedOf, optionOf, readIn};
 const EPOCH: u64 = 2_208_988_800;
 
 // A number, and the place behind what was read; or what was looked for is missing.
-pub enum Part {
+pub enum PartRead {
     Got { value: u64, to: usize },
     Missing,
 }
@@ -28,26 +28,26 @@ pub enum Dated {
 }
 
 // The token that is to stand at a place of a date, from the place `at` of the text on.
-fn next(s: &[u8], at: usize, what: Place) -> Part
+fn next(s: &[u8], at: usize, what: Place) -> PartRead
     ensures { λ r. ⌜ readIn (now (s .entry)) r ≡ nextOf what (drop at (now (s .entry))) ⌝ }
 {
     match token::token(s, at) {
-        Found::Between { from, to } => match meaning::meant(what, &s[from..to]) {
-            Meaning::Value(value) => Part::Got { value, to },
-            Meaning::Nothing => Part::Missing,
+        WordAt::Between { from, to } => match meaning::meant(what, &s[from..to]) {
+            Meaning::Value(value) => PartRead::Got { value, to },
+            Meaning::Nothing => PartRead::Missing,
         },
-        Found::End => Part::Missing,
-        Found::Unreadable => Part::Missing,
+        WordAt::End => PartRead::Missing,
+        WordAt::Unreadable => PartRead::Missing,
     }
 }
 
 // A part of two tokens that may be missing, and counts as 0 then.
-fn optional(s: &[u8], at: usize, opening: Place, closing: Place) -> Part
+fn optional(s: &[u8], at: usize, opening: Place, closing: Place) -> PartRead
     ensures { λ r. ⌜ readIn (now (s .entry)) r ≡ optionalOf opening closing (drop at (now (s .entry))) ⌝ }
 {
     match next(s, at, opening) {
-        Part::Got { value: _, to } => next(s, to, closing),
-        Part::Missing => Part::Got { value: 0, to: at },
+        PartRead::Got { value: _, to } => next(s, to, closing),
+        PartRead::Missing => PartRead::Got { value: 0, to: at },
     }
 }
 
@@ -67,21 +67,21 @@ fn existing(year: u64, month: u64, day: u64) -> Meaning
 }
 
 // `day month year`: the days since 1900.
-fn calendar_day(s: &[u8], at: usize) -> Part
+fn calendar_day(s: &[u8], at: usize) -> PartRead
     ensures { λ r. ⌜ readIn (now (s .entry)) r ≡ calendarDay (drop at (now (s .entry))) ⌝ }
 {
-    let Part::Got { value: day, to } = next(s, at, Place::Day) else {
-        return Part::Missing;
+    let PartRead::Got { value: day, to } = next(s, at, Place::Day) else {
+        return PartRead::Missing;
     };
-    let Part::Got { value: month, to } = next(s, to, Place::Month) else {
-        return Part::Missing;
+    let PartRead::Got { value: month, to } = next(s, to, Place::Month) else {
+        return PartRead::Missing;
     };
-    let Part::Got { value: year, to } = next(s, to, Place::Year) else {
-        return Part::Missing;
+    let PartRead::Got { value: year, to } = next(s, to, Place::Year) else {
+        return PartRead::Missing;
     };
     match existing(year, month, day) {
-        Meaning::Value(value) => Part::Got { value, to },
-        Meaning::Nothing => Part::Missing,
+        Meaning::Value(value) => PartRead::Got { value, to },
+        Meaning::Nothing => PartRead::Missing,
     }
 }
 
@@ -94,22 +94,22 @@ fn clock(hours: u64, minutes: u64, seconds: u64) -> u64
 }
 
 // `hh:mm[:ss]`: the seconds since midnight.
-fn time_of_day(s: &[u8], at: usize) -> Part
+fn time_of_day(s: &[u8], at: usize) -> PartRead
     ensures { λ r. ⌜ readIn (now (s .entry)) r ≡ timeOfDay (drop at (now (s .entry))) ⌝ }
 {
-    let Part::Got { value: hours, to } = next(s, at, Place::UpTo(23)) else {
-        return Part::Missing;
+    let PartRead::Got { value: hours, to } = next(s, at, Place::UpTo(23)) else {
+        return PartRead::Missing;
     };
-    let Part::Got { value: _, to } = next(s, to, Place::Colon) else {
-        return Part::Missing;
+    let PartRead::Got { value: _, to } = next(s, to, Place::Colon) else {
+        return PartRead::Missing;
     };
-    let Part::Got { value: minutes, to } = next(s, to, Place::UpTo(59)) else {
-        return Part::Missing;
+    let PartRead::Got { value: minutes, to } = next(s, to, Place::UpTo(59)) else {
+        return PartRead::Missing;
     };
-    let Part::Got { value: seconds, to } = optional(s, to, Place::Colon, Place::UpTo(60)) else {
-        return Part::Missing;
+    let PartRead::Got { value: seconds, to } = optional(s, to, Place::Colon, Place::UpTo(60)) else {
+        return PartRead::Missing;
     };
-    Part::Got {
+    PartRead::Got {
         value: clock(hours, minutes, seconds),
         to,
     }
@@ -124,16 +124,16 @@ fn seconds_of(days: u64, seconds: u64) -> u64
 }
 
 // `day month year hh:mm[:ss]`: the seconds since 1900, as the zone's own clock has them.
-fn local_time(s: &[u8], at: usize) -> Part
+fn local_time(s: &[u8], at: usize) -> PartRead
     ensures { λ r. ⌜ readIn (now (s .entry)) r ≡ localTime (drop at (now (s .entry))) ⌝ }
 {
-    let Part::Got { value: days, to } = calendar_day(s, at) else {
-        return Part::Missing;
+    let PartRead::Got { value: days, to } = calendar_day(s, at) else {
+        return PartRead::Missing;
     };
-    let Part::Got { value: seconds, to } = time_of_day(s, to) else {
-        return Part::Missing;
+    let PartRead::Got { value: seconds, to } = time_of_day(s, to) else {
+        return PartRead::Missing;
     };
-    Part::Got {
+    PartRead::Got {
         value: seconds_of(days, seconds),
         to,
     }
@@ -147,21 +147,21 @@ fn above(a: u64, b: u64) -> u64
 }
 
 // The zone: the seconds since 1900 at Greenwich. "An east offset is subtracted, a west one added."
-fn zoned(s: &[u8], at: usize, local: u64) -> Part
+fn zoned(s: &[u8], at: usize, local: u64) -> PartRead
     requires { ⌜ local ≤ 300_000_000_000 ⌝ }
     ensures { λ r. ⌜ readIn (now (s .entry)) r ≡ zonedOf local (drop at (now (s .entry))) ⌝ }
 {
     match next(s, at, Place::East) {
-        Part::Got { value, to } => Part::Got {
+        PartRead::Got { value, to } => PartRead::Got {
             value: above(local, value),
             to,
         },
-        Part::Missing => match next(s, at, Place::West) {
-            Part::Got { value, to } => Part::Got {
+        PartRead::Missing => match next(s, at, Place::West) {
+            PartRead::Got { value, to } => PartRead::Got {
                 value: local + value,
                 to,
             },
-            Part::Missing => Part::Missing,
+            PartRead::Missing => PartRead::Missing,
         },
     }
 }
@@ -171,9 +171,9 @@ fn ended(s: &[u8], at: usize, value: u64) -> Dated
     ensures { λ r. ⌜ r ≡ datedOf (endedOf (got value (drop at (now (s .entry))))) ⌝ }
 {
     match token::token(s, at) {
-        Found::End => Dated::Available(above(value, EPOCH)),
-        Found::Between { from: _, to: _ } => Dated::Unavailable,
-        Found::Unreadable => Dated::Unavailable,
+        WordAt::End => Dated::Available(above(value, EPOCH)),
+        WordAt::Between { from: _, to: _ } => Dated::Unavailable,
+        WordAt::Unreadable => Dated::Unavailable,
     }
 }
 
@@ -181,13 +181,13 @@ fn ended(s: &[u8], at: usize, value: u64) -> Dated
 pub fn date(value: &[u8]) -> Dated
     ensures { λ r. ⌜ r ≡ datedOf (dateOf (now (value .entry))) ⌝ }
 {
-    let Part::Got { value: _, to } = optional(value, 0, Place::DayName, Place::Comma) else {
+    let PartRead::Got { value: _, to } = optional(value, 0, Place::DayName, Place::Comma) else {
         return Dated::Unavailable;
     };
-    let Part::Got { value: local, to } = local_time(value, to) else {
+    let PartRead::Got { value: local, to } = local_time(value, to) else {
         return Dated::Unavailable;
     };
-    let Part::Got { value: instant, to } = zoned(value, to, local) else {
+    let PartRead::Got { value: instant, to } = zoned(value, to, local) else {
         return Dated::Unavailable;
     };
     ended(value, to, instant)

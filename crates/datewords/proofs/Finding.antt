@@ -25,7 +25,7 @@ use Rattle.datewords.specs.Words.{openingOf, further, tokenAt, firstToke
 use Rattle.datewords.specs.Answers.{tokenIn}
 use Rattle.datewords.specs.declared.token.Opening.{Opening}
 use Rattle.datewords.specs.declared.token.Opening.the-variants.{Number, Word, Plus, Minus, Mark}
-use Rattle.datewords.specs.declared.token.Found.the-variants.{Between, End, Unreadable}
+use Rattle.datewords.specs.declared.token.WordAt.the-variants.{Between, End, Unreadable}
 use Rattle.datewords.proofs.Opened.{endOf}
 
 further-short : (k : Opening) (s : List ℕ) → further k s ≤ length s

@@ -9,19 +9,19 @@ use lib.ListN.{length, take, drop}
 use Rattle.datewords.specs.Words.{Token, token, end, unreadable}
 use Rattle.datewords.specs.declared.meaning.Meaning.{Meaning}
 use Rattle.datewords.specs.declared.meaning.Meaning.the-variants.{Value, Nothing}
-use Rattle.datewords.specs.declared.token.Found.{Found}
-use Rattle.datewords.specs.declared.token.Found.the-variants.{Between, End, Unreadable}
+use Rattle.datewords.specs.declared.token.WordAt.{WordAt}
+use Rattle.datewords.specs.declared.token.WordAt.the-variants.{Between, End, Unreadable}
 
 unfoldable pub meaning : Option ℕ → Meaning
 meaning none = Nothing
 meaning (some n) = Value n
 
-unfoldable pub tokenIn : List ℕ → Found → Token
+unfoldable pub tokenIn : List ℕ → WordAt → Token
 tokenIn s (Between from to) = token (take (to - from) (drop from s)) (drop to s)
 tokenIn s End = end
 tokenIn s Unreadable = unreadable
 
-abbrev pub Inside : List ℕ → Found → Type 0
+abbrev pub Inside : List ℕ → WordAt → Type 0
 Inside s (Between from to) = (from ≤ to) × (to ≤ length s)
 Inside s End = Unit
 Inside s Unreadable = Unit

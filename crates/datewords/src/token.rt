@@ -18,7 +18,7 @@ pub enum Opening {
 }
 
 // The token at a place; or the end; or a comment that cannot be read.
-pub enum Found {
+pub enum WordAt {
     Between { from: usize, to: usize },
     End,
     Unreadable,
@@ -58,18 +58,18 @@ fn token_end(s: &[u8], at: usize) -> usize
 }
 
 // The first token from the place `at` on.
-pub fn token(s: &[u8], at: usize) -> Found
+pub fn token(s: &[u8], at: usize) -> WordAt
     ensures { λ r. ⌜ tokenIn (now (s .entry)) r ≡ firstToken (drop at (now (s .entry))) ⌝ }
     ensures { λ r. ⌜ Inside (now (s .entry)) r ⌝ }
 {
     match tokens::skip(s, at) {
-        Reached::Unreadable => Found::Unreadable,
+        Reached::Unreadable => WordAt::Unreadable,
         Reached::To(from) => {
             if s.len() <= from {
-                return Found::End;
+                return WordAt::End;
             }
             let to = token_end(s, from);
-            Found::Between { from, to }
+            WordAt::Between { from, to }
         }
     }
 }

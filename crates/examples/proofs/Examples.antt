@@ -11,7 +11,7 @@ use Rattle.letters.specs.Base64 as base64
 use Rattle.header.specs.Header as header
 use Rattle.address.specs.Pieces as pieces
 use Rattle.address.specs.Address as address
-use Rattle.list.specs.List as list
+use Rattle.addresslist.specs.List as list
 use Rattle.calendar.specs.Calendar as calendar
 use Rattle.datewords.specs.Words as words
 use Rattle.date.specs.Date as date

@@ -17,11 +17,11 @@ use Rattle.octets.specs.Written.{onto}
 use Rattle.header.proofs.Unfolding.{value-within, value-there}
 use Rattle.address.specs.Address.{canonical}
 use Rattle.address.specs.Answers.{writtenOf, ontoIfFits}
-use Rattle.address.specs.declared.Written.{Written}
-use Rattle.address.specs.declared.Written.the-variants.{Length, NoRoom as NoAddressRoom}
+use Rattle.address.specs.declared.Fitted.{Fitted}
+use Rattle.address.specs.declared.Fitted.the-variants.{Length, NoRoom as NoAddressRoom}
 use Rattle.address.proofs.Room.{written-length, written-no-room, onto-fits}
 use Rattle.address.proofs.Spelling.{canonical-most}
-use Rattle.list.specs.List.{among}
+use Rattle.addresslist.specs.List.{among}
 use Rattle.slots.specs.Slot.{addressRoom, keyLimit}
 use Rattle.keyfield.specs.Field.{Field, fieldOf}
 use Rattle.keyfield.specs.Answers.{part, Answered, keyIn, leftIn}
@@ -81,7 +81,7 @@ module _ (s old : List ℕ) (r : Read) (a : Answered s (length old) r) where
     unfolding part
     fits room h = omega (arith, canonical-most (take (to - from) (drop from s)) (told-address s (length old) r a from to m l q .plainly))
 
-    module _ (room : List ℕ) (h : addressRoom ≤ length room) (w : Written) (u : w ≡ writtenOf (canonical (take (to - from) (drop from s))) (length room)) where
+    module _ (room : List ℕ) (h : addressRoom ≤ length room) (w : Fitted) (u : w ≡ writtenOf (canonical (take (to - from) (drop from s))) (length room)) where
       -- there is room
       pub accept-no-room :
           (recipients : List (List ℕ)) (address key : List ℕ) → w ≡ NoAddressRoom → AcceptedAs (acceptedBy recipients (fieldOf s)) address key NotAccepted

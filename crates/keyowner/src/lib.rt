@@ -60,7 +60,7 @@ pub fn accept(value: &[u8], recipients: &[u8], address: &mut [u8], key: &mut [u8
             mutual: _,
             key: length,
         } => match address::canonical(&value[from..to], address) {
-            address::Written::Length(n) => {
+            address::Fitted::Length(n) => {
                 if roll::holds(recipients, &address[0..n]) {
                     return Accepted::Gossip {
                         address: n,
@@ -69,7 +69,7 @@ pub fn accept(value: &[u8], recipients: &[u8], address: &mut [u8], key: &mut [u8
                 }
                 Accepted::NotAccepted
             }
-            address::Written::NoRoom => Accepted::NotAccepted,
+            address::Fitted::NoRoom => Accepted::NotAccepted,
         },
         Read::Spoiled => Accepted::NotAccepted,
         Read::NoRoom => Accepted::NotAccepted,

@@ -9,7 +9,7 @@ use mathlib.Core.Bool.{true}
 use mathlib.Core.List.{List, [], _∷_, _++_}
 use mathlib.Core.Option.{Option, some, none}
 use Rattle.header.specs.Header.{FieldText}
-use Rattle.list.specs.List.{among}
+use Rattle.addresslist.specs.List.{among}
 use Rattle.keyfield.specs.Field.{Field, fieldOf}
 use Rattle.update.specs.Message.{Gossiped}
 use Rattle.fields.specs.Fields.{valuesOf}

@@ -12,7 +12,7 @@ use Rattle.octets.specs.Options.{Each}
 use Rattle.octets.proofs.Tests.{by-test}
 use Rattle.header.specs.Header.{FieldText}
 use Rattle.header.proofs.Values.{ValuesOctets}
-use Rattle.list.specs.List.{among}
+use Rattle.addresslist.specs.List.{among}
 use Rattle.keyfield.specs.Field.{Field, fieldOf}
 use Rattle.keyfield.proofs.Fields.{field-canonical, field-least, field-most, field-octets, field-key-octets}
 use Rattle.keyfield.proofs.Counted.{counted-value}

@@ -14,7 +14,7 @@ use Rattle.header.specs.Header as header
 use Rattle.letters.specs.Base64 as base64
 use Rattle.address.specs.Pieces.{onFirst, pieces, before, behind}
 use Rattle.address.specs.Address.{atom, localPart, freeEnds, label, domain, plain, canonical}
-use Rattle.list.specs.List.{among}
+use Rattle.addresslist.specs.List.{among}
 use Rattle.keyfield.specs.Field.{Field, trimmedFront, trimmedBack, trimmed, nameOf, attribute, attributeOf, withAddress, withPreference, step, saidWith, ifLast, saidFrom, saidOf, limited, keyOf, withKey, fieldBy, fieldOf, naming, validFields, counted}
 use Rattle.update.specs.Message.{Gossiped}
 use Rattle.fields.specs.Fields.{fieldsIn, isKind, valuesOf}

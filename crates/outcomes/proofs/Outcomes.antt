@@ -18,7 +18,7 @@ use Rattle.inspect.proofs.Showing.{refused-untouched as unshown}
 use Rattle.process.specs.declared.Gossip.{Gossip}
 use Rattle.process.proofs.Outcomes.{refused-untouched as unprocessed}
 use Rattle.recommend.specs.declared.Recommended.{Recommended}
-use Rattle.write.specs.Writing.{autocryptName, gossipName}
+use Rattle.names.specs.Names.{autocrypt as autocryptName, gossip as gossipName}
 use Rattle.write.specs.declared.Written.{Written}
 use Rattle.write.specs.declared.Written.the-variants.{Refused as NotWritten}
 use Rattle.write.proofs.Outcomes.{refused-untouched as unwritten}

@@ -21,7 +21,8 @@ use Rattle.process.specs.Processing.{refusedProcessing, leftByProcessing}
 use Rattle.process.specs.declared.Gossip.{Gossip}
 use Rattle.recommend.specs.Recommending.{recommendedOf, targetPartOf, targetKeyOf}
 use Rattle.recommend.specs.declared.Recommended.{Recommended}
-use Rattle.write.specs.Writing.{autocryptName, gossipName, writtenOf, leftByWriting}
+use Rattle.names.specs.Names.{autocrypt as autocryptName, gossip as gossipName}
+use Rattle.write.specs.Writing.{writtenOf, leftByWriting}
 use Rattle.write.specs.declared.Written.{Written}
 
 -- the answer and the memory that are promised, and those that are given

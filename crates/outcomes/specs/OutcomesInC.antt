@@ -13,7 +13,8 @@ use Rattle.refusals.specs.Rows.{firstOf, answerOf}
 use Rattle.inspect.specs.Inspecting.{tableRows, refusedShowing, leftByShowing}
 use Rattle.process.specs.Processing.{refusedProcessing, leftByProcessing}
 use Rattle.recommend.specs.Recommending.{recommendedOf, targetPartOf}
-use Rattle.write.specs.Writing.{autocryptName, gossipName, writtenOf, leftByWriting}
+use Rattle.names.specs.Names.{autocrypt as autocryptName, gossip as gossipName}
+use Rattle.write.specs.Writing.{writtenOf, leftByWriting}
 use Rattle.cabi.specs.Numbers.{inNumbers, writtenInNumbers, settingOf, adviceInNumbers, partInNumbers}
 use Rattle.cabi.specs.declared.numbers.Answer.{Answer}
 use Rattle.cabi.specs.declared.numbers.Advice.{Advice}

@@ -16,17 +16,17 @@ use Rattle.octets.specs.Written.{onto}
 use Rattle.octets.specs.Options.{onlyOne, orElse}
 use Rattle.address.specs.Address.{plain, canonical, isCanonical}
 use Rattle.address.specs.Answers.{writtenOf, ontoIfFits}
-use Rattle.address.specs.declared.Written.{Written}
-use Rattle.address.specs.declared.Written.the-variants.{Length, NoRoom}
+use Rattle.address.specs.declared.Fitted.{Fitted}
+use Rattle.address.specs.declared.Fitted.the-variants.{Length, NoRoom}
 use Rattle.address.proofs.Room.{written-length, written-no-room, onto-fits}
 use Rattle.address.proofs.Spelling.{plain-is-canonical, canonical-most, canonical-octets}
 use Rattle.header.specs.Header.{FieldText}
 use Rattle.header.proofs.Unfolding.{value-within, value-there, value-there-from}
-use Rattle.list.specs.List.{addresses}
-use Rattle.list.specs.Answers.{between, onlyIn, Within}
-use Rattle.list.specs.declared.Only.{Only as ListOnly}
-use Rattle.list.specs.declared.Only.the-variants.{One as OneAddress, Other as NoOne}
-use Rattle.list.proofs.Readable.{only-plain, only-octets}
+use Rattle.addresslist.specs.List.{addresses}
+use Rattle.addresslist.specs.Answers.{between, onlyIn, Within}
+use Rattle.addresslist.specs.declared.Only.{Only as ListOnly}
+use Rattle.addresslist.specs.declared.Only.the-variants.{One as OneAddress, Other as NoOne}
+use Rattle.addresslist.proofs.Readable.{only-plain, only-octets}
 use Rattle.slots.specs.Slot.{addressRoom}
 use Rattle.fields.specs.Fields.{fieldsIn, valuesOf}
 use Rattle.fields.specs.Answers.{valueAt, valueIn}
@@ -142,7 +142,7 @@ module _ (s : List ℕ) (k : Only) (fs : List FieldText) (p : valueIn s k ≡ on
         unfolding leftBySender
         left-one left r = rw is (r ∙ onto-fits (canonical (between text from to)) out (fits (length out) h))
 
-        module _ (g : Written) (u : g ≡ writtenOf (canonical (between text from to)) (length out)) where
+        module _ (g : Fitted) (u : g ≡ writtenOf (canonical (between text from to)) (length out)) where
           pub sent-one : (m : ℕ) → g ≡ Length m → Address m ≡ senderOf (senderIn fs)
           unfolding senderOf
           sent-one m r =

@@ -15,7 +15,7 @@ use Rattle.header.specs.Header as header
 use Rattle.tokens.specs.Tokens.{control, kindOf, past, afterQuote}
 use Rattle.address.specs.Pieces.{onFirst, pieces, before, behind}
 use Rattle.address.specs.Address.{atom, localPart, freeEnds, label, domain, plain, canonical}
-use Rattle.list.specs.List.{openingOf, runToken, quotedToken, tokenAt, firstToken, afterAddress, after, listedBy, listed, addresses}
+use Rattle.addresslist.specs.List.{openingOf, runToken, quotedToken, tokenAt, firstToken, afterAddress, after, listedBy, listed, addresses}
 use Rattle.calendar.specs.Calendar as calendar
 use Rattle.datewords.specs.Words as words
 use Rattle.date.specs.Date as date

@@ -11,7 +11,7 @@ use mathlib.Core.Option.{Option, some, none}
 use Rattle.octets.specs.Options.{orElse, onlyOne}
 use Rattle.header.specs.Header.{FieldText, isReport}
 use Rattle.address.specs.Address.{canonical}
-use Rattle.list.specs.List.{addresses}
+use Rattle.addresslist.specs.List.{addresses}
 use Rattle.date.specs.Date.{dateOf, effectiveDate}
 use Rattle.fields.specs.Fields.{valuesOf}
 use Rattle.fields.specs.declared.Kind.the-variants.{From, ContentType, Date, Recipients}

@@ -33,12 +33,15 @@ pub fn sender_of(block: &[u8], survey: Survey, text: &mut [u8], out: &mut [u8]) 
     match fields::only_field(block, survey.from, Kind::From) {
         Only::One { value, end } => {
             let n = header::unfold(&block[value..end], text);
-            match list::only_address(&text[0..n]) {
-                list::Only::One { from, to } => match address::canonical(&text[from..to], out) {
-                    address::Written::Length(length) => Sender::Address(length),
-                    address::Written::NoRoom => Sender::NotOne,
+            match addresslist::only_address(&text[0..n]) {
+                addresslist::Only::One { from, to } => match address::canonical(
+                    &text[from..to],
+                    out,
+                ) {
+                    address::Fitted::Length(length) => Sender::Address(length),
+                    address::Fitted::NoRoom => Sender::NotOne,
                 },
-                list::Only::Other => Sender::NotOne,
+                addresslist::Only::Other => Sender::NotOne,
             }
         }
         Only::Other => Sender::NotOne,

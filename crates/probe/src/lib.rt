@@ -122,14 +122,14 @@ pub extern "C" fn probe_decode(text: &[u8], out: &mut [u8]) -> Answer {
 // kind 0: the place behind the lines; 2: too little room
 #[no_mangle]
 pub extern "C" fn probe_lines(key: &[u8], out: &mut [u8], at: usize) -> Answer {
-    let n = lines::lines_length(key);
+    let n = keylines::lines_length(key);
     if out.len() < n {
         return Answer { kind: 2, value: 0 };
     }
     if out.len() - n < at {
         return Answer { kind: 2, value: 0 };
     }
-    let end = lines::write_lines(key, out, at);
+    let end = keylines::write_lines(key, out, at);
     Answer {
         kind: 0,
         value: end as u64,
@@ -297,33 +297,33 @@ pub extern "C" fn probe_same_address(a: &[u8], b: &[u8]) -> bool {
 #[no_mangle]
 pub extern "C" fn probe_canonical(s: &[u8], out: &mut [u8]) -> Answer {
     match address::canonical(s, out) {
-        address::Written::Length(n) => Answer {
+        address::Fitted::Length(n) => Answer {
             kind: 0,
             value: n as u64,
         },
-        address::Written::NoRoom => Answer { kind: 2, value: 0 },
+        address::Fitted::NoRoom => Answer { kind: 2, value: 0 },
     }
 }
 
-fn stage_of(n: u64) -> list::grammar::Stage {
+fn stage_of(n: u64) -> addresslist::grammar::Stage {
     match n {
-        0 => list::grammar::Stage::Place,
-        1 => list::grammar::Stage::Opened,
-        2 => list::grammar::Stage::Phrase,
-        3 => list::grammar::Stage::Angle,
-        4 => list::grammar::Stage::Closing,
-        _ => list::grammar::Stage::Behind,
+        0 => addresslist::grammar::Stage::Place,
+        1 => addresslist::grammar::Stage::Opened,
+        2 => addresslist::grammar::Stage::Phrase,
+        3 => addresslist::grammar::Stage::Angle,
+        4 => addresslist::grammar::Stage::Closing,
+        _ => addresslist::grammar::Stage::Behind,
     }
 }
 
-fn stage_number(stage: list::grammar::Stage) -> u64 {
+fn stage_number(stage: addresslist::grammar::Stage) -> u64 {
     match stage {
-        list::grammar::Stage::Place => 0,
-        list::grammar::Stage::Opened => 1,
-        list::grammar::Stage::Phrase => 2,
-        list::grammar::Stage::Angle => 3,
-        list::grammar::Stage::Closing => 4,
-        list::grammar::Stage::Behind => 5,
+        addresslist::grammar::Stage::Place => 0,
+        addresslist::grammar::Stage::Opened => 1,
+        addresslist::grammar::Stage::Phrase => 2,
+        addresslist::grammar::Stage::Angle => 3,
+        addresslist::grammar::Stage::Closing => 4,
+        addresslist::grammar::Stage::Behind => 5,
     }
 }
 
@@ -337,13 +337,13 @@ pub extern "C" fn probe_next_address(
     inside: bool,
     places: &mut [u64],
 ) -> u64 {
-    let cursor = list::Cursor {
+    let cursor = addresslist::Cursor {
         at,
         stage: stage_of(stage),
         inside,
     };
-    match list::next_address(s, cursor) {
-        list::Handed::Address { from, to, next } => {
+    match addresslist::next_address(s, cursor) {
+        addresslist::Handed::Address { from, to, next } => {
             let stage = next.stage;
             let told = [
                 from as u64,
@@ -354,32 +354,32 @@ pub extern "C" fn probe_next_address(
             ];
             tell(places, &told, 0)
         }
-        list::Handed::Unreadable => 1,
-        list::Handed::End => 2,
+        addresslist::Handed::Unreadable => 1,
+        addresslist::Handed::End => 2,
     }
 }
 
 // kind 0: so many addresses; 1: unreadable
 #[no_mangle]
 pub extern "C" fn probe_count(s: &[u8]) -> Answer {
-    match list::count(s) {
-        list::Counted::Count(n) => Answer {
+    match addresslist::count(s) {
+        addresslist::Counted::Count(n) => Answer {
             kind: 0,
             value: n as u64,
         },
-        list::Counted::Unreadable => Answer { kind: 1, value: 0 },
+        addresslist::Counted::Unreadable => Answer { kind: 1, value: 0 },
     }
 }
 
 // kind 0: the one address, from where to where; 1: there is another number of them, or the list is unreadable
 #[no_mangle]
 pub extern "C" fn probe_only(s: &[u8], places: &mut [u64]) -> u64 {
-    match list::only_address(s) {
-        list::Only::One { from, to } => {
+    match addresslist::only_address(s) {
+        addresslist::Only::One { from, to } => {
             let told = [from as u64, to as u64];
             tell(places, &told, 0)
         }
-        list::Only::Other => 1,
+        addresslist::Only::Other => 1,
     }
 }
 

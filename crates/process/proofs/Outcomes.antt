@@ -17,7 +17,7 @@ use mathlib.Core.Option.{Option, some, none}
 use borrow.Author.Tests.{leb-true, not-false}
 use lib.Dec.{leb}
 use Rattle.octets.specs.Octets.{AllOctets}
-use Rattle.octets.specs.Options.{Each}
+use Rattle.octets.specs.Options.{Each, isSome, orElse}
 use Rattle.octets.proofs.Tests.{by-test}
 use Rattle.header.specs.Header.{readable}
 use Rattle.header.proofs.Values.{ValuesOctets, block-octets}
@@ -39,19 +39,19 @@ use Rattle.fields.specs.Fields.{fieldsIn}
 use Rattle.fields.proofs.Values.{fields-read}
 use Rattle.outer.specs.Outer.{senderIn, isReported}
 use Rattle.delivery.proofs.Good.{message-good as by-blocks}
-use Rattle.process.specs.Processing.{taken, payloadIn, hasSender, senderOr, messageRows, messageOf, roomRows, processingRows, refusedProcessing, leftByProcessing}
+use Rattle.process.specs.Processing.{taken, payloadIn, messageRows, messageOf, roomRows, processingRows, refusedProcessing, leftByProcessing}
 use Rattle.process.specs.declared.Gossip.{Gossip}
 
 -- there is a sender
-sender-there : (o : Option (List ℕ)) → hasSender o ≡ true → o ≡ some (senderOr o)
-unfolding hasSender senderOr
+sender-there : (o : Option (List ℕ)) → isSome o ≡ true → o ≡ some (orElse [] o)
+unfolding isSome orElse
 sender-there none e = cc
 sender-there (some a) e = refl
 
 pub record InOrder (receipt : ℕ) (outer payload : List ℕ) (g : Gossip) : Type 0 where
   pub in-time : receipt ≤ timeLimit
   pub outer-read : readable outer ≡ true
-  pub sent : senderIn (fieldsIn outer) ≡ some (senderOr (senderIn (fieldsIn outer)))
+  pub sent : senderIn (fieldsIn outer) ≡ some (orElse [] (senderIn (fieldsIn outer)))
   pub no-report : isReported (fieldsIn outer) ≡ false
   pub payload-read : (taken g && not (readable payload)) ≡ false
 
@@ -66,7 +66,7 @@ module _ (receipt : ℕ) (outer payload : List ℕ) (g : Gossip) where
       record {
         in-time = leb-true receipt timeLimit (not-false (leb receipt timeLimit) (none-here ReceiptTime _ _ e));
         outer-read = not-false (readable outer) (none-here OuterBlock _ _ behind-three);
-        sent = sender-there (senderIn (fieldsIn outer)) (not-false (hasSender (senderIn (fieldsIn outer))) (none-here Sender _ _ behind-four));
+        sent = sender-there (senderIn (fieldsIn outer)) (not-false (isSome (senderIn (fieldsIn outer))) (none-here Sender _ _ behind-four));
         no-report = none-here Report _ _ behind-five;
         payload-read = none-here PayloadBlock _ _ behind-six;
       }
@@ -85,7 +85,7 @@ module _ (receipt : ℕ) (outer payload : List ℕ) (g : Gossip) where
     pub message-good : AllOctets outer → AllOctets payload → GoodMessage (messageOf receipt outer payload g)
     unfolding messageOf
     message-good u v =
-        by-blocks receipt (h .in-time) outer u (fieldsIn outer) (fields-read outer (h .outer-read)) (senderOr (senderIn (fieldsIn outer))) (h .sent)
+        by-blocks receipt (h .in-time) outer u (fieldsIn outer) (fields-read outer (h .outer-read)) (orElse [] (senderIn (fieldsIn outer))) (h .sent)
         (payloadIn g payload) (payload-octets v)
 
 module _ (t : List ℕ) (receipt : ℕ) (outer payload : List ℕ) (g : Gossip) where

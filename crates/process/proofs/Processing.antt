@@ -14,7 +14,7 @@ use borrow.Author.Needs.{needs}
 use borrow.Author.Tests.{le-leb, lt-leb, leb-true, not-true, not-false}
 use lib.Dec.{leb}
 use lib.ListN.{length, take, drop}
-use Rattle.octets.specs.Options.{isSome}
+use Rattle.octets.specs.Options.{isSome, orElse}
 use Rattle.octets.proofs.Tests.{by-test, and-left, and-right}
 use Rattle.header.specs.Header.{fieldsOf, readable}
 use Rattle.header.proofs.Fields.{fields-empty}
@@ -45,7 +45,7 @@ use Rattle.outer.specs.declared.Sender.the-variants.{Address, NotOne}
 use Rattle.outer.proofs.Senders.{sender-canonical, answer-none, left-is, left-within}
 use Rattle.delivery.specs.Delivery.{messageBy, delivered}
 use Rattle.delivery.proofs.Delivering.{block-short}
-use Rattle.process.specs.Processing.{taken, payloadIn, hasSender, senderOr, messageRows, messageOf, roomRows, refusedProcessing, processingRows, leftByProcessing}
+use Rattle.process.specs.Processing.{taken, payloadIn, messageRows, messageOf, roomRows, refusedProcessing, processingRows, leftByProcessing}
 use Rattle.process.specs.Stages.{restRows, answerFrom, leftFrom, answerWith, leftWith, Opened, Roomy, Sent, Readied}
 use Rattle.process.specs.declared.Gossip.{Gossip}
 use Rattle.process.specs.declared.Gossip.the-variants.{Take, Skip, Unset}
@@ -141,7 +141,7 @@ module _ (t : List ℕ) (receipt : ℕ) (outer payload : List ℕ) (g : Gossip) 
     module _ (sender : List ℕ) (s : senderIn (fieldsIn outer) ≡ some sender) (p : List ℕ) (q : payloadIn g payload ≡ fieldsIn p)
         (w : (taken g && not (readable payload)) ≡ false) where
       same : messageBy receipt sender (fieldsIn outer) (fieldsIn p) ≡ whole
-      unfolding messageOf senderOr
+      unfolding messageOf orElse
       same = rw (s, q)
 
       last : firstOf (roomRows t (messageBy receipt sender (fieldsIn outer) (fieldsIn p))) ≡ firstOf (restRows 3 t receipt outer payload g)
@@ -216,8 +216,8 @@ module _ (t : List ℕ) (receipt : ℕ) (outer payload : List ℕ) (g : Gossip) 
   brings = messageOf receipt outer payload g
 
   module _ (q : k ≡ NotOne) where
-    unsent : hasSender (senderIn (fieldsIn outer)) ≡ false
-    unfolding hasSender
+    unsent : isSome (senderIn (fieldsIn outer)) ≡ false
+    unfolding isSome
     unsent = rw (answer-none (senderIn (fieldsIn outer)) (sym q ∙ h))
 
     pub five-answered : Refused Sender ≡ answerFrom 2 t receipt outer payload g
@@ -235,8 +235,8 @@ module _ (t : List ℕ) (receipt : ℕ) (outer payload : List ℕ) (g : Gossip) 
     pub from-within : i ≤ length out
     from-within = left-within (senderIn (fieldsIn outer)) k h out d w i q
 
-    sent-on : hasSender (senderIn (fieldsIn outer)) ≡ true
-    unfolding hasSender
+    sent-on : isSome (senderIn (fieldsIn outer)) ≡ true
+    unfolding isSome
     sent-on = rw from-is
 
     pub from-answered : (a : Answer) → a ≡ answerFrom 3 t receipt outer payload g → a ≡ answerFrom 2 t receipt outer payload g

@@ -8,8 +8,9 @@
 use Prim.Native.Nat.{ℕ}
 use mathlib.Core.Bool.{Bool, true, false, not, _&&_}
 use mathlib.Core.List.{List, [], _∷_, _++_}
-use mathlib.Core.Option.{Option, some, none}
+use mathlib.Core.Option.{Option}
 use lib.Dec.{leb}
+use Rattle.octets.specs.Options.{isSome, orElse}
 use Rattle.refusals.specs.Rows.{Row, _when_, _unless_, firstOf, unlessRefused}
 use Rattle.refusals.specs.declared.Refusal.{Refusal}
 use Rattle.refusals.specs.declared.Refusal.the-variants.{ReceiptTime, OuterBlock, Sender, Report, PayloadBlock, NoFreeSlot}
@@ -33,28 +34,19 @@ taken Unset = true
 unfoldable pub payloadIn : Gossip → List ℕ → List FieldText
 payloadIn g payload = elim (taken g) [ true ↦ fieldsIn payload | false ↦ [] ]
 
-unfoldable pub hasSender : Option (List ℕ) → Bool
-hasSender none = false
-hasSender (some a) = true
-
 -- "receipt time above the limit", "outer header block unreadable", "not exactly one From field, or it isn't a readable list of exactly one
 -- address", "a Content-Type is multipart/report", "gossip is taken and the payload block is unreadable". An unreadable block has no fields.
 unfoldable pub messageRows : ℕ → List ℕ → List ℕ → Gossip → List Row
 messageRows receipt outer payload g =
     (ReceiptTime unless leb receipt timeLimit)
     ∷ (OuterBlock unless readable outer)
-    ∷ (Sender unless hasSender (senderIn (fieldsIn outer)))
+    ∷ (Sender unless isSome (senderIn (fieldsIn outer)))
     ∷ (Report when isReported (fieldsIn outer))
     ∷ (PayloadBlock when (taken g && not (readable payload)))
     ∷ []
 
--- where there is a sender
-unfoldable pub senderOr : Option (List ℕ) → List ℕ
-senderOr none = []
-senderOr (some a) = a
-
 unfoldable pub messageOf : ℕ → List ℕ → List ℕ → Gossip → Message
-messageOf receipt outer payload g = messageBy receipt (senderOr (senderIn (fieldsIn outer))) (fieldsIn outer) (payloadIn g payload)
+messageOf receipt outer payload g = messageBy receipt (orElse [] (senderIn (fieldsIn outer))) (fieldsIn outer) (payloadIn g payload)
 
 -- "more new addresses than free slots"
 unfoldable pub roomRows : List ℕ → Message → List Row

@@ -26,11 +26,11 @@ use Rattle.refusals.specs.declared.Refusal.the-variants.{BrokenSlot, Recipients
 use Rattle.refusals.specs.declared.Answer.{Answer}
 use Rattle.refusals.specs.declared.Answer.the-variants.{Done as Admitted, Refused as NotAdmitted}
 use Rattle.refusals.proofs.Rows.{by-refusal, none-here, none-front, none-behind, front-only, refused-is, done-is, answer-refused, answer-done, rows}
-use Rattle.list.specs.List.{addresses}
-use Rattle.list.specs.Answers.{countedOf}
-use Rattle.list.specs.declared.Counted.{Counted}
-use Rattle.list.specs.declared.Counted.the-variants.{Count, Unreadable}
-use Rattle.list.proofs.Readable.{counted-some, counted-none}
+use Rattle.addresslist.specs.List.{addresses}
+use Rattle.addresslist.specs.Answers.{countedOf}
+use Rattle.addresslist.specs.declared.Counted.{Counted}
+use Rattle.addresslist.specs.declared.Counted.the-variants.{Count, Unreadable}
+use Rattle.addresslist.proofs.Readable.{counted-some, counted-none}
 use Rattle.table.specs.Table.{checked}
 use Rattle.table.specs.Slotwise.{Broken}
 use Rattle.table.specs.declared.Checked.the-variants.{Sound}

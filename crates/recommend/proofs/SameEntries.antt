@@ -12,7 +12,7 @@ use Rattle.refusals.specs.declared.Refusal.the-variants.{Recipients}
 use Rattle.refusals.proofs.Rows.{first-rest}
 use Rattle.inspect.specs.Inspecting.{tableRows}
 use Rattle.inspect.proofs.Tables.{sound-rows}
-use Rattle.list.specs.List.{addresses}
+use Rattle.addresslist.specs.List.{addresses}
 use Rattle.table.specs.Table.{checked}
 use Rattle.table.specs.Entries.{Alike}
 use Rattle.table.specs.declared.Checked.the-variants.{Sound}

@@ -14,7 +14,7 @@ use Rattle.octets.specs.Options.{orElse}
 use Rattle.refusals.specs.Rows.{Row, _unless_, firstOf, answeredBy, unlessRefused}
 use Rattle.refusals.specs.declared.Refusal.{Refusal}
 use Rattle.refusals.specs.declared.Refusal.the-variants.{Recipients}
-use Rattle.list.specs.List.{addresses}
+use Rattle.addresslist.specs.List.{addresses}
 use Rattle.inspect.specs.Inspecting.{tableRows}
 use Rattle.advice.specs.Advice.{overall, advised, targets}
 use Rattle.advice.specs.Places.{noPart, targetAt}

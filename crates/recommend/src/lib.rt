@@ -1,13 +1,13 @@
 // Recommending: what is advised for a mail to a list of recipients, and the key to encrypt to for each of them, handed
 // back as a part of the lent table.
 ghost use mathlib.Core.Path.{_≡_};
-ghost use Rattle.list.specs.List.{addresses};
+ghost use Rattle.addresslist.specs.List.{addresses};
 ghost use Rattle.advice.specs.Places.{octetsAt};
 ghost use Rattle.refusals.specs.Rows.{answerOf};
 ghost use Rattle.recommend.specs.Recommending.{recipientList, refusedRecommending, recommendedOf, targetPartOf, targetKeyOf};
+use addresslist::Counted;
 use advice::Advice;
 use advice::Part;
-use list::Counted;
 use refusals::Answer;
 use refusals::Refusal;
 
@@ -24,7 +24,7 @@ const MOST_RECIPIENTS: usize = 100;
 fn is_recipient_list(list: &[u8]) -> bool
     ensures { λ r. ⌜ r ≡ recipientList (addresses (now (list .entry))) ⌝ }
 {
-    match list::count(list) {
+    match addresslist::count(list) {
         Counted::Count(n) => (1 <= n) & (n <= MOST_RECIPIENTS),
         Counted::Unreadable => false,
     }

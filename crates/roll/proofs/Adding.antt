@@ -19,15 +19,15 @@ use Rattle.octets.specs.Written.{putAt}
 use Rattle.octets.specs.Options.{inFront, orElse, isSome}
 use Rattle.octets.proofs.Writing.{Wrote, begin-at, kept, counted, put, puts, done-at}
 use Rattle.octets.proofs.Options.{some-front, else-front}
-use Rattle.list.specs.List.{addresses}
-use Rattle.list.specs.Answers.{between, beginning, left, Hands, countedOf}
-use Rattle.list.specs.declared.Cursor.{Cursor}
-use Rattle.list.specs.declared.Handed.{Handed}
-use Rattle.list.specs.declared.Handed.the-variants.{Address, End, Unreadable}
-use Rattle.list.specs.declared.Counted.{Counted}
-use Rattle.list.specs.declared.Counted.the-variants.{Count, Unreadable as Uncounted}
-use Rattle.list.proofs.Handing.{left-beginning, hand-gives, hand-plain, hand-from, hand-upto, hand-less, hand-end, hand-unread}
-use Rattle.list.proofs.Readable.{counted-some, counted-none}
+use Rattle.addresslist.specs.List.{addresses}
+use Rattle.addresslist.specs.Answers.{between, beginning, left, Hands, countedOf}
+use Rattle.addresslist.specs.declared.Cursor.{Cursor}
+use Rattle.addresslist.specs.declared.Handed.{Handed}
+use Rattle.addresslist.specs.declared.Handed.the-variants.{Address, End, Unreadable}
+use Rattle.addresslist.specs.declared.Counted.{Counted}
+use Rattle.addresslist.specs.declared.Counted.the-variants.{Count, Unreadable as Uncounted}
+use Rattle.addresslist.proofs.Handing.{left-beginning, hand-gives, hand-plain, hand-from, hand-upto, hand-less, hand-end, hand-unread}
+use Rattle.addresslist.proofs.Readable.{counted-some, counted-none}
 use Rattle.roll.specs.Roll.{entry, rolled, listedIn}
 use Rattle.roll.proofs.Rolls.{entry-length, rolled-none, rolled-one, plain-enters, listed-unreadable}
 

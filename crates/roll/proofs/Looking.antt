@@ -15,8 +15,8 @@ use lib.Seq.{drop-drop, take-all}
 use Rattle.octets.specs.Octets.{sameOctets}
 use Rattle.octets.proofs.Lists.{lt-or-le, drop-one, drop-done}
 use Rattle.address.specs.Address.{canonical}
-use Rattle.list.specs.List.{among}
-use Rattle.list.specs.Answers.{between}
+use Rattle.addresslist.specs.List.{among}
+use Rattle.addresslist.specs.Answers.{between}
 use Rattle.roll.specs.Roll.{unrolled}
 use Rattle.roll.proofs.Rolls.{unrolled-none, unrolled-one}
 

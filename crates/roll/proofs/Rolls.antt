@@ -20,7 +20,7 @@ use lib.Seq.{take-append-seam, drop-append-seam}
 use Rattle.octets.specs.Options.{orElse}
 use Rattle.address.specs.Address.{plain}
 use Rattle.address.proofs.Sides.{plain-most}
-use Rattle.list.specs.List.{addresses}
+use Rattle.addresslist.specs.List.{addresses}
 use Rattle.roll.specs.Roll.{entry, rolled, unrolledWithin, unrolled, listedIn}
 
 pub entry-length : (a : List ℕ) → length (entry a) ≡ length a + 1

@@ -10,8 +10,8 @@ use mathlib.Core.Option.{Option, some, none}
 use native.Mathlib.Omega.{arith}
 use lib.ListN.{length}
 use Rattle.octets.specs.Options.{total}
-use Rattle.list.specs.List.{addresses}
-use Rattle.list.proofs.Room.{addressesTotal, total-room}
+use Rattle.addresslist.specs.List.{addresses}
+use Rattle.addresslist.proofs.Room.{addressesTotal, total-room}
 use Rattle.roll.specs.Roll.{rolled, listedIn}
 use Rattle.roll.proofs.Rolls.{rolled-none, rolled-length, rolled-append-length, listed-readable, listed-unreadable}
 

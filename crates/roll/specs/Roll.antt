@@ -7,7 +7,7 @@ use Prim.Native.Nat.{ℕ, zero, suc}
 use mathlib.Core.List.{List, [], _∷_, _++_}
 use lib.ListN.{length, take, drop}
 use Rattle.octets.specs.Options.{orElse}
-use Rattle.list.specs.List.{addresses}
+use Rattle.addresslist.specs.List.{addresses}
 
 unfoldable pub entry : List ℕ → List ℕ
 entry a = length a ∷ a

@@ -6,10 +6,10 @@ ghost use mathlib.Core.Bool.{true};
 ghost use lib.ListN.{length, getD};
 ghost use Rattle.octets.specs.Written.{putAt};
 ghost use Rattle.octets.specs.Options.{isSome};
-ghost use Rattle.list.specs.List.{addresses, among};
+ghost use Rattle.addresslist.specs.List.{addresses, among};
 ghost use Rattle.roll.specs.Roll.{entry, rolled, unrolled, listedIn};
-use list::Counted;
-use list::Handed;
+use addresslist::Counted;
+use addresslist::Handed;
 
 // Adds an address behind what the roll has up to the place `at`, and answers where the roll ends now.
 pub fn add(roll: &mut [u8], at: usize, address: &[u8]) -> usize
@@ -28,7 +28,7 @@ pub fn add_list(roll: &mut [u8], at: usize, list: &[u8]) -> usize
     ensures { λ r. ⌜ r ≡ at + length (rolled (listedIn (now (list .entry)))) ⌝ }
     ensures { λ _. ⌜ now (roll .exit) ≡ putAt (now (roll .entry)) at (rolled (listedIn (now (list .entry)))) ⌝ }
 {
-    match list::count(list) {
+    match addresslist::count(list) {
         Counted::Count(_) => add_readable(roll, at, list),
         Counted::Unreadable => at,
     }
@@ -41,9 +41,9 @@ fn add_readable(roll: &mut [u8], at: usize, list: &[u8]) -> usize
     ensures { λ _. ⌜ now (roll .exit) ≡ putAt (now (roll .entry)) at (rolled (listedIn (now (list .entry)))) ⌝ }
 {
     let mut end = at;
-    let mut here = list::start();
+    let mut here = addresslist::start();
     loop {
-        match list::next_address(list, here) {
+        match addresslist::next_address(list, here) {
             Handed::Address { from, to, next } => {
                 end = add(roll, end, &list[from..to]);
                 here = next;

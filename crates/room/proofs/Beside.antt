@@ -12,7 +12,7 @@ use mathlib.Core.List.{List, [], _∷_, _++_}
 use native.Mathlib.Omega.{arith}
 use borrow.Author.Tests.{le-leb, lt-leb, not-true, not-false}
 use lib.ListN.{length, length-append}
-use Rattle.list.specs.List.{among}
+use Rattle.addresslist.specs.List.{among}
 use Rattle.table.specs.Table.{found, isAt, freeCount}
 use Rattle.update.specs.Message.{Message, newcomers, addressesOf, hasRoom}
 use Rattle.update.proofs.Room.{newcomer-not, newcomer-one}

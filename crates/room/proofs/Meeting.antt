@@ -15,7 +15,7 @@ use borrow.Author.Tests.{not-true, not-false}
 use lib.ListN.{length, take, drop, length-append}
 use Rattle.octets.specs.Written.{putAt}
 use Rattle.address.specs.Address.{isCanonical}
-use Rattle.list.specs.List.{among}
+use Rattle.addresslist.specs.List.{among}
 use Rattle.slots.proofs.Entries.{canonical-most}
 use Rattle.table.specs.Table.{found, freeCount, checked}
 use Rattle.table.specs.declared.Checked.the-variants.{Sound}

@@ -15,7 +15,7 @@ use lib.ListN.{length, take, drop}
 use Rattle.octets.specs.Options.{isSome}
 use Rattle.header.specs.Answers.{fieldsFrom}
 use Rattle.address.specs.Address.{isCanonical}
-use Rattle.list.specs.List.{among}
+use Rattle.addresslist.specs.List.{among}
 use Rattle.table.specs.Table.{found, freeCount}
 use Rattle.table.specs.declared.Found.{Found}
 use Rattle.table.specs.declared.Found.the-variants.{At, Nothing}

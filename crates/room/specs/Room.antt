@@ -8,7 +8,7 @@ use mathlib.Core.Bool.{Bool, not, _||_}
 use mathlib.Core.List.{List}
 use lib.Dec.{leb}
 use lib.ListN.{length, take}
-use Rattle.list.specs.List.{among}
+use Rattle.addresslist.specs.List.{among}
 use Rattle.table.specs.Table.{found, isAt, freeCount}
 use Rattle.roll.specs.Roll.{unrolled}
 use Rattle.update.specs.Message.{gossipAddresses, newcomers}

@@ -22,8 +22,8 @@ use Rattle.octets.specs.Octets.{blank}
 use Rattle.tokens.specs.Tokens.{past}
 use Rattle.tokens.specs.Answers.{stepIn, opened, Opening, Passing, Passed}
 use Rattle.tokens.proofs.Stepping.{Moved, moved}
-use Rattle.tokens.specs.declared.Step.{Step}
-use Rattle.tokens.specs.declared.Step.the-variants.{On, Ends, Stops}
+use Rattle.tokens.specs.declared.StepIn.{StepIn}
+use Rattle.tokens.specs.declared.StepIn.the-variants.{On, Ends, Stops}
 use Rattle.tokens.specs.declared.Reached.{Reached}
 use Rattle.tokens.specs.declared.Reached.the-variants.{To, Unreadable}
 
@@ -62,8 +62,8 @@ module _ (s : List ℕ) (at room i : ℕ) (h : Inside s at room i) where
   pub inside-end : length s ≤ i → past (suc (opened (room + 1))) false (drop at s) ≡ none
   inside-end l = h .same ∙ past-end s i (opened (room + 1)) l
 
-  module _ (l : i < length s) (o : getD s i 0 ≡ 40 → ⊥) (g : Step) (e : g ≡ stepIn 41 i (drop i s)) where
-    told : (k : Step) → g ≡ k → Moved (past (suc (opened (room + 1)))) (past (opened (room + 1)) false) s i k
+  module _ (l : i < length s) (o : getD s i 0 ≡ 40 → ⊥) (g : StepIn) (e : g ≡ stepIn 41 i (drop i s)) where
+    told : (k : StepIn) → g ≡ k → Moved (past (suc (opened (room + 1)))) (past (opened (room + 1)) false) s i k
     told k q = rw (sym q ∙ e) (past-moved s i l (opened (room + 1)) o)
 
     pub inside-on : (m : ℕ) → g ≡ On m → Inside s at room m

@@ -20,8 +20,8 @@ use Rattle.tokens.specs.Tokens.{control, kindOf, afterQuote}
 use Rattle.tokens.specs.Answers.{reached, stepIn}
 use Rattle.tokens.specs.declared.Kind.{Kind}
 use Rattle.tokens.specs.declared.Kind.the-variants.{Closes, Escapes, Control, Plain}
-use Rattle.tokens.specs.declared.Step.{Step}
-use Rattle.tokens.specs.declared.Step.the-variants.{On, Ends, Stops}
+use Rattle.tokens.specs.declared.StepIn.{StepIn}
+use Rattle.tokens.specs.declared.StepIn.the-variants.{On, Ends, Stops}
 use Rattle.tokens.specs.declared.Reached.{Reached}
 use Rattle.tokens.specs.declared.Reached.the-variants.{To, Unreadable}
 use Rattle.tokens.proofs.Places.{none-or-some, Suffix, whole, suffix-one, reached-at, reached-to, reached-none, Left}
@@ -38,8 +38,8 @@ module _ (s : List ℕ) (at i : ℕ) (h : Quoting s at i) where
   unfolding afterQuote reached
   quoting-end l = rw (h .same, drop-done s i l)
 
-  module _ (l : i < length s) (g : Step) (e : g ≡ stepIn 34 i (drop i s)) where
-    told : (k : Step) → g ≡ k → Moved afterQuote some s i k
+  module _ (l : i < length s) (g : StepIn) (e : g ≡ stepIn 34 i (drop i s)) where
+    told : (k : StepIn) → g ≡ k → Moved afterQuote some s i k
     unfolding afterQuote
     told k q = rw (sym q ∙ e) (moved afterQuote some s i 34 l (rw (drop-one s i l, afterQuote)) refl (λ x r. refl))
 

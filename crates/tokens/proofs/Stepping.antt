@@ -18,8 +18,8 @@ use Rattle.tokens.specs.Tokens.{control, kindOf}
 use Rattle.tokens.specs.Answers.{takes, stepIn}
 use Rattle.tokens.specs.declared.Kind.{Kind}
 use Rattle.tokens.specs.declared.Kind.the-variants.{Closes, Escapes, Control, Plain}
-use Rattle.tokens.specs.declared.Step.{Step}
-use Rattle.tokens.specs.declared.Step.the-variants.{On, Ends, Stops}
+use Rattle.tokens.specs.declared.StepIn.{StepIn}
+use Rattle.tokens.specs.declared.StepIn.the-variants.{On, Ends, Stops}
 
 module _ (closing : ℕ) (s : List ℕ) (i : ℕ) where
   pub step-end : length s ≤ i → Stops ≡ stepIn closing i (drop i s)
@@ -66,7 +66,7 @@ module _ (read : Bool → List ℕ → Option (List ℕ)) (close : List ℕ → 
     takes-false (x ∷ r) e = taken x r ∙ rw (not-false (control x) e)
 
   module _ (s : List ℕ) (i : ℕ) where
-    abbrev pub Moved : Step → Type 0
+    abbrev pub Moved : StepIn → Type 0
     Moved (On m) = (i < m) × (m ≤ length s) × (read false (drop i s) ≡ read false (drop m s))
     Moved (Ends m) = (i < m) × (m ≤ length s) × (read false (drop i s) ≡ close (drop m s))
     Moved Stops = read false (drop i s) ≡ none

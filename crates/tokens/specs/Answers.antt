@@ -11,8 +11,8 @@ use lib.ListN.{length, getD, drop}
 use Rattle.octets.specs.Octets.{octet}
 use Rattle.tokens.specs.Tokens.{control, kindOf, depth, past}
 use Rattle.tokens.specs.declared.Kind.the-variants.{Closes, Escapes, Control, Plain}
-use Rattle.tokens.specs.declared.Step.{Step}
-use Rattle.tokens.specs.declared.Step.the-variants.{On, Ends, Stops}
+use Rattle.tokens.specs.declared.StepIn.{StepIn}
+use Rattle.tokens.specs.declared.StepIn.the-variants.{On, Ends, Stops}
 use Rattle.tokens.specs.declared.Reached.{Reached}
 use Rattle.tokens.specs.declared.Reached.the-variants.{To, Unreadable}
 
@@ -26,7 +26,7 @@ takes [] = false
 takes (x ∷ s) = not (control x)
 
 -- what stands next inside a comment or a quoted string, at the place `at` of a text
-unfoldable pub stepIn : ℕ → ℕ → List ℕ → Step
+unfoldable pub stepIn : ℕ → ℕ → List ℕ → StepIn
 stepIn closing at [] = Stops
 stepIn closing at (x ∷ s) =
     elim (kindOf closing x) [

@@ -20,7 +20,7 @@ pub enum Kind {
 
 // What reading inside a comment or a quoted string comes to at a place: it goes on at another place, it has come to
 // the end and to the place behind it, or the text is unreadable.
-enum Step {
+enum StepIn {
     On(usize),
     Ends(usize),
     Stops,
@@ -66,23 +66,23 @@ fn takes(s: &[u8], at: usize) -> bool
 }
 
 // What stands at the place `at` inside a comment or a quoted string that `closing` closes.
-fn step_in(closing: u8, s: &[u8], at: usize) -> Step
+fn step_in(closing: u8, s: &[u8], at: usize) -> StepIn
     ensures { λ r. ⌜ r ≡ stepIn closing at (drop at (now (s .entry))) ⌝ }
 {
     if s.len() <= at {
-        return Step::Stops;
+        return StepIn::Stops;
     }
     match kind_of(closing, s[at]) {
-        Kind::Closes => Step::Ends(at + 1),
+        Kind::Closes => StepIn::Ends(at + 1),
         Kind::Escapes => {
             if takes(s, at + 1) {
-                Step::On(at + 2)
+                StepIn::On(at + 2)
             } else {
-                Step::Stops
+                StepIn::Stops
             }
         }
-        Kind::Control => Step::Stops,
-        Kind::Plain => Step::On(at + 1),
+        Kind::Control => StepIn::Stops,
+        Kind::Plain => StepIn::On(at + 1),
     }
 }
 
@@ -112,9 +112,9 @@ fn content(s: &[u8], at: usize, room: usize) -> Reached
             }
         } else {
             match step_in(b')', s, i) {
-                Step::On(n) => i = n,
-                Step::Ends(n) => return Reached::To(n),
-                Step::Stops => return Reached::Unreadable,
+                StepIn::On(n) => i = n,
+                StepIn::Ends(n) => return Reached::To(n),
+                StepIn::Stops => return Reached::Unreadable,
             }
         }
     }
@@ -148,9 +148,9 @@ pub fn quoted(s: &[u8], at: usize) -> Reached
     let mut i = at;
     while i < s.len() {
         match step_in(b'"', s, i) {
-            Step::On(n) => i = n,
-            Step::Ends(n) => return Reached::To(n),
-            Step::Stops => return Reached::Unreadable,
+            StepIn::On(n) => i = n,
+            StepIn::Ends(n) => return Reached::To(n),
+            StepIn::Stops => return Reached::Unreadable,
         }
     }
     Reached::Unreadable

@@ -15,7 +15,7 @@ use Rattle.octets.proofs.Tests.{by-test}
 use Rattle.runs.specs.Runs.{belongs}
 use Rattle.runs.specs.declared.Class.the-variants.{Blank}
 use Rattle.letters.specs.Alphabetic.{Free}
-use Rattle.lines.specs.Lines.{laid, lines, ending, spaced, spread}
+use Rattle.keylines.specs.Lines.{laid, lines, ending, spaced, spread}
 use Rattle.header.specs.Header.{closes, unfolded}
 use Rattle.header.specs.Blocks.{isRaw}
 use Rattle.header.proofs.Unfolding.{NoLf, plain-octet, unfolded-in, unfolded-crlf, unfolded-plain, unfolded-before}

@@ -11,8 +11,8 @@ use mathlib.Core.Option.{Option, some, none}
 use Rattle.octets.specs.Octets.{AllOctets}
 use Rattle.octets.specs.Options.{orElse}
 use Rattle.address.specs.Address.{plain, canonical}
-use Rattle.list.specs.List.{addresses, among}
-use Rattle.list.proofs.Readable.{plain-alone}
+use Rattle.addresslist.specs.List.{addresses, among}
+use Rattle.addresslist.proofs.Readable.{plain-alone}
 use Rattle.keyfield.specs.Field.{validFields}
 use Rattle.slots.specs.Entry.{Direct}
 use Rattle.table.specs.Table.{checked}

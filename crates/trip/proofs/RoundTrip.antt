@@ -25,8 +25,8 @@ use Rattle.letters.specs.Base64.{signOf, encode}
 use Rattle.letters.specs.Alphabetic.{Free}
 use Rattle.letters.proofs.Lengths.{length-encode}
 use Rattle.letters.proofs.Alphabetic.{encode-free, one-other}
-use Rattle.lines.specs.Lines.{lines, ending, spread}
-use Rattle.lines.proofs.Joined.{ending-other, spread-free, spread-read-back}
+use Rattle.keylines.specs.Lines.{lines, ending, spread}
+use Rattle.keylines.proofs.Joined.{ending-other, spread-free, spread-read-back}
 use Rattle.address.specs.Address.{plain, canonical, addressOctet}
 use Rattle.address.proofs.Sides.{plain-octets, low-apart}
 use Rattle.address.proofs.Spelling.{canonical-twice, plain-canonical}
@@ -38,7 +38,8 @@ use Rattle.keyfield.specs.Field.{keyLimit, limited, keyOf, fieldOf}
 use Rattle.keyfield.proofs.ReadBack.{other, valueOf, read-back-key}
 use Rattle.writer.specs.Writing.{preference, fieldText, written}
 use Rattle.trip.proofs.Folded.{folded-raw, folded-value}
-use Rattle.write.specs.Writing.{autocryptName, gossipName, writtenOf, leftByWriting}
+use Rattle.names.specs.Names.{autocrypt as autocryptName, gossip as gossipName}
+use Rattle.write.specs.Writing.{writtenOf, leftByWriting}
 use Rattle.write.specs.declared.Written.the-variants.{Done}
 use Rattle.write.proofs.Outcomes.{Wrote, done-wrote}
 use Rattle.trip.specs.RoundTrip.{none as no-lines, inFrontAll, ReadsBack, Writable}

@@ -5,9 +5,10 @@
 use Prim.Native.Nat.{ℕ}
 use mathlib.Core.Path.{_≡_, subst}
 use mathlib.Core.Bool.{Bool, true, false, not, _&&_}
-use mathlib.Core.List.{List}
+use mathlib.Core.List.{List, []}
 use mathlib.Core.Option.{some, none}
 use borrow.Author.Tests.{not-false}
+use Rattle.octets.specs.Options.{orElse}
 use Rattle.octets.specs.Octets.{AllOctets}
 use Rattle.header.specs.Header.{FieldText, fieldsOf, readable}
 use Rattle.refusals.specs.Rows.{answerOf}
@@ -21,7 +22,7 @@ use Rattle.fields.specs.Fields.{fieldsIn}
 use Rattle.fields.proofs.Values.{fields-read}
 use Rattle.outer.specs.Outer.{senderIn}
 use Rattle.delivery.specs.Delivery.{messageBy}
-use Rattle.process.specs.Processing.{taken, payloadIn, senderOr, messageOf, refusedProcessing, leftByProcessing}
+use Rattle.process.specs.Processing.{taken, payloadIn, messageOf, refusedProcessing, leftByProcessing}
 use Rattle.process.specs.declared.Gossip.{Gossip}
 use Rattle.process.proofs.Outcomes.{InOrder, done-sound, done-in-order, processed-keeps, processed-octets, done-entry}
 
@@ -52,7 +53,7 @@ module _ (t : List ℕ) (receipt : ℕ) (outer payload : List ℕ) (setting : Go
       let h : InOrder receipt outer payload setting = done-in-order t receipt outer payload setting none-holds in
       record {
         outer-read = fields-read outer (h .outer-read);
-        sender = senderOr (senderIn (fieldsIn outer));
+        sender = orElse [] (senderIn (fieldsIn outer));
         sent = h .sent;
         inner = payloadIn setting payload;
         inner-read = payload-read h;

@@ -14,7 +14,7 @@ use lib.ListN.{length, take}
 use Rattle.octets.specs.Octets.{lower, lowered, sameName, sameOctets, AllOctets, blank}
 use Rattle.address.specs.Address.{canonical}
 use Rattle.header.specs.Header.{FieldText, fieldsOf}
-use Rattle.list.specs.List.{among}
+use Rattle.addresslist.specs.List.{among}
 use Rattle.keyfield.specs.Field.{Field, validFor, validFields}
 use Rattle.keyfield.proofs.Counted.{naming-sender, valid-append, valid-next, counted-one}
 use Rattle.slots.specs.Entry.{Entry}
@@ -35,7 +35,8 @@ use Rattle.refusals.specs.declared.Answer.the-variants.{Done}
 use Rattle.runs.specs.Runs.{belongs, run}
 use Rattle.process.specs.Processing.{taken, refusedProcessing, leftByProcessing}
 use Rattle.process.specs.declared.Gossip.{Gossip}
-use Rattle.write.specs.Writing.{autocryptName, gossipName, autocryptField, gossipField, writtenOf, leftByWriting}
+use Rattle.names.specs.Names.{autocrypt as autocryptName, gossip as gossipName}
+use Rattle.write.specs.Writing.{autocryptField, gossipField, writtenOf, leftByWriting}
 use Rattle.write.specs.declared.Written.the-variants.{Done as Wrote}
 use Rattle.trip.specs.RoundTrip.{ReadsBack, Writable, Holding, behind, others}
 use Rattle.trip.specs.Standing.{directHalf, gossipHalf, HasDirect, HasGossip, noneAbout}

@@ -20,7 +20,7 @@ use Rattle.octets.specs.Tests.{every}
 use Rattle.octets.proofs.Tests.{and-left, and-right, by-test}
 use Rattle.address.specs.Address.{canonical, isCanonical}
 use Rattle.address.proofs.Spelling.{canonical-same}
-use Rattle.list.specs.List.{among}
+use Rattle.addresslist.specs.List.{among}
 use Rattle.slots.specs.Entry.{Entry, entryOf, newcomer}
 use Rattle.slots.proofs.Goodness.{good-newcomer}
 use Rattle.table.specs.Table.{slotAt, found, lowestFree, freeCount, isAt, checked}

@@ -15,7 +15,7 @@ use lib.ListN.{length}
 use Rattle.octets.specs.Octets.{sameOctets, AllOctets}
 use Rattle.octets.specs.Options.{orElse, IfSome}
 use Rattle.address.specs.Address.{isCanonical}
-use Rattle.list.specs.List.{among}
+use Rattle.addresslist.specs.List.{among}
 use Rattle.slots.specs.Slot.{timeLimit}
 use Rattle.slots.specs.Entry.{Direct, Entry, newcomer, GoodKey}
 use Rattle.table.specs.Table.{found, isAt, freeCount}

@@ -51,10 +51,10 @@ fn run_decode(text: &[u8]) {
 
 fn run_lines(text: &[u8]) {
     let mut out = io::buffer();
-    if 4096 < lines::lines_length(text) {
+    if 4096 < keylines::lines_length(text) {
         return print(b"no room\n");
     }
-    let n = lines::write_lines(text, &mut out, 0);
+    let n = keylines::write_lines(text, &mut out, 0);
     print(&out[0..n]);
 }
 

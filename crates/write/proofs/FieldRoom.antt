@@ -18,14 +18,15 @@ use Rattle.address.proofs.Forming.{form-fits}
 use Rattle.slots.specs.Slot.{keyLimit}
 use Rattle.writer.specs.Writing.{preference, written}
 use Rattle.writer.proofs.Parts.{preference-most, field-counted}
-use Rattle.write.specs.Writing.{autocryptName, gossipName, autocryptField, gossipField, fieldRoom, writingRows, refusedWriting, writtenOf}
+use Rattle.names.specs.Names.{autocrypt as autocryptName, gossip as gossipName}
+use Rattle.write.specs.Writing.{autocryptField, gossipField, fieldRoom, writingRows, refusedWriting, writtenOf}
 use Rattle.refusals.specs.Refusals.{numberOf}
 use Rattle.refusals.specs.Rows.{Gives, nothing, here, behind}
 use Rattle.refusals.specs.declared.Refusal.the-variants.{OutputLength}
 use Rattle.refusals.proofs.Rows.{exactly, refused-is}
 use Rattle.letters.specs.Base64.{encode}
-use Rattle.lines.specs.Lines.{lines}
-use Rattle.lines.proofs.Lengths.{lines-counted}
+use Rattle.keylines.specs.Lines.{lines}
+use Rattle.keylines.proofs.Lengths.{lines-counted}
 use Rattle.write.specs.declared.Written.the-variants.{Refused}
 use Rattle.write.proofs.Outcomes.{refused-row}
 

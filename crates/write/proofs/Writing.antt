@@ -15,8 +15,8 @@ use lib.ListN.{length}
 use Rattle.octets.specs.Written.{onto}
 use Rattle.octets.specs.Tests.{oneTo}
 use Rattle.address.specs.Answers.{writtenOf as fittedOf, ontoIfFits}
-use Rattle.address.specs.declared.Written.{Written as Fitted}
-use Rattle.address.specs.declared.Written.the-variants.{Length, NoRoom}
+use Rattle.address.specs.declared.Fitted.{Fitted}
+use Rattle.address.specs.declared.Fitted.the-variants.{Length, NoRoom}
 use Rattle.address.proofs.Room.{written-length, written-no-room, onto-fits, onto-none}
 use Rattle.slots.specs.Slot.{keyLimit}
 use borrow.Author.Needs.{needs}

@@ -1,5 +1,4 @@
 -- "Writing", of paper 01, with its refusals: what the two writers answer and what they leave in the output.
---     autocryptName, gossipName      the names of the two fields
 --     autocryptField, gossipField    the two fields
 --     fieldRoom                      room that neither exceeds
 --     writingRows, refusedWriting    rows 9, 11 and 12
@@ -10,8 +9,8 @@ use mathlib.Core.List.{List, [], _∷_}
 use mathlib.Core.Option.{Option}
 use lib.Dec.{leb}
 use lib.ListN.{length}
-use Rattle.octets.specs.Octets.{ascii}
 use Rattle.octets.specs.Written.{onto}
+use Rattle.names.specs.Names.{autocrypt as autocryptName, gossip as gossipName}
 use Rattle.octets.specs.Tests.{oneTo}
 use Rattle.refusals.specs.Rows.{Row, _unless_, firstOf, answeredBy, unlessRefused}
 use Rattle.refusals.specs.declared.Refusal.{Refusal}
@@ -21,12 +20,6 @@ use Rattle.slots.specs.Slot.{keyLimit}
 use Rattle.writer.specs.Writing.{written}
 use Rattle.write.specs.declared.Written.{Written}
 use Rattle.write.specs.declared.Written.the-variants.{Done, Refused}
-
-abbrev pub autocryptName : List ℕ
-autocryptName = ascii "Autocrypt"
-
-abbrev pub gossipName : List ℕ
-gossipName = ascii "Autocrypt-Gossip"
 
 -- "`Autocrypt: ..` is the whole field for that address, mutual, key"
 unfoldable pub autocryptField : List ℕ → Bool → List ℕ → List ℕ

@@ -3,7 +3,8 @@ ghost use Prim.Native.Nat.{_≤_};
 ghost use mathlib.Core.Path.{_≡_};
 ghost use mathlib.Core.Bool.{false};
 ghost use lib.ListN.{length};
-ghost use Rattle.write.specs.Writing.{autocryptName, gossipName, writtenOf, leftByWriting};
+ghost use Rattle.names.specs.Names.{autocrypt as autocryptName, gossip as gossipName};
+ghost use Rattle.write.specs.Writing.{writtenOf, leftByWriting};
 use refusals::Refusal;
 use slots::Slot;
 
@@ -29,8 +30,8 @@ fn write(name: &[u8], address: &[u8], mutual: bool, key: &[u8], out: &mut [u8]) 
         return Written::Refused(Refusal::KeyLength);
     }
     match writer::write_field(name, address, mutual, key, out) {
-        address::Written::Length(n) => Written::Done(n),
-        address::Written::NoRoom => Written::Refused(Refusal::OutputLength),
+        address::Fitted::Length(n) => Written::Done(n),
+        address::Fitted::NoRoom => Written::Refused(Refusal::OutputLength),
     }
 }
 

@@ -14,8 +14,8 @@ use lib.ListN.{length, take}
 use Rattle.octets.specs.Written.{onto}
 use Rattle.address.specs.Address.{plain, canonical}
 use Rattle.address.specs.Answers.{writtenOf, ontoIfFits}
-use Rattle.address.specs.declared.Written.{Written}
-use Rattle.address.specs.declared.Written.the-variants.{Length, NoRoom}
+use Rattle.address.specs.declared.Fitted.{Fitted}
+use Rattle.address.specs.declared.Fitted.the-variants.{Length, NoRoom}
 use Rattle.address.proofs.Room.{written-fits, written-none, onto-fits, onto-none}
 use Rattle.address.proofs.Forming.{form-fits, form-never, form-there, form-end as buffer-end}
 use Rattle.writer.specs.Writing.{fieldText, written}
@@ -42,7 +42,7 @@ module _ (w d : List ℕ) (n : ℕ) (e : n ≡ length w) where
 pub ruleset fitting = (fit-none, none-kept, fit-room, fit-written, fit-kept, needs)
 
 -- `write_field`: the canonical form of an address s stands in the buffer of 256 octets that is lent for it
-module _ (s : List ℕ) (plainly : plain s ≡ true) (g : Written) (e : g ≡ writtenOf (canonical s) 256) where
+module _ (s : List ℕ) (plainly : plain s ≡ true) (g : Fitted) (e : g ≡ writtenOf (canonical s) 256) where
   module _ (r : g ≡ NoRoom) where
     pub never-answered : (w : List ℕ) (room : ℕ) → NoRoom ≡ writtenOf w room
     never-answered w room = absurd (form-never s plainly 256 (omega arith) g e r)
@@ -65,7 +65,7 @@ module _ (s : List ℕ) (plainly : plain s ≡ true) (g : Written) (e : g ≡ wr
       unfolding written
       same-field = rw there
 
-      pub form-written : (r : Written) (room : ℕ) → r ≡ writtenOf (fieldText name (take (n - 0) out) m key) room → r ≡ writtenOf (written name s m key) room
+      pub form-written : (r : Fitted) (room : ℕ) → r ≡ writtenOf (fieldText name (take (n - 0) out) m key) room → r ≡ writtenOf (written name s m key) room
       form-written r room p = rw same-field at p
 
       pub form-left : (last d : List ℕ) → last ≡ ontoIfFits (fieldText name (take (n - 0) out) m key) d → last ≡ ontoIfFits (written name s m key) d

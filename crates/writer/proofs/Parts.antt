@@ -16,8 +16,8 @@ use lib.ListN.{length, length-append}
 use Rattle.octets.specs.Written.{putAt}
 use Rattle.octets.proofs.Putting.{over-none}
 use Rattle.letters.specs.Base64.{encode}
-use Rattle.lines.specs.Lines.{lines}
-use Rattle.lines.proofs.Lengths.{lines-counted}
+use Rattle.keylines.specs.Lines.{lines}
+use Rattle.keylines.proofs.Lengths.{lines-counted}
 use Rattle.writer.specs.Writing.{preferText, preference, fieldText}
 use Rattle.writer.specs.Steps.{opening, attributes}
 

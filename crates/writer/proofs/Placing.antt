@@ -16,7 +16,7 @@ use lib.ListN.{length, length-append}
 use Rattle.octets.specs.Written.{putAt, onto}
 use Rattle.octets.proofs.Putting.{put-both, room-second}
 use Rattle.letters.specs.Base64.{encode}
-use Rattle.lines.specs.Lines.{lines}
+use Rattle.keylines.specs.Lines.{lines}
 use Rattle.writer.specs.Writing.{addrText, keyText, preference, fieldText}
 use Rattle.writer.specs.Steps.{opening, attributes}
 use Rattle.writer.proofs.Parts.{field-halves}

@@ -5,7 +5,7 @@ use mathlib.Core.Bool.{true, false}
 use lib.ListN.{length, replicate}
 use Rattle.octets.specs.Octets.{ascii, octet, lower, lowered}
 use Rattle.letters.specs.Base64.{letter, encode}
-use Rattle.lines.specs.Lines.{laid, lines}
+use Rattle.keylines.specs.Lines.{laid, lines}
 use Rattle.address.specs.Address.{canonical}
 use Rattle.writer.specs.Writing.{preference, fieldText, written}
 

@@ -5,7 +5,7 @@ use Prim.Native.Nat.{ℕ}
 use mathlib.Core.Bool.{Bool}
 use mathlib.Core.List.{List, _++_}
 use Rattle.letters.specs.Base64.{encode}
-use Rattle.lines.specs.Lines.{lines}
+use Rattle.keylines.specs.Lines.{lines}
 use Rattle.writer.specs.Writing.{addrText, keyText, preference}
 
 unfoldable pub opening : List ℕ → List ℕ → List ℕ

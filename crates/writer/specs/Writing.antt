@@ -9,7 +9,7 @@ use mathlib.Core.List.{List, [], _++_}
 use Rattle.octets.specs.Octets.{ascii}
 use Rattle.letters.specs.Base64.{encode}
 use Rattle.names.specs.Names as names
-use Rattle.lines.specs.Lines.{lines}
+use Rattle.keylines.specs.Lines.{lines}
 use Rattle.address.specs.Address.{canonical}
 
 -- what stands between the parts that a caller gives

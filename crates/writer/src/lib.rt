@@ -9,7 +9,7 @@ ghost use Rattle.address.specs.Address.{plain};
 ghost use Rattle.address.specs.Answers.{writtenOf, ontoIfFits};
 ghost use Rattle.writer.specs.Writing.{preference, fieldText, written};
 ghost use Rattle.writer.specs.Steps.{opening, attributes};
-use address::Written;
+use address::Fitted;
 
 // What stands between the parts that a caller gives.
 const ADDR: [u8; 7] = *b": addr=";
@@ -58,7 +58,7 @@ fn put_attributes(mutual: bool, key: &[u8], out: &mut [u8], at: usize)
 {
     let preferred = append_preference(&mut *out, at, mutual);
     let opened = append(&mut *out, preferred, &KEYDATA);
-    lines::write_lines(key, &mut *out, opened);
+    keylines::write_lines(key, &mut *out, opened);
 }
 
 // Writes a field, which has room, to the front of `out`.
@@ -85,11 +85,11 @@ fn field_length(name: &[u8], address: &[u8], mutual: bool, key: &[u8]) -> usize
         + address.len()
         + preference_length(mutual)
         + KEYDATA.len()
-        + lines::lines_length(key)
+        + keylines::lines_length(key)
 }
 
 // Writes a field to the front of `out`, where it fits.
-fn fit_field(name: &[u8], address: &[u8], mutual: bool, key: &[u8], out: &mut [u8]) -> Written
+fn fit_field(name: &[u8], address: &[u8], mutual: bool, key: &[u8], out: &mut [u8]) -> Fitted
     requires { ⌜ (length (now name) ≤ 256) × (length (now address) ≤ 256) ⌝ }
     ensures { λ r. ⌜ r ≡ writtenOf (fieldText (now (name .entry)) (now (address .entry)) «mutual» (now (key .entry))) (length (now (out .entry))) ⌝ }
     ensures { λ _. ⌜ now (out .exit) ≡ ontoIfFits
@@ -97,14 +97,14 @@ fn fit_field(name: &[u8], address: &[u8], mutual: bool, key: &[u8], out: &mut [u
 {
     let n = field_length(name, address, mutual, key);
     if out.len() < n {
-        return Written::NoRoom;
+        return Fitted::NoRoom;
     }
     put_field(name, address, mutual, key, out);
-    Written::Length(n)
+    Fitted::Length(n)
 }
 
 // Writes the field of an address in canonical form to the front of `out`, where it fits.
-pub fn write_field(name: &[u8], address: &[u8], mutual: bool, key: &[u8], out: &mut [u8]) -> Written
+pub fn write_field(name: &[u8], address: &[u8], mutual: bool, key: &[u8], out: &mut [u8]) -> Fitted
     requires { ⌜ (length (now name) ≤ 256) × (plain (now address) ≡ true) ⌝ }
     ensures { λ r. ⌜ r ≡ writtenOf (written (now (name .entry)) (now (address .entry)) «mutual» (now (key .entry))) (length (now (out .entry))) ⌝ }
     ensures { λ _. ⌜ now (out .exit) ≡ ontoIfFits
@@ -112,7 +112,7 @@ pub fn write_field(name: &[u8], address: &[u8], mutual: bool, key: &[u8], out: &
 {
     let mut form = [0u8; 256];
     match address::canonical(address, &mut form) {
-        Written::Length(n) => fit_field(name, &form[0..n], mutual, key, out),
-        Written::NoRoom => Written::NoRoom,
+        Fitted::Length(n) => fit_field(name, &form[0..n], mutual, key, out),
+        Fitted::NoRoom => Fitted::NoRoom,
     }
 }

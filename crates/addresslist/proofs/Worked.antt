@@ -1,0 +1,68 @@
+-- Lists that are worked out: readable ones with their addresses, unreadable ones, and comments to depth 16.
+-- Assumes nothing.
+use Prim.Native.Nat.{ℕ}
+use Prim.Native.String.{String}
+use mathlib.Core.Path.{_≡_, refl}
+use mathlib.Core.List.{List, [], _∷_, _++_, map}
+use mathlib.Core.Option.{some, none}
+use lib.ListN.{replicate}
+use Rattle.octets.specs.Octets.{ascii, octet, blank}
+use Rattle.octets.specs.Options.{inFront}
+use Rattle.octets.specs.Finding.{holds}
+use Rattle.octets.specs.Tests.{every}
+use Rattle.runs.specs.Runs.{belongs, run}
+use Rattle.tokens.specs.Tokens.{control, kindOf, past, afterQuote}
+use Rattle.address.specs.Pieces.{onFirst, pieces, before, behind}
+use Rattle.address.specs.Address.{atom, localPart, freeEnds, label, domain, plain}
+use Rattle.addresslist.specs.List.{openingOf, runToken, quotedToken, tokenAt, firstToken, afterAddress, after, listedBy, listed, addresses}
+
+abbrev Readable : String → List String → Type 0
+Readable s list = addresses (ascii s) ≡ some (map ascii list)
+
+abbrev Unread : String → Type 0
+Unread s = addresses (ascii s) ≡ none
+
+-- so many comments one inside the other, behind an address
+abbrev nested : ℕ → List ℕ
+nested n = ascii "a@b" ++ (replicate n (octet "(") ++ replicate n (octet ")"))
+
+pub worked :
+    Readable "a@b" ("a@b" ∷ [])
+    × Readable "A <a@b>" ("a@b" ∷ [])
+    × Readable "\"x y\" <a@b>, c@d" ("a@b" ∷ "c@d" ∷ [])
+    × Readable "g: a@b, <c@d>;" ("a@b" ∷ "c@d" ∷ [])
+    × Readable "g:;" []
+    × Readable "g:;, a@b" ("a@b" ∷ [])
+    × Readable "g: (c) ;" []
+    × Readable ". <a@b>" ("a@b" ∷ [])
+    × Readable "\"a\"\"b\"c<x@y>" ("x@y" ∷ [])
+    × Readable " (c) < A.b@C.d-e (c) > " ("A.b@C.d-e" ∷ [])
+    × Unread ""
+    × Unread "(c)"
+    × Unread "a@b,"
+    × Unread ",a@b"
+    × Unread "a@b,,c@d"
+    × Unread "g: a@b,;"
+    × Unread "a@b c@d"
+    × Unread "Bob b@x"
+    × Unread "<a@b> Bob"
+    × Unread "<>"
+    × Unread "<@r:a@b>"
+    × Unread "g: h: a@b;;"
+    × Unread "g: a@b"
+    × Unread "g:; a@b"
+    × Unread "a@b;"
+    × Unread "a (c) @b"
+    × Unread "a. b@c"
+    × Unread "a@b."
+    × Unread "a@b@c"
+    × Unread "[x] <a@b>"
+    × Unread "x@y <a@b>"
+    × Unread "a@[x]"
+    × Unread "\"a\"@b"
+    × Unread "(c a@b"
+    × Unread "\"c <a@b>"
+    × (addresses (nested 16) ≡ some (ascii "a@b" ∷ []))
+    × (addresses (nested 17) ≡ none)
+unfolding openingOf holds runToken quotedToken tokenAt firstToken afterAddress after inFront listedBy listed addresses belongs atom localPart freeEnds label domain plain every onFirst pieces before behind run control blank kindOf past afterQuote
+worked = (refl, refl, refl, refl, refl, refl, refl, refl, refl, refl, refl, refl, refl, refl, refl, refl, refl, refl, refl, refl, refl, refl, refl, refl, refl, refl, refl, refl, refl, refl, refl, refl, refl, refl, refl, refl, refl)
