@@ -165,7 +165,7 @@ pub fn put(out: &mut [u8], at: usize, src: &[u8])
     }
 }
 
-// The same in lower case.
+// Writes `src` into `out` from the place `at` on, its capitals as small letters.
 pub fn put_lower(out: &mut [u8], at: usize, src: &[u8])
     requires { ⌜ at + length (now src) ≤ length (now out) ⌝ }
     ensures { λ _. ⌜ now (out .exit) ≡ putAt (now (out .entry)) at (lowered (now (src .entry))) ⌝ }

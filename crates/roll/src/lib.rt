@@ -34,7 +34,7 @@ pub fn add_list(roll: &mut [u8], at: usize, list: &[u8]) -> usize
     }
 }
 
-// The same of a list that is readable.
+// Adds the addresses of a list that is readable, behind the place `at`.
 fn add_readable(roll: &mut [u8], at: usize, list: &[u8]) -> usize
     requires { ⌜ (isSome (addresses (now list)) ≡ true) × (at + length (rolled (listedIn (now list))) ≤ length (now roll)) ⌝ }
     ensures { λ r. ⌜ r ≡ at + length (rolled (listedIn (now (list .entry)))) ⌝ }
