@@ -14,9 +14,9 @@ use lib.ListN.{length}
 use Rattle.octets.specs.Options.{inFront}
 use Rattle.addresslist.specs.List.{addresses}
 use Rattle.addresslist.specs.Answers.{between, beginning, left, Hands, countedOf}
-use Rattle.addresslist.specs.declared.Cursor.{Cursor}
-use Rattle.addresslist.specs.declared.Handed.{Handed}
-use Rattle.addresslist.specs.declared.Handed.the-variants.{Address, End, Unreadable}
+use Rattle.addresslist.specs.declared.ListCursor.{ListCursor}
+use Rattle.addresslist.specs.declared.NextAddress.{NextAddress}
+use Rattle.addresslist.specs.declared.NextAddress.the-variants.{Address, End, Unreadable}
 use Rattle.addresslist.specs.declared.Counted.{Counted}
 use Rattle.addresslist.specs.declared.Counted.the-variants.{Count, Unreadable as Uncounted}
 use Rattle.addresslist.proofs.Handing.{left-beginning, hand-gives, hand-later, hand-within, hand-less, hand-end, hand-unread}
@@ -35,18 +35,18 @@ unfolding counted inFront
 one-more n a none = refl
 one-more n a (some rest) = let e : n + length (a ∷ rest) ≡ (n + 1) + length rest = omega arith in ap Count e
 
-pub record Counting (s : List ℕ) (n : ℕ) (here : Cursor) : Type 0 where
+pub record Counting (s : List ℕ) (n : ℕ) (here : ListCursor) : Type 0 where
   pub so-far : countedOf (addresses s) ≡ counted n (left s here)
   pub few : n ≤ here .at
   pub upto : here .at ≤ length s
 
-pub counting-begin : (s : List ℕ) (here : Cursor) → here ≡ beginning → Counting s 0 here
+pub counting-begin : (s : List ℕ) (here : ListCursor) → here ≡ beginning → Counting s 0 here
 counting-begin s here e =
-    let z : here .at ≡ 0 = ap (λ (c : Cursor). c .at) e in
+    let z : here .at ≡ 0 = ap (λ (c : ListCursor). c .at) e in
     record { so-far = from-none (addresses s) ∙ ap (counted 0) (sym (left-beginning s here e)); few = omega arith; upto = omega arith }
 
-module _ (s : List ℕ) (n : ℕ) (here : Cursor) (k : Handed) (h : Counting s n here) (p : Hands s here k) where
-  pub counting-on : (from to : ℕ) (next : Cursor) → k ≡ Address from to next → Counting s (n + 1) next
+module _ (s : List ℕ) (n : ℕ) (here : ListCursor) (k : NextAddress) (h : Counting s n here) (p : Hands s here k) where
+  pub counting-on : (from to : ℕ) (next : ListCursor) → k ≡ Address from to next → Counting s (n + 1) next
   counting-on from to next q =
       record {
         so-far = h .so-far ∙ ap (counted n) (hand-gives s here k p from to next q) ∙ one-more n (between s from to) (left s next);
@@ -54,7 +54,7 @@ module _ (s : List ℕ) (n : ℕ) (here : Cursor) (k : Handed) (h : Counting s n
         upto = hand-within s here k p from to next q;
       }
 
-  pub counting-room : (from to : ℕ) (next : Cursor) → k ≡ Address from to next → n + 1 ≤ length s
+  pub counting-room : (from to : ℕ) (next : ListCursor) → k ≡ Address from to next → n + 1 ≤ length s
   counting-room from to next q = omega (arith, hand-later s here k p from to next q, hand-within s here k p from to next q)
 
   pub counting-end : k ≡ End → Count n ≡ countedOf (addresses s)

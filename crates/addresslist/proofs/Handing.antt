@@ -15,16 +15,16 @@ use Rattle.octets.specs.Options.{inFront}
 use Rattle.address.specs.Address.{plain}
 use Rattle.addresslist.specs.List.{addresses}
 use Rattle.addresslist.specs.Answers.{between, beginning, left, Gives, Hands}
-use Rattle.addresslist.specs.declared.Cursor.{Cursor}
-use Rattle.addresslist.specs.declared.Handed.{Handed}
-use Rattle.addresslist.specs.declared.Handed.the-variants.{Address, End, Unreadable}
+use Rattle.addresslist.specs.declared.ListCursor.{ListCursor}
+use Rattle.addresslist.specs.declared.NextAddress.{NextAddress}
+use Rattle.addresslist.specs.declared.NextAddress.the-variants.{Address, End, Unreadable}
 
-pub left-beginning : (s : List ℕ) (c : Cursor) → c ≡ beginning → left s c ≡ addresses s
+pub left-beginning : (s : List ℕ) (c : ListCursor) → c ≡ beginning → left s c ≡ addresses s
 unfolding left addresses
 left-beginning s c e = rw e
 
-module _ (s : List ℕ) (c : Cursor) (k : Handed) (p : Hands s c k) where
-  module _ (from to : ℕ) (next : Cursor) (q : k ≡ Address from to next) where
+module _ (s : List ℕ) (c : ListCursor) (k : NextAddress) (p : Hands s c k) where
+  module _ (from to : ℕ) (next : ListCursor) (q : k ≡ Address from to next) where
     hand : Gives s c from to next
     hand = rw q at p
 

@@ -10,13 +10,13 @@ use Rattle.octets.specs.Options.{inFront, onlyOne, orElse}
 use Rattle.octets.proofs.Options.{only-two}
 use Rattle.addresslist.specs.List.{addresses}
 use Rattle.addresslist.specs.Answers.{between, beginning, left, Hands, onlyIn}
-use Rattle.addresslist.specs.declared.Cursor.{Cursor}
-use Rattle.addresslist.specs.declared.Handed.{Handed}
-use Rattle.addresslist.specs.declared.Handed.the-variants.{Address, End, Unreadable}
-use Rattle.addresslist.specs.declared.Only.the-variants.{One, Other}
+use Rattle.addresslist.specs.declared.ListCursor.{ListCursor}
+use Rattle.addresslist.specs.declared.NextAddress.{NextAddress}
+use Rattle.addresslist.specs.declared.NextAddress.the-variants.{Address, End, Unreadable}
+use Rattle.addresslist.specs.declared.OnlyAddress.the-variants.{One, Other}
 use Rattle.addresslist.proofs.Handing.{left-beginning, hand-gives, hand-long, hand-upto, hand-end, hand-unread}
 
-module _ (s : List ℕ) (here : Cursor) (b : here ≡ beginning) (k : Handed) (p : Hands s here k) where
+module _ (s : List ℕ) (here : ListCursor) (b : here ≡ beginning) (k : NextAddress) (p : Hands s here k) where
   all : onlyOne (orElse [] (left s here)) ≡ onlyOne (orElse [] (addresses s))
   all = ap (λ o. onlyOne (orElse [] o)) (left-beginning s here b)
 
@@ -28,7 +28,7 @@ module _ (s : List ℕ) (here : Cursor) (b : here ≡ beginning) (k : Handed) (p
   unfolding onlyOne orElse onlyIn
   lone-unread q = rw (hand-unread s here k p q) at all
 
-  module _ (from to : ℕ) (next : Cursor) (q : k ≡ Address from to next) (j : Handed) (r : Hands s next j) where
+  module _ (from to : ℕ) (next : ListCursor) (q : k ≡ Address from to next) (j : NextAddress) (r : Hands s next j) where
     first : onlyOne (orElse [] (inFront (between s from to) (left s next))) ≡ onlyOne (orElse [] (addresses s))
     first = rw (hand-gives s here k p from to next q) at all
 
@@ -40,7 +40,7 @@ module _ (s : List ℕ) (here : Cursor) (b : here ≡ beginning) (k : Handed) (p
     unfolding onlyOne orElse onlyIn inFront
     lone-cut e = rw (hand-unread s next j r e) at first
 
-    pub lone-two : (from′ to′ : ℕ) (later : Cursor) → j ≡ Address from′ to′ later → onlyIn s Other ≡ onlyOne (orElse [] (addresses s))
+    pub lone-two : (from′ to′ : ℕ) (later : ListCursor) → j ≡ Address from′ to′ later → onlyIn s Other ≡ onlyOne (orElse [] (addresses s))
     unfolding onlyIn
     lone-two from′ to′ later e =
         sym (only-two (between s from to) (between s from′ to′) (left s later)) ∙ rw (hand-gives s next j r from′ to′ later e) at first

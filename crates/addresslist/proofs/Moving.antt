@@ -19,14 +19,14 @@ use Rattle.addresslist.specs.declared.token.TokenAt.the-variants.{Addres
 use Rattle.addresslist.specs.declared.grammar.Stage.{Stage}
 use Rattle.addresslist.specs.declared.grammar.Follow.{Follow}
 use Rattle.addresslist.specs.declared.grammar.Follow.the-variants.{On as Onto, Wrong}
-use Rattle.addresslist.specs.declared.Cursor.{Cursor}
-use Rattle.addresslist.specs.declared.Handed.{Handed}
-use Rattle.addresslist.specs.declared.Handed.the-variants.{Address, End, Unreadable}
+use Rattle.addresslist.specs.declared.ListCursor.{ListCursor}
+use Rattle.addresslist.specs.declared.NextAddress.{NextAddress}
+use Rattle.addresslist.specs.declared.NextAddress.the-variants.{Address, End, Unreadable}
 use Rattle.addresslist.specs.declared.Move.{Move}
 use Rattle.addresslist.specs.declared.Move.the-variants.{On, Done}
 use Rattle.addresslist.proofs.Listing.{stands, listed-address, listed-address-wrong, listed-other, listed-other-wrong, listed-end, listed-unread}
 
-module _ (s : List ℕ) (c : Cursor) (g : TokenAt) (e : foundIn s g ≡ firstToken (drop (c .at) s)) where
+module _ (s : List ℕ) (c : ListCursor) (g : TokenAt) (e : foundIn s g ≡ firstToken (drop (c .at) s)) where
   found : (k : TokenAt) → g ≡ k → firstToken (drop (c .at) s) ≡ foundIn s k
   found k q = sym e ∙ ap (foundIn s) q
 
@@ -90,14 +90,14 @@ module _ (s : List ℕ) (c : Cursor) (g : TokenAt) (e : foundIn s g ≡ firstTok
 
 pub ruleset moving = (move-hand, move-hand-wrong, move-on, move-on-wrong, move-end, move-cut, move-unread, needs)
 
-pub record Nears (s : List ℕ) (c here : Cursor) : Type 0 where
+pub record Nears (s : List ℕ) (c here : ListCursor) : Type 0 where
   pub same : left s c ≡ left s here
   pub behind : c .at ≤ here .at
 
-pub near-begin : (s : List ℕ) (c : Cursor) → Nears s c c
+pub near-begin : (s : List ℕ) (c : ListCursor) → Nears s c c
 near-begin s c = record { same = refl; behind = omega arith }
 
-near-handed : (s : List ℕ) (c here : Cursor) (k : Handed) → Nears s c here → Hands s here k → Hands s c k
+near-handed : (s : List ℕ) (c here : ListCursor) (k : NextAddress) → Nears s c here → Hands s here k → Hands s c k
 near-handed s c here (Address from to next) n h =
     record {
       gives = n .same ∙ h .gives;
@@ -110,18 +110,18 @@ near-handed s c here (Address from to next) n h =
 near-handed s c here End n h = n .same ∙ h
 near-handed s c here Unreadable n h = n .same ∙ h
 
-module _ (s : List ℕ) (here : Cursor) (m : Move) (p : Moved s here m) where
-  module _ (next : Cursor) (q : m ≡ On next) where
+module _ (s : List ℕ) (here : ListCursor) (m : Move) (p : Moved s here m) where
+  module _ (next : ListCursor) (q : m ≡ On next) where
     on : Goes s here next
     on = rw q at p
 
-    pub near-on : (c : Cursor) → Nears s c here → Nears s c next
+    pub near-on : (c : ListCursor) → Nears s c here → Nears s c next
     near-on c n = record { same = n .same ∙ on .gives; behind = omega (arith, on .behind) }
 
     pub near-less : length s - next .at < length s - here .at
     near-less = omega (arith, on .behind, on .upto)
 
-  pub near-done : (c : Cursor) (k : Handed) → Nears s c here → m ≡ Done k → Hands s c k
+  pub near-done : (c : ListCursor) (k : NextAddress) → Nears s c here → m ≡ Done k → Hands s c k
   near-done c k n q = near-handed s c here k n (rw q at p)
 
 pub ruleset nearing = (near-begin, near-on, near-less, near-done, needs)

@@ -16,15 +16,15 @@ use Rattle.addresslist.specs.List.{Token, address, other, end, unreadabl
 use Rattle.addresslist.specs.declared.grammar.Stage.the-variants.{Place}
 use Rattle.addresslist.specs.declared.token.TokenAt.{TokenAt}
 use Rattle.addresslist.specs.declared.token.TokenAt.the-variants.{Address as AddressAt, Other as OtherAt, End as Over, Unreadable as Unfound}
-use Rattle.addresslist.specs.declared.Cursor.{Cursor}
-use Rattle.addresslist.specs.declared.Handed.{Handed}
-use Rattle.addresslist.specs.declared.Handed.the-variants.{Address, End, Unreadable}
+use Rattle.addresslist.specs.declared.ListCursor.{ListCursor}
+use Rattle.addresslist.specs.declared.NextAddress.{NextAddress}
+use Rattle.addresslist.specs.declared.NextAddress.the-variants.{Address, End, Unreadable}
 use Rattle.addresslist.specs.declared.Move.{Move}
 use Rattle.addresslist.specs.declared.Move.the-variants.{On, Done}
 use Rattle.addresslist.specs.declared.Counted.{Counted}
 use Rattle.addresslist.specs.declared.Counted.the-variants.{Count, Unreadable as Uncounted}
-use Rattle.addresslist.specs.declared.Only.{Only}
-use Rattle.addresslist.specs.declared.Only.the-variants.{One, Other}
+use Rattle.addresslist.specs.declared.OnlyAddress.{OnlyAddress}
+use Rattle.addresslist.specs.declared.OnlyAddress.the-variants.{One, Other}
 
 -- the octets from one place of s up to another
 abbrev pub between : List ℕ → ℕ → ℕ → List ℕ
@@ -44,15 +44,15 @@ Inside s at Over = Unit
 Inside s at Unfound = Unit
 
 -- the cursor before the first token
-abbrev pub beginning : Cursor
+abbrev pub beginning : ListCursor
 beginning = record { at = 0; stage = Place; inside = false }
 
 -- what the list s still gives from a cursor on; none where it is unreadable
-unfoldable pub left : List ℕ → Cursor → Option (List (List ℕ))
+unfoldable pub left : List ℕ → ListCursor → Option (List (List ℕ))
 left s c = listed (c .stage) (c .inside) (drop (c .at) s)
 
 -- A plain address of s is handed out: it is in front of what s gives from the next cursor on.
-pub record Gives (s : List ℕ) (c : Cursor) (from to : ℕ) (next : Cursor) : Type 0 where
+pub record Gives (s : List ℕ) (c : ListCursor) (from to : ℕ) (next : ListCursor) : Type 0 where
   pub gives : left s c ≡ inFront (between s from to) (left s next)
   pub whole : plain (between s from to) ≡ true
   pub behind : c .at ≤ from
@@ -60,18 +60,18 @@ pub record Gives (s : List ℕ) (c : Cursor) (from to : ℕ) (next : Cursor) : T
   pub upto : to ≤ length s
   pub goes-on : next .at ≡ to
 
-abbrev pub Hands : List ℕ → Cursor → Handed → Type 0
+abbrev pub Hands : List ℕ → ListCursor → NextAddress → Type 0
 Hands s c (Address from to next) = Gives s c from to next
 Hands s c End = left s c ≡ some []
 Hands s c Unreadable = left s c ≡ none
 
 -- The next cursor lies behind this one, and s gives the same from either.
-pub record Goes (s : List ℕ) (c next : Cursor) : Type 0 where
+pub record Goes (s : List ℕ) (c next : ListCursor) : Type 0 where
   pub gives : left s c ≡ left s next
   pub behind : c .at < next .at
   pub upto : next .at ≤ length s
 
-abbrev pub Moved : List ℕ → Cursor → Move → Type 0
+abbrev pub Moved : List ℕ → ListCursor → Move → Type 0
 Moved s c (On next) = Goes s c next
 Moved s c (Done handed) = Hands s c handed
 
@@ -80,10 +80,10 @@ countedOf none = Uncounted
 countedOf (some list) = Count (length list)
 
 -- the one address of a list that has no other, by its places
-unfoldable pub onlyIn : List ℕ → Only → Option (List ℕ)
+unfoldable pub onlyIn : List ℕ → OnlyAddress → Option (List ℕ)
 onlyIn s (One from to) = some (between s from to)
 onlyIn s Other = none
 
-abbrev pub Within : List ℕ → Only → Type 0
+abbrev pub Within : List ℕ → OnlyAddress → Type 0
 Within s (One from to) = (from < to) × (to ≤ length s)
 Within s Other = Unit

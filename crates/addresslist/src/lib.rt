@@ -12,18 +12,18 @@ ghost use Rattle.octets.specs.Options.{onlyOne, orElse};
 ghost use Rattle.addresslist.specs.List.{addresses};
 ghost use Rattle.addresslist.specs.Answers.{beginning, Hands, Moved, countedOf, onlyIn, Within};
 
-pub struct Cursor {
+pub struct ListCursor {
     pub at: usize,
     pub stage: Stage,
     pub inside: bool,
 }
 
 // The next address and the cursor behind it; or the list has ended; or it is unreadable.
-pub enum Handed {
+pub enum NextAddress {
     Address {
         from: usize,
         to: usize,
-        next: Cursor,
+        next: ListCursor,
     },
     End,
     Unreadable,
@@ -31,8 +31,8 @@ pub enum Handed {
 
 // Behind one token: further on, or there is an answer.
 pub enum Move {
-    On(Cursor),
-    Done(Handed),
+    On(ListCursor),
+    Done(NextAddress),
 }
 
 // How many addresses there are.
@@ -42,16 +42,16 @@ pub enum Counted {
 }
 
 // The one address of a list that has no other.
-pub enum Only {
+pub enum OnlyAddress {
     One { from: usize, to: usize },
     Other,
 }
 
 // The cursor before the first token.
-pub fn start() -> Cursor
+pub fn start() -> ListCursor
     ensures { λ r. ⌜ r ≡ beginning ⌝ }
 {
-    Cursor {
+    ListCursor {
         at: 0,
         stage: Stage::Place,
         inside: false,
@@ -59,7 +59,7 @@ pub fn start() -> Cursor
 }
 
 // Reads one token.
-fn advance(list: &[u8], here: Cursor) -> Move
+fn advance(list: &[u8], here: ListCursor) -> Move
     ensures { λ r. ⌜ Moved (now (list .entry)) here r ⌝ }
 {
     let at = here.at;
@@ -67,37 +67,37 @@ fn advance(list: &[u8], here: Cursor) -> Move
     let inside = here.inside;
     match token::token(list, at) {
         TokenAt::Address { from, to } => match grammar::after_address(stage, inside) {
-            Follow::On(stage, inside) => Move::Done(Handed::Address {
+            Follow::On(stage, inside) => Move::Done(NextAddress::Address {
                 from,
                 to,
-                next: Cursor {
+                next: ListCursor {
                     at: to,
                     stage,
                     inside,
                 },
             }),
-            Follow::Wrong => Move::Done(Handed::Unreadable),
+            Follow::Wrong => Move::Done(NextAddress::Unreadable),
         },
         TokenAt::Other { sort, to } => match grammar::after(stage, inside, sort) {
-            Follow::On(stage, inside) => Move::On(Cursor {
+            Follow::On(stage, inside) => Move::On(ListCursor {
                 at: to,
                 stage,
                 inside,
             }),
-            Follow::Wrong => Move::Done(Handed::Unreadable),
+            Follow::Wrong => Move::Done(NextAddress::Unreadable),
         },
         TokenAt::End => {
             if grammar::may_end(stage, inside) {
-                return Move::Done(Handed::End);
+                return Move::Done(NextAddress::End);
             }
-            Move::Done(Handed::Unreadable)
+            Move::Done(NextAddress::Unreadable)
         }
-        TokenAt::Unreadable => Move::Done(Handed::Unreadable),
+        TokenAt::Unreadable => Move::Done(NextAddress::Unreadable),
     }
 }
 
 // The next address from the cursor on. Of an unreadable list addresses may be handed out before the place where that shows.
-pub fn next_address(list: &[u8], cursor: Cursor) -> Handed
+pub fn next_address(list: &[u8], cursor: ListCursor) -> NextAddress
     ensures { λ r. ⌜ Hands (now (list .entry)) cursor r ⌝ }
 {
     let mut here = cursor;
@@ -117,7 +117,7 @@ pub fn count(list: &[u8]) -> Counted
     let mut here = start();
     loop {
         match next_address(list, here) {
-            Handed::Address {
+            NextAddress::Address {
                 from: _,
                 to: _,
                 next,
@@ -125,28 +125,28 @@ pub fn count(list: &[u8]) -> Counted
                 n += 1;
                 here = next;
             }
-            Handed::End => return Counted::Count(n),
-            Handed::Unreadable => return Counted::Unreadable,
+            NextAddress::End => return Counted::Count(n),
+            NextAddress::Unreadable => return Counted::Unreadable,
         }
     }
 }
 
 // The one address of a list of exactly one.
-pub fn only_address(list: &[u8]) -> Only
+pub fn only_address(list: &[u8]) -> OnlyAddress
     ensures { λ r. ⌜ onlyIn (now (list .entry)) r ≡ onlyOne (orElse [] (addresses (now (list .entry)))) ⌝ }
     ensures { λ r. ⌜ Within (now (list .entry)) r ⌝ }
 {
     match next_address(list, start()) {
-        Handed::Address { from, to, next } => match next_address(list, next) {
-            Handed::Address {
+        NextAddress::Address { from, to, next } => match next_address(list, next) {
+            NextAddress::Address {
                 from: _,
                 to: _,
                 next: _,
-            } => Only::Other,
-            Handed::End => Only::One { from, to },
-            Handed::Unreadable => Only::Other,
+            } => OnlyAddress::Other,
+            NextAddress::End => OnlyAddress::One { from, to },
+            NextAddress::Unreadable => OnlyAddress::Other,
         },
-        Handed::End => Only::Other,
-        Handed::Unreadable => Only::Other,
+        NextAddress::End => OnlyAddress::Other,
+        NextAddress::Unreadable => OnlyAddress::Other,
     }
 }

@@ -14,9 +14,9 @@ use Rattle.octets.specs.Options.{orElse, isSome}
 use Rattle.octets.proofs.Options.{some-front, else-front}
 use Rattle.addresslist.specs.List.{addresses}
 use Rattle.addresslist.specs.Answers.{between, beginning, left, Hands}
-use Rattle.addresslist.specs.declared.Cursor.{Cursor}
-use Rattle.addresslist.specs.declared.Handed.{Handed}
-use Rattle.addresslist.specs.declared.Handed.the-variants.{Address, End, Unreadable}
+use Rattle.addresslist.specs.declared.ListCursor.{ListCursor}
+use Rattle.addresslist.specs.declared.NextAddress.{NextAddress}
+use Rattle.addresslist.specs.declared.NextAddress.the-variants.{Address, End, Unreadable}
 use Rattle.addresslist.proofs.Handing.{left-beginning, hand-gives, hand-plain, hand-from, hand-upto, hand-less, hand-end, hand-unread}
 use Rattle.advice.specs.Advice.{anyDisable, allEncrypt, anyDiscourage, overall, adviceIn, advised}
 use Rattle.advice.specs.Places.{lowerOf}
@@ -43,8 +43,8 @@ overall-two Available Available rest = refl
 overall-two Available Encrypt rest = refl
 overall-two Encrypt b rest = refl
 
-module _ (s : List ℕ) (here : Cursor) (k : Handed) (p : Hands s here k) where
-  module _ (r : isSome (left s here) ≡ true) (from to : ℕ) (next : Cursor) (q : k ≡ Address from to next) where
+module _ (s : List ℕ) (here : ListCursor) (k : NextAddress) (p : Hands s here k) where
+  module _ (r : isSome (left s here) ≡ true) (from to : ℕ) (next : ListCursor) (q : k ≡ Address from to next) where
     pub handed-rest : isSome (left s next) ≡ true
     handed-rest = sym (some-front (between s from to) (left s next)) ∙ rw (hand-gives s here k p from to next q) at r
 
@@ -62,7 +62,7 @@ module _ (s : List ℕ) (here : Cursor) (k : Handed) (p : Hands s here k) where
   handed-unread q = rw (hand-unread s here k p q)
 
 -- The loop: all of the list comes to what is left of it, behind the lowest so far.
-pub record Lowest (t s : List ℕ) (m reply : Bool) (least : Advice) (here : Cursor) : Type 0 where
+pub record Lowest (t s : List ℕ) (m reply : Bool) (least : Advice) (here : ListCursor) : Type 0 where
   pub readable : isSome (left s here) ≡ true
   pub so-far : overall (advised t m reply (orElse [] (addresses s))) ≡ overall (least ∷ advised t m reply (orElse [] (left s here)))
 
@@ -71,7 +71,7 @@ module _ (t s : List ℕ) (m reply : Bool) where
   unfolding overall anyDisable allEncrypt anyDiscourage
   encrypt-first list = refl
 
-  pub lowest-begin : (here : Cursor) → here ≡ beginning → isSome (addresses s) ≡ true → Lowest t s m reply Encrypt here
+  pub lowest-begin : (here : ListCursor) → here ≡ beginning → isSome (addresses s) ≡ true → Lowest t s m reply Encrypt here
   lowest-begin here e g =
       let b : left s here ≡ addresses s = left-beginning s here e in
       record {
@@ -79,9 +79,9 @@ module _ (t s : List ℕ) (m reply : Bool) where
         so-far = rw b (encrypt-first (advised t m reply (orElse [] (addresses s))));
       }
 
-  module _ (least : Advice) (here : Cursor) (k : Handed) (h : Lowest t s m reply least here) (p : Hands s here k) where
+  module _ (least : Advice) (here : ListCursor) (k : NextAddress) (h : Lowest t s m reply least here) (p : Hands s here k) where
     pub lowest-on :
-        (from to : ℕ) (next : Cursor) → k ≡ Address from to next → (one low : Advice) → one ≡ adviceIn t m reply (between s from to)
+        (from to : ℕ) (next : ListCursor) → k ≡ Address from to next → (one low : Advice) → one ≡ adviceIn t m reply (between s from to)
         → low ≡ lowerOf least one → Lowest t s m reply low next
     unfolding advised
     lowest-on from to next q one low e f =

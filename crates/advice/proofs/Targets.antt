@@ -18,9 +18,9 @@ use Rattle.slots.specs.declared.Slot.{Slot}
 use Rattle.slots.specs.Slot.{numbersOf}
 use Rattle.addresslist.specs.List.{addresses}
 use Rattle.addresslist.specs.Answers.{between, beginning, left, Hands}
-use Rattle.addresslist.specs.declared.Cursor.{Cursor}
-use Rattle.addresslist.specs.declared.Handed.{Handed}
-use Rattle.addresslist.specs.declared.Handed.the-variants.{Address, End, Unreadable}
+use Rattle.addresslist.specs.declared.ListCursor.{ListCursor}
+use Rattle.addresslist.specs.declared.NextAddress.{NextAddress}
+use Rattle.addresslist.specs.declared.NextAddress.the-variants.{Address, End, Unreadable}
 use Rattle.addresslist.proofs.Handing.{left-beginning, hand-plain, hand-from, hand-upto, hand-less}
 use Rattle.table.specs.Table.{slotAt, found}
 use Rattle.table.specs.declared.Found.{Found}
@@ -58,18 +58,18 @@ module _ (t a : List ℕ) (g : Found) (e : g ≡ found t (canonical a)) where
 pub ruleset targeting = (target-nothing, target-there, located-in, located-low, needs)
 
 -- The loop: the place in the whole list is the place that is left in the rest of it.
-pub record Reaches (t s : List ℕ) (place rest : ℕ) (here : Cursor) : Type 0 where
+pub record Reaches (t s : List ℕ) (place rest : ℕ) (here : ListCursor) : Type 0 where
   pub readable : isSome (left s here) ≡ true
   pub so-far : targetAt t (orElse [] (addresses s)) place ≡ targetAt t (orElse [] (left s here)) rest
 
 module _ (t s : List ℕ) (place : ℕ) where
-  pub reaches-begin : (here : Cursor) → here ≡ beginning → isSome (addresses s) ≡ true → Reaches t s place place here
+  pub reaches-begin : (here : ListCursor) → here ≡ beginning → isSome (addresses s) ≡ true → Reaches t s place place here
   reaches-begin here e g =
       let b : left s here ≡ addresses s = left-beginning s here e in
       record { readable = rw b g; so-far = rw b }
 
-  module _ (rest : ℕ) (here : Cursor) (k : Handed) (h : Reaches t s place rest here) (p : Hands s here k) where
-    module _ (from to : ℕ) (next : Cursor) (q : k ≡ Address from to next) where
+  module _ (rest : ℕ) (here : ListCursor) (k : NextAddress) (h : Reaches t s place rest here) (p : Hands s here k) where
+    module _ (from to : ℕ) (next : ListCursor) (q : k ≡ Address from to next) where
       pub reaches-here : rest ≡ 0 → (r : Part) → r ≡ targetPart t (between s from to) → r ≡ targetAt t (orElse [] (addresses s)) place
       unfolding targetAt
       reaches-here z r e =

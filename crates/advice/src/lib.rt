@@ -12,7 +12,7 @@ ghost use Rattle.table.specs.Table.{checked, found};
 ghost use Rattle.table.specs.declared.Checked.the-variants.{Sound};
 ghost use Rattle.advice.specs.Advice.{raised, adviceIn, overall, advised};
 ghost use Rattle.advice.specs.Places.{ratedAs, lowerOf, keyPart, targetPart, targetAt};
-use addresslist::Handed;
+use addresslist::NextAddress;
 use slots::Slot;
 use table::Found;
 
@@ -130,13 +130,13 @@ pub fn overall_advice(table: &[u8], recipients: &[u8], mutual: bool, reply: bool
     let mut here = addresslist::start();
     loop {
         match addresslist::next_address(recipients, here) {
-            Handed::Address { from, to, next } => {
+            NextAddress::Address { from, to, next } => {
                 let one = advise(table, &recipients[from..to], mutual, reply);
                 least = lower(least, one);
                 here = next;
             }
-            Handed::End => return least,
-            Handed::Unreadable => return least,
+            NextAddress::End => return least,
+            NextAddress::Unreadable => return least,
         }
     }
 }
@@ -188,20 +188,20 @@ pub fn target_at(table: &[u8], recipients: &[u8], place: usize) -> Part
     let mut here = addresslist::start();
     loop {
         match addresslist::next_address(recipients, here) {
-            Handed::Address { from, to, next } => {
+            NextAddress::Address { from, to, next } => {
                 if left == 0 {
                     return target(table, &recipients[from..to]);
                 }
                 left -= 1;
                 here = next;
             }
-            Handed::End => {
+            NextAddress::End => {
                 return Part {
                     start: 0,
                     length: 0,
                 };
             }
-            Handed::Unreadable => {
+            NextAddress::Unreadable => {
                 return Part {
                     start: 0,
                     length: 0,

@@ -1,5 +1,5 @@
 // Base64 as key data has it: a text is decoded with its blanks left out. What is right is said by `decode` of
-// letters/specs/Base64.antt. Octets are written as the lines of a field by the crate `lines`.
+// letters/specs/Base64.antt. Octets are written as the lines of a field by the crate `keylines`.
 ghost use Prim.Native.Nat.{_+_, _≤_};
 ghost use mathlib.Core.Path.{_≡_};
 ghost use mathlib.Core.List.{[], _∷_};
@@ -21,7 +21,7 @@ pub enum Decoded {
 }
 
 // How far a text has been read, and its octets are written.
-struct Reached {
+struct BothReached {
     read: usize,
     wrote: usize,
 }
@@ -46,7 +46,7 @@ fn put_three(out: &mut [u8], at: usize, x: u8, y: u8, z: u8)
 
 // Writes the octets of the groups from the place `at` on, behind blanks, to the places from `to` on, as long as each group is
 // four letters side by side and has room.
-fn write_groups(table: &[u8; 256], src: &[u8], at: usize, out: &mut [u8], to: usize) -> Reached
+fn write_groups(table: &[u8; 256], src: &[u8], at: usize, out: &mut [u8], to: usize) -> BothReached
     requires { ⌜ Signs (now table) × (at ≤ length (now src)) × (to ≤ length (now out)) ⌝ }
     ensures { λ r. ⌜ Run (now (src .entry)) at (now (out .entry)) to (now (out .exit)) (r .read) (r .wrote) ⌝ }
 {
@@ -59,10 +59,10 @@ fn write_groups(table: &[u8; 256], src: &[u8], at: usize, out: &mut [u8], to: us
                 o += 3;
                 i += 4;
             }
-            Whole::Other => return Reached { read: i, wrote: o },
+            Whole::Other => return BothReached { read: i, wrote: o },
         }
     }
-    Reached { read: i, wrote: o }
+    BothReached { read: i, wrote: o }
 }
 
 // Writes the octets that the text goes on with from the place `at` on, whatever these are, to the places from `to` on.

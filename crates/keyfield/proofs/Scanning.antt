@@ -14,18 +14,18 @@ use Rattle.address.specs.Pieces.{pieces}
 use Rattle.address.proofs.Pieces.{pieces-first}
 use Rattle.keyfield.specs.Field.{attributeOf, step, saidFrom, saidOf, saidWith, ifLast}
 use Rattle.keyfield.specs.Answers.{part, Within, FirstAt, addressAt, Stands, stated, stepAt, NextWithin, Steps, wholeOf, saidAt, WholeWithin, Scans}
-use Rattle.keyfield.specs.declared.Place.{Place}
-use Rattle.keyfield.specs.declared.Place.the-variants.{Unseen, At}
+use Rattle.keyfield.specs.declared.AddressAt.{AddressAt}
+use Rattle.keyfield.specs.declared.AddressAt.the-variants.{Unseen, At}
 use Rattle.keyfield.specs.declared.Preference.{Preference}
 use Rattle.keyfield.specs.declared.Preference.the-variants.{Unstated}
-use Rattle.keyfield.specs.declared.Next.{Next}
-use Rattle.keyfield.specs.declared.Next.the-variants.{On, Last, Spoils}
+use Rattle.keyfield.specs.declared.NextPiece.{NextPiece}
+use Rattle.keyfield.specs.declared.NextPiece.the-variants.{On, Last, Spoils}
 use Rattle.keyfield.specs.declared.Scanned.{Scanned}
 use Rattle.keyfield.specs.declared.Scanned.the-variants.{Broken}
 use Rattle.keyfield.proofs.Parts.{part-rest}
 use Rattle.keyfield.proofs.Cutting.{cut-pieces, cut-last}
 
-pub record Scanning (s : List ℕ) (at : ℕ) (address : Place) (preference : Preference) : Type 0 where
+pub record Scanning (s : List ℕ) (at : ℕ) (address : AddressAt) (preference : Preference) : Type 0 where
   pub upto : at ≤ length s
   pub stands : Stands s address
   pub so-far : saidOf s ≡ saidFrom (addressAt s address) (stated preference) (pieces 59 (part s at (length s)))
@@ -35,19 +35,19 @@ unfolding saidOf addressAt stated Stands
 scan-begin s = record { upto = omega arith; stands = tt; so-far = rw (part-rest s 0) }
 
 -- what has been read at the end is there
-whole-said : (s : List ℕ) (address : Place) (preference : Preference) (start end : ℕ)
+whole-said : (s : List ℕ) (address : AddressAt) (preference : Preference) (start end : ℕ)
     → saidAt s (wholeOf address preference start end) ≡ saidWith (addressAt s address) (stated preference) (part s start end)
 unfolding saidAt wholeOf saidWith addressAt
 whole-said s Unseen preference start end = refl
 whole-said s (At from to) preference start end = refl
 
-whole-there : (s : List ℕ) (address : Place) (preference : Preference) (start end : ℕ)
+whole-there : (s : List ℕ) (address : AddressAt) (preference : Preference) (start end : ℕ)
     → Stands s address → Within s start end → WholeWithin s (wholeOf address preference start end)
 unfolding WholeWithin wholeOf Stands
 whole-there s Unseen preference start end h w = tt
 whole-there s (At from to) preference start end h w = (h, w)
 
-module _ (s : List ℕ) (at : ℕ) (address : Place) (preference : Preference) (h : Scanning s at address preference) where
+module _ (s : List ℕ) (at : ℕ) (address : AddressAt) (preference : Preference) (h : Scanning s at address preference) where
   pub scan-left : Within s at (length s)
   scan-left = record { order = h .upto; upto = omega arith }
 
@@ -58,8 +58,8 @@ module _ (s : List ℕ) (at : ℕ) (address : Place) (preference : Preference) (
     pub scan-within : Within s at end
     scan-within = record { order = omega (arith, f .is); upto = f .upto }
 
-    module _ (n : Next) (t : Steps s n (step (addressAt s address) (stated preference) (attributeOf (part s at end)))) where
-      comes : (x : Next) → n ≡ x → step (addressAt s address) (stated preference) (attributeOf (part s at end)) ≡ stepAt s x
+    module _ (n : NextPiece) (t : Steps s n (step (addressAt s address) (stated preference) (attributeOf (part s at end)))) where
+      comes : (x : NextPiece) → n ≡ x → step (addressAt s address) (stated preference) (attributeOf (part s at end)) ≡ stepAt s x
       comes x e = sym (t .is) ∙ ap (stepAt s) e
 
       -- a piece that spoils the field does so whatever follows
@@ -73,7 +73,7 @@ module _ (s : List ℕ) (at : ℕ) (address : Place) (preference : Preference) (
         more : saidOf s ≡ saidFrom (addressAt s address) (stated preference) (part s at end ∷ pieces 59 (part s (end + 1) (length s)))
         more = h .so-far ∙ rw (cut-pieces s at (length s) 59 end scan-left f l)
 
-        pub scan-next : (a : Place) (p : Preference) → n ≡ On a p → Scanning s (end + 1) a p
+        pub scan-next : (a : AddressAt) (p : Preference) → n ≡ On a p → Scanning s (end + 1) a p
         unfolding saidFrom stepAt NextWithin
         scan-next a p e =
             record { upto = omega arith; stands = rw e at (t .within); so-far = more ∙ rw (saidFrom, comes (On a p) e) }
@@ -88,7 +88,7 @@ module _ (s : List ℕ) (at : ℕ) (address : Place) (preference : Preference) (
         alone : saidOf s ≡ saidFrom (addressAt s address) (stated preference) (part s at end ∷ [])
         alone = h .so-far ∙ rw (cut-last s at (length s) 59 end scan-left f l)
 
-        pub scan-keyless : (a : Place) (p : Preference) → n ≡ On a p → Scans s Broken
+        pub scan-keyless : (a : AddressAt) (p : Preference) → n ≡ On a p → Scans s Broken
         unfolding saidFrom stepAt saidAt WholeWithin
         scan-keyless a p e =
             record { is = sym (alone ∙ rw (saidFrom, comes (On a p) e)); within = tt }

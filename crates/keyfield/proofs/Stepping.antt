@@ -16,15 +16,15 @@ use Rattle.keyfield.specs.Field.{attributeOf, withAddress, withPreferenc
 use Rattle.keyfield.specs.Answers.{part, Within, attributeAt, ValueWithin, Tells, addressAt, Stands, stated, stepAt, NextWithin, Steps, wholeOf}
 use Rattle.keyfield.specs.declared.Attribute.{Attribute as Told}
 use Rattle.keyfield.specs.declared.Attribute.the-variants.{Addr, PreferEncrypt, Keydata, Ignored, Spoiling}
-use Rattle.keyfield.specs.declared.Place.{Place}
-use Rattle.keyfield.specs.declared.Place.the-variants.{Unseen, At}
+use Rattle.keyfield.specs.declared.AddressAt.{AddressAt}
+use Rattle.keyfield.specs.declared.AddressAt.the-variants.{Unseen, At}
 use Rattle.keyfield.specs.declared.Preference.{Preference}
 use Rattle.keyfield.specs.declared.Preference.the-variants.{Unstated, Mutual, NotMutual}
-use Rattle.keyfield.specs.declared.Next.{Next}
-use Rattle.keyfield.specs.declared.Next.the-variants.{On, Last, Spoils}
+use Rattle.keyfield.specs.declared.NextPiece.{NextPiece}
+use Rattle.keyfield.specs.declared.NextPiece.the-variants.{On, Last, Spoils}
 use Rattle.keyfield.specs.declared.Scanned.the-variants.{Whole, Broken}
 
-module _ (s : List ℕ) (from to : ℕ) (address : Place) (preference : Preference) where
+module _ (s : List ℕ) (from to : ℕ) (address : AddressAt) (preference : Preference) where
   module _ (w : Within s from to) (b : Bool) where
     module _ (u : address ≡ Unseen) (e : b ≡ plain (take (to - from) (drop from s))) where
       pub address-taken : b ≡ true → Steps s (On (At from to) preference) (withAddress (addressAt s address) (stated preference) (part s from to))
@@ -71,13 +71,13 @@ module _ (s : List ℕ) (from to : ℕ) (address : Place) (preference : Preferen
       within-prefer k = rw k at (t .within)
 
       pub step-addr :
-          (n : Next) → g ≡ Addr a e → Steps s n (withAddress (addressAt s address) (stated preference) (part s a e))
+          (n : NextPiece) → g ≡ Addr a e → Steps s n (withAddress (addressAt s address) (stated preference) (part s a e))
           → Steps s n (step (addressAt s address) (stated preference) (attributeOf (part s from to)))
       unfolding step attributeAt
       step-addr n k h = record { is = h .is ∙ rw (← t .is, k); within = h .within }
 
       pub step-prefer :
-          (n : Next) → g ≡ PreferEncrypt a e → Steps s n (withPreference (addressAt s address) (stated preference) (part s a e))
+          (n : NextPiece) → g ≡ PreferEncrypt a e → Steps s n (withPreference (addressAt s address) (stated preference) (part s a e))
           → Steps s n (step (addressAt s address) (stated preference) (attributeOf (part s from to)))
       unfolding step attributeAt
       step-prefer n k h = record { is = h .is ∙ rw (← t .is, k); within = h .within }
@@ -116,7 +116,7 @@ module _ (preference : Preference) where
   unfolding stated
   mutual-other u = rw u
 
-  module _ (address : Place) (start end : ℕ) where
+  module _ (address : AddressAt) (start end : ℕ) where
     pub whole-none : address ≡ Unseen → Broken ≡ wholeOf address preference start end
     unfolding wholeOf
     whole-none u = rw u

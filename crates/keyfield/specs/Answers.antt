@@ -25,12 +25,12 @@ use Rattle.keyfield.specs.Field.{Attribute, addr, preferEncrypt, keydata
 use Rattle.keyfield.specs.declared.Bounds.{Bounds}
 use Rattle.keyfield.specs.declared.Attribute.{Attribute as Told}
 use Rattle.keyfield.specs.declared.Attribute.the-variants.{Addr, PreferEncrypt, Keydata, Ignored, Spoiling}
-use Rattle.keyfield.specs.declared.Place.{Place}
-use Rattle.keyfield.specs.declared.Place.the-variants.{Unseen, At}
+use Rattle.keyfield.specs.declared.AddressAt.{AddressAt}
+use Rattle.keyfield.specs.declared.AddressAt.the-variants.{Unseen, At}
 use Rattle.keyfield.specs.declared.Preference.{Preference}
 use Rattle.keyfield.specs.declared.Preference.the-variants.{Unstated, Mutual, NotMutual}
-use Rattle.keyfield.specs.declared.Next.{Next}
-use Rattle.keyfield.specs.declared.Next.the-variants.{On, Last, Spoils}
+use Rattle.keyfield.specs.declared.NextPiece.{NextPiece}
+use Rattle.keyfield.specs.declared.NextPiece.the-variants.{On, Last, Spoils}
 use Rattle.keyfield.specs.declared.Scanned.{Scanned}
 use Rattle.keyfield.specs.declared.Scanned.the-variants.{Whole, Broken}
 use Rattle.keyfield.specs.declared.Key.{Key}
@@ -87,7 +87,7 @@ pub record Tells (s : List ℕ) (r : Told) (a : Attribute) : Type 0 where
   pub is : attributeAt s r ≡ a
   pub within : ValueWithin s r
 
-unfoldable pub addressAt : List ℕ → Place → Option (List ℕ)
+unfoldable pub addressAt : List ℕ → AddressAt → Option (List ℕ)
 addressAt s Unseen = none
 addressAt s (At from to) = some (part s from to)
 
@@ -97,7 +97,7 @@ pub record PlainAt (s : List ℕ) (from to : ℕ) : Type 0 where
   pub upto : to ≤ length s
   pub plainly : plain (part s from to) ≡ true
 
-unfoldable pub Stands : List ℕ → Place → Type 0
+unfoldable pub Stands : List ℕ → AddressAt → Type 0
 Stands s Unseen = Unit
 Stands s (At from to) = PlainAt s from to
 
@@ -106,23 +106,23 @@ stated Unstated = none
 stated Mutual = some true
 stated NotMutual = some false
 
-unfoldable pub stepAt : List ℕ → Next → Step
+unfoldable pub stepAt : List ℕ → NextPiece → Step
 stepAt s (On place preference) = on (addressAt s place) (stated preference)
 stepAt s (Last from to) = last (part s from to)
 stepAt s Spoils = spoils
 
-unfoldable pub NextWithin : List ℕ → Next → Type 0
+unfoldable pub NextWithin : List ℕ → NextPiece → Type 0
 NextWithin s (On place preference) = Stands s place
 NextWithin s (Last from to) = Within s from to
 NextWithin s Spoils = Unit
 
 -- an answer shows this step
-pub record Steps (s : List ℕ) (r : Next) (x : Step) : Type 0 where
+pub record Steps (s : List ℕ) (r : NextPiece) (x : Step) : Type 0 where
   pub is : stepAt s r ≡ x
   pub within : NextWithin s r
 
 -- where the key data stands between two places, behind what was seen before
-unfoldable pub wholeOf : Place → Preference → ℕ → ℕ → Scanned
+unfoldable pub wholeOf : AddressAt → Preference → ℕ → ℕ → Scanned
 wholeOf Unseen preference start end = Broken
 wholeOf (At from to) preference start end = Whole from to (mutualBy (stated preference)) start end
 

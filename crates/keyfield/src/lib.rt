@@ -33,7 +33,7 @@ enum Attribute {
 }
 
 // The address seen so far.
-enum Place {
+enum AddressAt {
     Unseen,
     At(usize, usize),
 }
@@ -46,8 +46,8 @@ enum Preference {
 }
 
 // What a piece comes to: the reading goes on, it is at the key data, or the field is spoiled.
-enum Next {
-    On(Place, Preference),
+enum NextPiece {
+    On(AddressAt, Preference),
     Last(usize, usize),
     Spoils,
 }
@@ -172,42 +172,60 @@ fn attribute_at(s: &[u8], from: usize, to: usize) -> Attribute
 }
 
 // "`addr`, a plain address, .. once"
-fn with_address(s: &[u8], from: usize, to: usize, address: Place, preference: Preference) -> Next
+fn with_address(
+    s: &[u8],
+    from: usize,
+    to: usize,
+    address: AddressAt,
+    preference: Preference,
+) -> NextPiece
     requires { ⌜ Within (now s) from to ⌝ }
     ensures { λ r. ⌜ Steps (now (s .entry)) r (withAddress (addressAt (now (s .entry)) address) (stated preference) (part (now (s .entry)) from to)) ⌝ }
 {
     match address {
-        Place::Unseen => {
+        AddressAt::Unseen => {
             if address::is_plain(&s[from..to]) {
-                Next::On(Place::At(from, to), preference)
+                NextPiece::On(AddressAt::At(from, to), preference)
             } else {
-                Next::Spoils
+                NextPiece::Spoils
             }
         }
-        Place::At(_, _) => Next::Spoils,
+        AddressAt::At(_, _) => NextPiece::Spoils,
     }
 }
 
 // "`prefer-encrypt` at most once, and any value but `mutual` means no preference"
-fn with_preference(s: &[u8], from: usize, to: usize, address: Place, preference: Preference) -> Next
+fn with_preference(
+    s: &[u8],
+    from: usize,
+    to: usize,
+    address: AddressAt,
+    preference: Preference,
+) -> NextPiece
     requires { ⌜ Within (now s) from to × Stands (now s) address ⌝ }
     ensures { λ r. ⌜ Steps (now (s .entry)) r (withPreference (addressAt (now (s .entry)) address) (stated preference) (part (now (s .entry)) from to)) ⌝ }
 {
     match preference {
         Preference::Unstated => {
             if octets::same(&s[from..to], b"mutual") {
-                Next::On(address, Preference::Mutual)
+                NextPiece::On(address, Preference::Mutual)
             } else {
-                Next::On(address, Preference::NotMutual)
+                NextPiece::On(address, Preference::NotMutual)
             }
         }
-        Preference::Mutual => Next::Spoils,
-        Preference::NotMutual => Next::Spoils,
+        Preference::Mutual => NextPiece::Spoils,
+        Preference::NotMutual => NextPiece::Spoils,
     }
 }
 
 // What the piece from `from` up to `to` comes to, behind the address and the preference seen so far.
-fn step_at(s: &[u8], from: usize, to: usize, address: Place, preference: Preference) -> Next
+fn step_at(
+    s: &[u8],
+    from: usize,
+    to: usize,
+    address: AddressAt,
+    preference: Preference,
+) -> NextPiece
     requires { ⌜ Within (now s) from to × Stands (now s) address ⌝ }
     ensures { λ r. ⌜ Steps (now (s .entry)) r
         (step (addressAt (now (s .entry)) address) (stated preference) (attributeOf (part (now (s .entry)) from to))) ⌝ }
@@ -215,9 +233,9 @@ fn step_at(s: &[u8], from: usize, to: usize, address: Place, preference: Prefere
     match attribute_at(s, from, to) {
         Attribute::Addr(start, end) => with_address(s, start, end, address, preference),
         Attribute::PreferEncrypt(start, end) => with_preference(s, start, end, address, preference),
-        Attribute::Keydata(start, end) => Next::Last(start, end),
-        Attribute::Ignored => Next::On(address, preference),
-        Attribute::Spoiling => Next::Spoils,
+        Attribute::Keydata(start, end) => NextPiece::Last(start, end),
+        Attribute::Ignored => NextPiece::On(address, preference),
+        Attribute::Spoiling => NextPiece::Spoils,
     }
 }
 
@@ -232,12 +250,12 @@ fn is_mutual(preference: Preference) -> bool
 }
 
 // What has been read where the key data stands last: the address must have come before.
-fn whole(address: Place, preference: Preference, start: usize, end: usize) -> Scanned
+fn whole(address: AddressAt, preference: Preference, start: usize, end: usize) -> Scanned
     ensures { λ r. ⌜ r ≡ wholeOf address preference start end ⌝ }
 {
     match address {
-        Place::Unseen => Scanned::Broken,
-        Place::At(from, to) => Scanned::Whole {
+        AddressAt::Unseen => Scanned::Broken,
+        AddressAt::At(from, to) => Scanned::Whole {
             from,
             to,
             mutual: is_mutual(preference),
@@ -252,12 +270,12 @@ fn scan(s: &[u8]) -> Scanned
     ensures { λ r. ⌜ Scans (now (s .entry)) r ⌝ }
 {
     let mut at = 0;
-    let mut address = Place::Unseen;
+    let mut address = AddressAt::Unseen;
     let mut preference = Preference::Unstated;
     loop {
         let end = find(s, at, s.len(), b';');
         match step_at(s, at, end, address, preference) {
-            Next::On(seen, stated) => {
+            NextPiece::On(seen, stated) => {
                 if s.len() <= end {
                     return Scanned::Broken;
                 }
@@ -265,13 +283,13 @@ fn scan(s: &[u8]) -> Scanned
                 preference = stated;
                 at = end + 1;
             }
-            Next::Last(start, stop) => {
+            NextPiece::Last(start, stop) => {
                 if end < s.len() {
                     return Scanned::Broken;
                 }
                 return whole(address, preference, start, stop);
             }
-            Next::Spoils => return Scanned::Broken,
+            NextPiece::Spoils => return Scanned::Broken,
         }
     }
 }

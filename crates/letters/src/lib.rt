@@ -1,5 +1,5 @@
 // The letters of Base64: the letter of a value, what a character stands for, and what four characters do. What is right is
-// said by specs/Base64.antt. Texts are decoded by the crate `base64`, and octets written as lines by the crate `lines`.
+// said by specs/Base64.antt. Texts are decoded by the crate `base64`, and octets written as lines by the crate `keylines`.
 ghost use Prim.Native.Nat.{_<_};
 ghost use mathlib.Core.Path.{_≡_};
 ghost use Rattle.letters.specs.Base64.{letter, signOf, closed, groupOf};

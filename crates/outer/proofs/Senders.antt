@@ -24,8 +24,8 @@ use Rattle.header.specs.Header.{FieldText}
 use Rattle.header.proofs.Unfolding.{value-within, value-there, value-there-from}
 use Rattle.addresslist.specs.List.{addresses}
 use Rattle.addresslist.specs.Answers.{between, onlyIn, Within}
-use Rattle.addresslist.specs.declared.Only.{Only as ListOnly}
-use Rattle.addresslist.specs.declared.Only.the-variants.{One as OneAddress, Other as NoOne}
+use Rattle.addresslist.specs.declared.OnlyAddress.{OnlyAddress as ListOnly}
+use Rattle.addresslist.specs.declared.OnlyAddress.the-variants.{One as OneAddress, Other as NoOne}
 use Rattle.addresslist.proofs.Readable.{only-plain, only-octets}
 use Rattle.slots.specs.Slot.{addressRoom}
 use Rattle.fields.specs.Fields.{fieldsIn, valuesOf}

@@ -337,13 +337,13 @@ pub extern "C" fn probe_next_address(
     inside: bool,
     places: &mut [u64],
 ) -> u64 {
-    let cursor = addresslist::Cursor {
+    let cursor = addresslist::ListCursor {
         at,
         stage: stage_of(stage),
         inside,
     };
     match addresslist::next_address(s, cursor) {
-        addresslist::Handed::Address { from, to, next } => {
+        addresslist::NextAddress::Address { from, to, next } => {
             let stage = next.stage;
             let told = [
                 from as u64,
@@ -354,8 +354,8 @@ pub extern "C" fn probe_next_address(
             ];
             tell(places, &told, 0)
         }
-        addresslist::Handed::Unreadable => 1,
-        addresslist::Handed::End => 2,
+        addresslist::NextAddress::Unreadable => 1,
+        addresslist::NextAddress::End => 2,
     }
 }
 
@@ -375,11 +375,11 @@ pub extern "C" fn probe_count(s: &[u8]) -> Answer {
 #[no_mangle]
 pub extern "C" fn probe_only(s: &[u8], places: &mut [u64]) -> u64 {
     match addresslist::only_address(s) {
-        addresslist::Only::One { from, to } => {
+        addresslist::OnlyAddress::One { from, to } => {
             let told = [from as u64, to as u64];
             tell(places, &told, 0)
         }
-        addresslist::Only::Other => 1,
+        addresslist::OnlyAddress::Other => 1,
     }
 }
 

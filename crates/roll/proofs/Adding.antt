@@ -21,9 +21,9 @@ use Rattle.octets.proofs.Writing.{Wrote, begin-at, kept, counted, put, puts, do
 use Rattle.octets.proofs.Options.{some-front, else-front}
 use Rattle.addresslist.specs.List.{addresses}
 use Rattle.addresslist.specs.Answers.{between, beginning, left, Hands, countedOf}
-use Rattle.addresslist.specs.declared.Cursor.{Cursor}
-use Rattle.addresslist.specs.declared.Handed.{Handed}
-use Rattle.addresslist.specs.declared.Handed.the-variants.{Address, End, Unreadable}
+use Rattle.addresslist.specs.declared.ListCursor.{ListCursor}
+use Rattle.addresslist.specs.declared.NextAddress.{NextAddress}
+use Rattle.addresslist.specs.declared.NextAddress.the-variants.{Address, End, Unreadable}
 use Rattle.addresslist.specs.declared.Counted.{Counted}
 use Rattle.addresslist.specs.declared.Counted.the-variants.{Count, Unreadable as Uncounted}
 use Rattle.addresslist.proofs.Handing.{left-beginning, hand-gives, hand-plain, hand-from, hand-upto, hand-less, hand-end, hand-unread}
@@ -62,13 +62,13 @@ given-front a o e =
     let h : isSome o ≡ true = sym (some-front a o) ∙ e in
     (h, ap rolled (else-front a o h) ∙ rolled-one a (orElse [] o))
 
-pub record Adding (s d out : List ℕ) (at o : ℕ) (here : Cursor) : Type 0 where
+pub record Adding (s d out : List ℕ) (at o : ℕ) (here : ListCursor) : Type 0 where
   pub fits : at + length (rolled (listedIn s)) ≤ length d
   pub readable : isSome (left s here) ≡ true
   pub so-far : Wrote (take at d ++ rolled (listedIn s)) d out o (rolled (orElse [] (left s here)))
 
 pub adding-begin :
-    (s d : List ℕ) (at : ℕ) (here : Cursor) → isSome (addresses s) ≡ true → at + length (rolled (listedIn s)) ≤ length d → here ≡ beginning
+    (s d : List ℕ) (at : ℕ) (here : ListCursor) → isSome (addresses s) ≡ true → at + length (rolled (listedIn s)) ≤ length d → here ≡ beginning
     → Adding s d d at at here
 unfolding listedIn
 adding-begin s d at here g h e =
@@ -78,12 +78,12 @@ adding-begin s d at here g h e =
       so-far = rw (left-beginning s here e) (begin-at (rolled (listedIn s)) d at h);
     }
 
-module _ (s d out : List ℕ) (at o : ℕ) (here : Cursor) (h : Adding s d out at o here) where
+module _ (s d out : List ℕ) (at o : ℕ) (here : ListCursor) (h : Adding s d out at o here) where
   pub adding-kept : length out ≡ length d
   adding-kept = kept (take at d ++ rolled (listedIn s)) d out o (rolled (orElse [] (left s here))) (h .so-far)
 
-  module _ (k : Handed) (p : Hands s here k) where
-    module _ (from to : ℕ) (next : Cursor) (q : k ≡ Address from to next) where
+  module _ (k : NextAddress) (p : Hands s here k) where
+    module _ (from to : ℕ) (next : ListCursor) (q : k ≡ Address from to next) where
       parts : (isSome (left s next) ≡ true) × (rolled (orElse [] (left s here)) ≡ entry (between s from to) ++ rolled (orElse [] (left s next)))
       parts =
           let e : left s here ≡ inFront (between s from to) (left s next) = hand-gives s here k p from to next q in

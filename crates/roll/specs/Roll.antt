@@ -1,5 +1,5 @@
 -- A roll: addresses in lent memory, each behind an octet that says its length. The recipients of a message are kept so, and the addresses that
--- are new with it. Addresses stand there as they were given; they are compared in canonical form (`among` of the crate list).
+-- are new with it. Addresses stand there as they were given; they are compared in canonical form (`among` of the crate addresslist).
 --     entry, rolled      the roll of a list of addresses
 --     unrolled           the addresses of a roll, whatever octets it has
 --     listedIn           the addresses of a list, none where it is unreadable

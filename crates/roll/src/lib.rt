@@ -9,7 +9,7 @@ ghost use Rattle.octets.specs.Options.{isSome};
 ghost use Rattle.addresslist.specs.List.{addresses, among};
 ghost use Rattle.roll.specs.Roll.{entry, rolled, unrolled, listedIn};
 use addresslist::Counted;
-use addresslist::Handed;
+use addresslist::NextAddress;
 
 // Adds an address behind what the roll has up to the place `at`, and answers where the roll ends now.
 pub fn add(roll: &mut [u8], at: usize, address: &[u8]) -> usize
@@ -44,12 +44,12 @@ fn add_readable(roll: &mut [u8], at: usize, list: &[u8]) -> usize
     let mut here = addresslist::start();
     loop {
         match addresslist::next_address(list, here) {
-            Handed::Address { from, to, next } => {
+            NextAddress::Address { from, to, next } => {
                 end = add(roll, end, &list[from..to]);
                 here = next;
             }
-            Handed::End => return end,
-            Handed::Unreadable => return end,
+            NextAddress::End => return end,
+            NextAddress::Unreadable => return end,
         }
     }
 }

@@ -18,8 +18,8 @@ use lib.Seq.{drop-drop}
 use Rattle.octets.proofs.Lists.{lt-or-le, drop-one, drop-done}
 use Rattle.tokens.specs.Tokens.{control, kindOf, afterQuote}
 use Rattle.tokens.specs.Answers.{reached, stepIn}
-use Rattle.tokens.specs.declared.Kind.{Kind}
-use Rattle.tokens.specs.declared.Kind.the-variants.{Closes, Escapes, Control, Plain}
+use Rattle.tokens.specs.declared.OctetKind.{OctetKind}
+use Rattle.tokens.specs.declared.OctetKind.the-variants.{Closes, Escapes, Control, Plain}
 use Rattle.tokens.specs.declared.StepIn.{StepIn}
 use Rattle.tokens.specs.declared.StepIn.the-variants.{On, Ends, Stops}
 use Rattle.tokens.specs.declared.Reached.{Reached}
@@ -73,7 +73,7 @@ reads true x s = go (control x) refl
     go false e = goes false (rw (afterQuote, e))
 reads false x s = go (kindOf 34 x) refl
   where
-    go : (k : Kind) → kindOf 34 x ≡ k → Reads false x s
+    go : (k : OctetKind) → kindOf 34 x ≡ k → Reads false x s
     go Closes e = ended (rw (afterQuote, e))
     go Escapes e = goes true (rw (afterQuote, e))
     go Control e = stuck (rw (afterQuote, e))

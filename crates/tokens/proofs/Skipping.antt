@@ -21,8 +21,8 @@ use Rattle.octets.proofs.Lists.{drop-one, drop-done}
 use Rattle.octets.specs.Octets.{blank}
 use Rattle.tokens.specs.Tokens.{control, kindOf, depth, past, skipped}
 use Rattle.tokens.specs.Answers.{reached, opened, Passing, Passed}
-use Rattle.tokens.specs.declared.Kind.{Kind}
-use Rattle.tokens.specs.declared.Kind.the-variants.{Closes, Escapes, Control, Plain}
+use Rattle.tokens.specs.declared.OctetKind.{OctetKind}
+use Rattle.tokens.specs.declared.OctetKind.the-variants.{Closes, Escapes, Control, Plain}
 use Rattle.tokens.specs.declared.Reached.{Reached}
 use Rattle.tokens.specs.declared.Reached.the-variants.{To, Unreadable}
 use Rattle.tokens.proofs.Places.{none-or-some, Suffix, whole, behind, Left, reached-at, reached-to, reached-none}
@@ -90,7 +90,7 @@ reads (suc n) false x s = go (eqb x 40) refl
     room q true e = goes (suc (suc n)) false (rw (past, q, e))
     room q false e = stuck (rw (past, q, e))
 
-    inside : eqb x 40 ≡ false → (k : Kind) → kindOf 41 x ≡ k → Reads (suc n) false x s
+    inside : eqb x 40 ≡ false → (k : OctetKind) → kindOf 41 x ≡ k → Reads (suc n) false x s
     inside q Closes e = goes n false (rw (past, q, e))
     inside q Escapes e = goes (suc n) true (rw (past, q, e))
     inside q Control e = stuck (rw (past, q, e))

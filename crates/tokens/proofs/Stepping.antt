@@ -16,8 +16,8 @@ use lib.Seq.{drop-drop}
 use Rattle.octets.proofs.Lists.{drop-one, drop-done}
 use Rattle.tokens.specs.Tokens.{control, kindOf}
 use Rattle.tokens.specs.Answers.{takes, stepIn}
-use Rattle.tokens.specs.declared.Kind.{Kind}
-use Rattle.tokens.specs.declared.Kind.the-variants.{Closes, Escapes, Control, Plain}
+use Rattle.tokens.specs.declared.OctetKind.{OctetKind}
+use Rattle.tokens.specs.declared.OctetKind.the-variants.{Closes, Escapes, Control, Plain}
 use Rattle.tokens.specs.declared.StepIn.{StepIn}
 use Rattle.tokens.specs.declared.StepIn.the-variants.{On, Ends, Stops}
 
@@ -26,7 +26,7 @@ module _ (closing : ℕ) (s : List ℕ) (i : ℕ) where
   unfolding stepIn
   step-end l = rw drop-done
 
-  module _ (l : i < length s) (k : Kind) (e : k ≡ kindOf closing (getD s i 0)) where
+  module _ (l : i < length s) (k : OctetKind) (e : k ≡ kindOf closing (getD s i 0)) where
     pub step-closes : k ≡ Closes → Ends (i + 1) ≡ stepIn closing i (drop i s)
     unfolding stepIn
     step-closes q = rw (drop-one s i l, stepIn, sym e ∙ q)
@@ -92,7 +92,7 @@ module _ (read : Bool → List ℕ → Option (List ℕ)) (close : List ℕ → 
               (omega arith, omega (arith, t .0, length-drop (i + 1) s), here ∙ rw e (t .1 ∙ rw (drop-drop, two)))
           by-takes false f e = subst Moved (step-refused closing s i l _ refl e _ refl f) (here ∙ rw e (takes-false end taken (drop (i + 1) s) f))
 
-          by-kind : (k : Kind) → kindOf closing (getD s i 0) ≡ k → Moved (stepIn closing i (drop i s))
+          by-kind : (k : OctetKind) → kindOf closing (getD s i 0) ≡ k → Moved (stepIn closing i (drop i s))
           by-kind Closes e = subst Moved (step-closes closing s i l _ refl e) (omega arith, omega arith, here ∙ rw e)
           by-kind Escapes e = by-takes (takes (drop (i + 1) s)) refl e
           by-kind Control e = subst Moved (step-control closing s i l _ refl e) (here ∙ rw e)

@@ -12,7 +12,7 @@ use lib.ListN.{length, getD, drop}
 use Rattle.octets.proofs.Lists.{drop-one, drop-done}
 use Rattle.tokens.specs.Tokens.{control, kindOf}
 use Rattle.tokens.specs.Answers.{takes}
-use Rattle.tokens.specs.declared.Kind.the-variants.{Closes, Escapes, Control, Plain}
+use Rattle.tokens.specs.declared.OctetKind.the-variants.{Closes, Escapes, Control, Plain}
 
 module _ (closing x : ℕ) where
   pub kind-closes : x ≡ closing → Closes ≡ kindOf closing x

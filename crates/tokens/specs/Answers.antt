@@ -10,7 +10,7 @@ use mathlib.Core.Bool.{Bool, true, false, not}
 use lib.ListN.{length, getD, drop}
 use Rattle.octets.specs.Octets.{octet}
 use Rattle.tokens.specs.Tokens.{control, kindOf, depth, past}
-use Rattle.tokens.specs.declared.Kind.the-variants.{Closes, Escapes, Control, Plain}
+use Rattle.tokens.specs.declared.OctetKind.the-variants.{Closes, Escapes, Control, Plain}
 use Rattle.tokens.specs.declared.StepIn.{StepIn}
 use Rattle.tokens.specs.declared.StepIn.the-variants.{On, Ends, Stops}
 use Rattle.tokens.specs.declared.Reached.{Reached}

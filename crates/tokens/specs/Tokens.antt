@@ -10,8 +10,8 @@ use mathlib.Core.List.{List, [], _∷_}
 use mathlib.Core.Option.{Option, some, none}
 use lib.Dec.{ltb, eqb}
 use Rattle.octets.specs.Octets.{octet, tab, blank}
-use Rattle.tokens.specs.declared.Kind.{Kind}
-use Rattle.tokens.specs.declared.Kind.the-variants.{Closes, Escapes, Control, Plain}
+use Rattle.tokens.specs.declared.OctetKind.{OctetKind}
+use Rattle.tokens.specs.declared.OctetKind.the-variants.{Closes, Escapes, Control, Plain}
 
 -- "control octets (below 32, and 127) other than tab"
 unfoldable pub control : ℕ → Bool
@@ -19,7 +19,7 @@ control x = (ltb x 32 || eqb x 127) && not (eqb x tab)
 
 -- What an octet is inside a comment or a quoted string, by the octet that closes it. "a backslash takes the next octet with it in comments
 -- and quoted strings"; all else is plain, a quote inside a comment and a parenthesis inside a quoted string too.
-unfoldable pub kindOf : ℕ → ℕ → Kind
+unfoldable pub kindOf : ℕ → ℕ → OctetKind
 kindOf closing x = cond (eqb x closing) Closes (cond (eqb x (octet "\\")) Escapes (cond (control x) Control Plain))
 
 -- "A comment may hold comments, to depth 16, the outer one at 1"

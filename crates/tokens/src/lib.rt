@@ -11,7 +11,7 @@ ghost use Rattle.tokens.specs.Answers.{reached, takes as takesOf, stepIn
 const DEPTH: usize = 16;
 
 // What an octet is inside a comment or a quoted string.
-pub enum Kind {
+pub enum OctetKind {
     Closes,
     Escapes,
     Control,
@@ -40,19 +40,19 @@ pub fn is_control(x: u8) -> bool
 }
 
 // What `x` is inside a comment or a quoted string that `closing` closes.
-fn kind_of(closing: u8, x: u8) -> Kind
+fn kind_of(closing: u8, x: u8) -> OctetKind
     ensures { λ r. ⌜ r ≡ kindOf closing x ⌝ }
 {
     if x == closing {
-        return Kind::Closes;
+        return OctetKind::Closes;
     }
     if x == b'\\' {
-        return Kind::Escapes;
+        return OctetKind::Escapes;
     }
     if is_control(x) {
-        return Kind::Control;
+        return OctetKind::Control;
     }
-    Kind::Plain
+    OctetKind::Plain
 }
 
 // Does an octet stand at the place `at` that a backslash before it may take?
@@ -73,16 +73,16 @@ fn step_in(closing: u8, s: &[u8], at: usize) -> StepIn
         return StepIn::Stops;
     }
     match kind_of(closing, s[at]) {
-        Kind::Closes => StepIn::Ends(at + 1),
-        Kind::Escapes => {
+        OctetKind::Closes => StepIn::Ends(at + 1),
+        OctetKind::Escapes => {
             if takes(s, at + 1) {
                 StepIn::On(at + 2)
             } else {
                 StepIn::Stops
             }
         }
-        Kind::Control => StepIn::Stops,
-        Kind::Plain => StepIn::On(at + 1),
+        OctetKind::Control => StepIn::Stops,
+        OctetKind::Plain => StepIn::On(at + 1),
     }
 }
 
