@@ -1,7 +1,9 @@
 -- "Refusal numbers, in order of checking", of paper 01.
 --     numberOf    the number of a refusal
+--     wordsOf     the words of a refusal: the C header, the README and the Python package say the same
 --     indexOf     "A refusal carries its number (2 also the index)": the lowest broken slot's; 0 with all others
 use Prim.Native.Nat.{ℕ}
+use Prim.Native.String.{String}
 use Rattle.refusals.specs.declared.Refusal.{Refusal}
 use Rattle.refusals.specs.declared.Refusal.the-variants.{TableLength, BrokenSlot, ReceiptTime, OuterBlock, Sender, Report, PayloadBlock, NoFreeSlot, OwnAddress, Recipients, KeyLength, OutputLength}
 
@@ -18,6 +20,20 @@ numberOf OwnAddress = 9
 numberOf Recipients = 10
 numberOf KeyLength = 11
 numberOf OutputLength = 12
+
+abbrev pub wordsOf : Refusal → String
+wordsOf TableLength = "table length isn't 1 to 256 whole slots"
+wordsOf (BrokenSlot i) = "a slot is neither free nor sound"
+wordsOf ReceiptTime = "receipt time above the limit"
+wordsOf OuterBlock = "outer header block unreadable"
+wordsOf Sender = "not exactly one From field, or it isn't a readable list of exactly one address"
+wordsOf Report = "a Content-Type is multipart/report"
+wordsOf PayloadBlock = "gossip is taken and the payload block is unreadable"
+wordsOf NoFreeSlot = "more new addresses than free slots"
+wordsOf OwnAddress = "own address argument isn't one plain address"
+wordsOf Recipients = "recipient list unreadable, or not 1 to 100 addresses"
+wordsOf KeyLength = "key argument isn't 1 to 2,048 octets"
+wordsOf OutputLength = "output shorter than the field, or fewer than 11 numbers lent"
 
 abbrev pub indexOf : Refusal → ℕ
 indexOf TableLength = 0
