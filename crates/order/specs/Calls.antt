@@ -12,7 +12,7 @@ use Rattle.refusals.specs.Rows.{firstOf, answerOf, unlessRefused}
 use Rattle.refusals.specs.declared.Answer.{Answer}
 use Rattle.update.specs.Message.{Message}
 use Rattle.process.specs.Processing.{messageRows, messageOf, refusedProcessing, leftByProcessing}
-use Rattle.process.specs.declared.Gossip.{Gossip}
+use Rattle.settings.specs.declared.Gossip.{Gossip}
 
 -- "each with its own receipt time and gossip setting"
 pub record Call : Type 0 where

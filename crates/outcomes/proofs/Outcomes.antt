@@ -15,7 +15,7 @@ use Rattle.refusals.specs.declared.Refusal.{Refusal}
 use Rattle.refusals.specs.declared.Answer.{Answer}
 use Rattle.refusals.specs.declared.Answer.the-variants.{Refused}
 use Rattle.inspect.proofs.Showing.{refused-untouched as unshown}
-use Rattle.process.specs.declared.Gossip.{Gossip}
+use Rattle.settings.specs.declared.Gossip.{Gossip}
 use Rattle.process.proofs.Outcomes.{refused-untouched as unprocessed}
 use Rattle.recommend.specs.declared.Recommended.{Recommended}
 use Rattle.names.specs.Names.{autocrypt as autocryptName, gossip as gossipName}

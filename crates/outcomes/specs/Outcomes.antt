@@ -18,7 +18,7 @@ use Rattle.refusals.specs.declared.Refusal.{Refusal}
 use Rattle.refusals.specs.declared.Answer.{Answer}
 use Rattle.inspect.specs.Inspecting.{tableRows, refusedShowing, leftByShowing}
 use Rattle.process.specs.Processing.{refusedProcessing, leftByProcessing}
-use Rattle.process.specs.declared.Gossip.{Gossip}
+use Rattle.settings.specs.declared.Gossip.{Gossip}
 use Rattle.recommend.specs.Recommending.{recommendedOf, targetPartOf, targetKeyOf}
 use Rattle.recommend.specs.declared.Recommended.{Recommended}
 use Rattle.names.specs.Names.{autocrypt as autocryptName, gossip as gossipName}

@@ -39,8 +39,9 @@ use Rattle.fields.specs.Fields.{fieldsIn}
 use Rattle.fields.proofs.Values.{fields-read}
 use Rattle.outer.specs.Outer.{senderIn, isReported}
 use Rattle.delivery.proofs.Good.{message-good as by-blocks}
-use Rattle.process.specs.Processing.{taken, payloadIn, messageRows, messageOf, roomRows, processingRows, refusedProcessing, leftByProcessing}
-use Rattle.process.specs.declared.Gossip.{Gossip}
+use Rattle.settings.specs.Settings.{taken}
+use Rattle.process.specs.Processing.{payloadIn, messageRows, messageOf, roomRows, processingRows, refusedProcessing, leftByProcessing}
+use Rattle.settings.specs.declared.Gossip.{Gossip}
 
 -- there is a sender
 sender-there : (o : Option (List ℕ)) → isSome o ≡ true → o ≡ some (orElse [] o)

@@ -1,7 +1,6 @@
 -- Processing: the ways through the code, stage by stage.
---     taken-..                       the gossip setting
 --     message-taken, message-skipped     the message, by the setting, where the sender is known
---     the rulesets                   taking, for `is_taken`; delivering, for `deliver`; sending, for `process_from`; asking, for `process_with`;
+--     the rulesets                   delivering, for `deliver`; sending, for `process_from`; asking, for `process_with`;
 --                                    making-room, for `process_read`; opening, for `process_sound`; processing, for `process`
 -- Assumes nothing.
 use Prim.Native.Nat.{ℕ, _-_, _<_, _≤_}
@@ -45,26 +44,10 @@ use Rattle.outer.specs.declared.Sender.the-variants.{Address, NotOne}
 use Rattle.outer.proofs.Senders.{sender-canonical, answer-none, left-is, left-within}
 use Rattle.delivery.specs.Delivery.{messageBy, delivered}
 use Rattle.delivery.proofs.Delivering.{block-short}
-use Rattle.process.specs.Processing.{taken, payloadIn, messageRows, messageOf, roomRows, refusedProcessing, processingRows, leftByProcessing}
+use Rattle.settings.specs.Settings.{taken}
+use Rattle.process.specs.Processing.{payloadIn, messageRows, messageOf, roomRows, refusedProcessing, processingRows, leftByProcessing}
 use Rattle.process.specs.Stages.{restRows, answerFrom, leftFrom, answerWith, leftWith, Opened, Roomy, Sent, Readied}
-use Rattle.process.specs.declared.Gossip.{Gossip}
-use Rattle.process.specs.declared.Gossip.the-variants.{Take, Skip, Unset}
-
--- the gossip setting, in each arm of the match
-module _ (g : Gossip) where
-  pub taken-take : g ≡ Take → true ≡ taken g
-  unfolding taken
-  taken-take e = rw e
-
-  pub taken-skip : g ≡ Skip → false ≡ taken g
-  unfolding taken
-  taken-skip e = rw e
-
-  pub taken-unset : g ≡ Unset → true ≡ taken g
-  unfolding taken
-  taken-unset e = rw e
-
-pub ruleset taking = (taken-take, taken-skip, taken-unset, needs)
+use Rattle.settings.specs.declared.Gossip.{Gossip}
 
 -- `deliver`: there is room, or there is not
 module _ (t : List ℕ) (receipt : ℕ) (sender outer payload : List ℕ) where

@@ -1,12 +1,12 @@
 -- Processing a message, of paper 01: refusals 1 to 8 in order, and the table afterwards.
---     taken, payloadIn                        the gossip setting, and the fields in which gossip is looked for
+--     payloadIn                               the fields in which gossip is looked for
 --     messageRows                             rows 3 to 7, for which no table is asked
 --     messageOf                               what the message brings, where none of them holds
 --     roomRows                                row 8
 --     processingRows, refusedProcessing       all of them
 --     leftByProcessing                        what the table holds afterwards
 use Prim.Native.Nat.{ℕ}
-use mathlib.Core.Bool.{Bool, true, false, not, _&&_}
+use mathlib.Core.Bool.{true, false, not, _&&_}
 use mathlib.Core.List.{List, [], _∷_, _++_}
 use mathlib.Core.Option.{Option}
 use lib.Dec.{leb}
@@ -21,14 +21,8 @@ use Rattle.update.specs.Message.{Message, hasRoom, applied}
 use Rattle.fields.specs.Fields.{fieldsIn}
 use Rattle.outer.specs.Outer.{senderIn, isReported}
 use Rattle.delivery.specs.Delivery.{messageBy}
-use Rattle.process.specs.declared.Gossip.{Gossip}
-use Rattle.process.specs.declared.Gossip.the-variants.{Take, Skip, Unset}
-
--- "The gossip setting is take, skip or unset; unset takes."
-unfoldable pub taken : Gossip → Bool
-taken Take = true
-taken Skip = false
-taken Unset = true
+use Rattle.settings.specs.Settings.{taken}
+use Rattle.settings.specs.declared.Gossip.{Gossip}
 
 -- none of the payload's fields is looked at where gossip is not taken
 unfoldable pub payloadIn : Gossip → List ℕ → List FieldText

@@ -25,7 +25,7 @@ use Rattle.fields.specs.declared.Survey.{Survey}
 use Rattle.outer.specs.Outer.{senderIn}
 use Rattle.delivery.specs.Delivery.{messageBy}
 use Rattle.process.specs.Processing.{messageRows, messageOf, roomRows}
-use Rattle.process.specs.declared.Gossip.{Gossip}
+use Rattle.settings.specs.declared.Gossip.{Gossip}
 
 unfoldable pub restRows : ℕ → List ℕ → ℕ → List ℕ → List ℕ → Gossip → List Row
 restRows n t receipt outer payload g = drop n (messageRows receipt outer payload g) ++ roomRows t (messageOf receipt outer payload g)

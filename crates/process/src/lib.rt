@@ -4,36 +4,19 @@ ghost use mathlib.Core.Path.{_≡_};
 ghost use Rattle.refusals.specs.Rows.{answerOf};
 ghost use Rattle.table.specs.Table.{checked};
 ghost use Rattle.table.specs.declared.Checked.the-variants.{Sound};
-ghost use Rattle.process.specs.Processing.{taken, refusedProcessing, leftByProcessing};
+ghost use Rattle.process.specs.Processing.{refusedProcessing, leftByProcessing};
 ghost use Rattle.process.specs.Stages.{answerFrom, leftFrom, Opened, Roomy, Sent, Readied, answerWith, leftWith};
 use fields::Survey;
 use fields::Surveyed;
 use outer::Sender;
 use refusals::Answer;
 use refusals::Refusal;
+use settings::Gossip;
 use slots::Slot;
 
 // Room for the values of most messages. Room has to be cleared before it is lent, and for the longest values that takes more
 // than half as long as all else of a short mail.
 const SHORT: usize = 8192;
-
-// Is gossip in encrypted mail taken? A caller that does not care leaves it unset.
-pub enum Gossip {
-    Take,
-    Skip,
-    Unset,
-}
-
-// "unset takes"
-fn is_taken(gossip: Gossip) -> bool
-    ensures { λ r. ⌜ r ≡ taken gossip ⌝ }
-{
-    match gossip {
-        Gossip::Take => true,
-        Gossip::Skip => false,
-        Gossip::Unset => true,
-    }
-}
 
 // Refusal 8, with the blocks read: the last test of all, before anything is written.
 fn deliver(
@@ -73,7 +56,7 @@ fn process_from(
     if outer::is_report(outer, survey, text) {
         return Answer::Refused(Refusal::Report);
     }
-    if !is_taken(gossip) {
+    if !settings::is_taken(gossip) {
         return deliver(table, receipt, outer, survey, &payload[0..0], sender, text);
     }
     if !header::readable(payload) {

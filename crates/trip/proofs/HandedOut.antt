@@ -31,8 +31,9 @@ use Rattle.refusals.specs.declared.Answer.the-variants.{Done}
 use Rattle.refusals.proofs.Rows.{first-behind, first-rest, done-is}
 use Rattle.inspect.specs.Inspecting.{tableRows}
 use Rattle.inspect.proofs.Tables.{sound-rows}
-use Rattle.process.specs.Processing.{taken, refusedProcessing, leftByProcessing}
-use Rattle.process.specs.declared.Gossip.{Gossip}
+use Rattle.settings.specs.Settings.{taken}
+use Rattle.process.specs.Processing.{refusedProcessing, leftByProcessing}
+use Rattle.settings.specs.declared.Gossip.{Gossip}
 use Rattle.recommend.specs.Recommending.{recipientList, recommendingRows, refusedRecommending, targetKeyOf}
 use Rattle.write.specs.Writing.{autocryptField, gossipField}
 use Rattle.trip.specs.RoundTrip.{Writable, Holding, behind, others}

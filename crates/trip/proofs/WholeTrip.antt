@@ -33,8 +33,9 @@ use Rattle.delivery.specs.Delivery.{directBy, messageBy}
 use Rattle.refusals.specs.Rows.{answerOf}
 use Rattle.refusals.specs.declared.Answer.the-variants.{Done}
 use Rattle.runs.specs.Runs.{belongs, run}
-use Rattle.process.specs.Processing.{taken, refusedProcessing, leftByProcessing}
-use Rattle.process.specs.declared.Gossip.{Gossip}
+use Rattle.settings.specs.Settings.{taken}
+use Rattle.process.specs.Processing.{refusedProcessing, leftByProcessing}
+use Rattle.settings.specs.declared.Gossip.{Gossip}
 use Rattle.names.specs.Names.{autocrypt as autocryptName, gossip as gossipName}
 use Rattle.write.specs.Writing.{autocryptField, gossipField, writtenOf, leftByWriting}
 use Rattle.write.specs.declared.Written.the-variants.{Done as Wrote}

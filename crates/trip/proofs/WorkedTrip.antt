@@ -44,9 +44,10 @@ use Rattle.octets.specs.Tests.{every}
 use Rattle.octets.proofs.Tests.{and-left, and-right}
 use Rattle.runs.specs.Runs as runs
 use Rattle.keylines.specs.Lines as lines
+use Rattle.settings.specs.Settings as settings
 use Rattle.process.specs.Processing as process
 use Rattle.process.specs.Processing.{messageRows, messageOf, refusedProcessing, leftByProcessing}
-use Rattle.process.specs.declared.Gossip.the-variants.{Unset}
+use Rattle.settings.specs.declared.Gossip.the-variants.{Unset}
 use Rattle.process.proofs.Outcomes.{message-fits}
 use Rattle.recommend.specs.Recommending.{targetKeyOf}
 use Rattle.write.specs.Writing.{autocryptField}
@@ -95,7 +96,7 @@ unfolding table.checked table.whole table.slots table.judged table.right table.s
 sound = refl
 
 in-order : firstOf (messageRows 1000 outer [] Unset) ≡ none
-unfolding isSome octets.sameOctets octets.sameName octets.lowered octets.lower header.fieldsOf header.fields header.fieldsWithin inFront header.unfolded header.over header.ofEnding header.opensField runs.run header.rawLength runs.belongs header.closes header.isReport list.openingOf holds list.runToken list.quotedToken list.tokenAt list.firstToken list.afterAddress list.after list.listedBy list.listed list.addresses onlyOne orElse address.plain address.localPart address.atom address.domain address.label address.freeEnds address.canonical every pieces.onFirst pieces.pieces pieces.before pieces.behind blank tokens.past tokens.kindOf tokens.control tokens.afterQuote fields.fieldsIn fields.isKind fields.valuesOf outer-specs.canonicalOf outer-specs.senderBy outer-specs.senderIn outer-specs.anyReport outer-specs.isReported process.taken messageRows firstOf
+unfolding isSome octets.sameOctets octets.sameName octets.lowered octets.lower header.fieldsOf header.fields header.fieldsWithin inFront header.unfolded header.over header.ofEnding header.opensField runs.run header.rawLength runs.belongs header.closes header.isReport list.openingOf holds list.runToken list.quotedToken list.tokenAt list.firstToken list.afterAddress list.after list.listedBy list.listed list.addresses onlyOne orElse address.plain address.localPart address.atom address.domain address.label address.freeEnds address.canonical every pieces.onFirst pieces.pieces pieces.before pieces.behind blank tokens.past tokens.kindOf tokens.control tokens.afterQuote fields.fieldsIn fields.isKind fields.valuesOf outer-specs.canonicalOf outer-specs.senderBy outer-specs.senderIn outer-specs.anyReport outer-specs.isReported settings.taken messageRows firstOf
 in-order = refl
 
 sender-is : outer-specs.senderIn (fields.fieldsIn outer) ≡ some (ascii "a@b.example")
@@ -107,7 +108,7 @@ unfolding brought.hasRoom brought.newcomers brought.addressesOf brought.gossipAd
 room-for = refl
 
 room : brought.hasRoom free (messageOf 1000 outer [] Unset) ≡ true
-unfolding messageOf orElse process.payloadIn process.taken fields.fieldsIn header.fieldsOf header.fields header.fieldsWithin header.over
+unfolding messageOf orElse process.payloadIn settings.taken fields.fieldsIn header.fieldsOf header.fields header.fieldsWithin header.over
 room = rw sender-is room-for
 
 done : answerOf (refusedProcessing free 1000 outer [] Unset) ≡ Done

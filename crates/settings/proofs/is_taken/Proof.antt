@@ -1,7 +1,7 @@
--- `process::is_taken` meets its contract: the laws of `Processing` answer every need. Assumes nothing.
-use Rattle.process.proofs.is_taken.Statement.{statement}
-use Rattle.process.proofs.is_taken.Tie as tie
-use Rattle.process.proofs.Processing.{taking}
+-- `settings::is_taken` meets its contract: the laws of `Taking` answer every need. Assumes nothing.
+use Rattle.settings.proofs.is_taken.Statement.{statement}
+use Rattle.settings.proofs.is_taken.Tie as tie
+use Rattle.settings.proofs.Taking.{taking}
 
 enum-told : tie.Need-enum-told
 enum-told c = search taking
