@@ -1,5 +1,5 @@
 -- Writing the octets of a text while it is read, and what decoding then answers and leaves.
---     run-blanks, run-then, run-last    what is read and written: blanks, one run behind another, the last octets
+--     run-blanks, run-then, last-run    what is read and written: blanks, one run behind another, the last octets
 --     decoded, decodes    what is answered where all is written, and what the memory then holds
 --     none-decoded        and what is answered where it had no room, or stands for nothing
 --     the rulesets        grouping for `write_groups`, turning for `write_next`, filling for `write`

@@ -1,5 +1,5 @@
 -- The value of a Content-Type: whether it is multipart/report.
---     report-from, report-upto    where the type's name lies
+--     report-from                 where the type's name lies
 --     report-short                too few octets
 --     report-other, report-told   another name; the name, and what follows it
 -- Assumes nothing.

@@ -1,9 +1,8 @@
 -- Rows 1 and 2: what they come to, by the answer of the table's check, and back.
 --     slot-fits                          the index of a broken slot is a small number
---     sound-rows, length-rows, slot-rows the rows, by the answer of the check
---     rows-sound                         neither row holds only where the check finds nothing
---     rows-length, rows-broken           row 1 and row 2 as facts about the table
---     lowest-broken                      the index with 2 is that of the lowest slot that is neither free nor sound
+--     sound-rows, length-rows, slot-rows    the rows, by the answer of the check
+--     rows-sound, checked-sound          neither row holds only where the check finds nothing
+--     lowest-broken, broken-refused      2 is given exactly with the index of the lowest slot that is neither free nor sound
 --     the ruleset                        checking, for `check`
 -- Assumes nothing.
 use Prim.Native.Nat.{ℕ, _%_}

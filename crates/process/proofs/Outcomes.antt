@@ -1,6 +1,6 @@
 -- What comes with each answer of processing.
 --     InOrder, in-order                  rows 3 to 7 do not hold: what that says of the blocks
---     message-is, message-good           the message that is then brought, and that it is good
+--     payload-octets, message-good       the message that is then brought is good
 --     sound-first, unsound-first         with a sound table rows 3 to 8 decide, with another one 1 and 2
 --     message-refused, message-fits, message-full     a sound table: which of 3 to 8 it is, or none
 --     refused-untouched, done-left       a refusal leaves the table as it was; success leaves the one to which the message was applied

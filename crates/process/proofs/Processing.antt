@@ -1,5 +1,5 @@
 -- Processing: the ways through the code, stage by stage.
---     message-taken, message-skipped     the message, by the setting, where the sender is known
+--     full-answered .. sound-left    what is answered and left on each way, and what is known where it goes on (`readied-none` and the like)
 --     the rulesets                   delivering, for `deliver`; sending, for `process_from`; asking, for `process_with`;
 --                                    making-room, for `process_read`; opening, for `process_sound`; processing, for `process`
 -- Assumes nothing.

@@ -1,7 +1,7 @@
 -- "The table" of paper 01: one slot of 4,392 octets, what stands where in it, and when it is free or sound.
 --     part                       the octets from one place to another, as the paper's table has them
 --     slotLength, addressRoom, keyLimit, timeLimit    the limits
---     mark .. gossipKey          the parts of a slot, in the table's order
+--     mark .. gossipLength       the parts of a slot, in the table's order
 --     numbersOf                  what octets 2 to 39 say, as the code's own `Slot`
 --     emptyNumbers               what they say of an entry that holds an address only
 --     free                       "A free slot is all zero."

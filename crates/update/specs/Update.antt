@@ -2,7 +2,7 @@
 --     younger, updated          the sender's entry
 --     youngerGossip, heard      the entry of an address that the message has gossip about
 --     begun                     "takes the lowest free slot"
---     changed, put              the table with the entry of an address changed, begun where there was none
+--     changedAt, put            the table with the entry of an address changed, begun where there was none
 use Prim.Native.Nat.{ℕ}
 use mathlib.Core.Bool.{Bool, true, false}
 use mathlib.Core.List.{List}

@@ -1,7 +1,7 @@
 -- The two writers: what the tests of the code say of the rows.
 --     key-none, key-long, key-good      "1 to 2,048 octets", as the code tests it
---     field-fits, field-long            the field's length and the room, by what the lower writer answers
---     wrote, wrote-nothing              what it leaves
+--     field-fits, field-done, field-there    the field has room: what the lower writer answers and leaves
+--     field-long, nothing-there         it has none
 --     the rulesets                      writing and passing, for `write`
 -- Assumes nothing.
 use Prim.Native.Nat.{ℕ, _<_, _≤_}
