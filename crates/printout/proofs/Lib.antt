@@ -1,4 +1,3 @@
-pub mod Decimal
 pub mod Placing
 pub mod Lines
 pub mod Room

@@ -29,8 +29,10 @@ use Rattle.table.specs.declared.Checked.the-variants.{Sound}
 use Rattle.table.proofs.Slots.{slot-long}
 use Rattle.table.proofs.Keeping.{table-sound, used-sound}
 use Rattle.printout.specs.Printout.{line, lineOf, slotText, linesFrom}
-use Rattle.printout.specs.Steps.{Room, Put, ended, directPart, gossipPart, numbersPart}
-use Rattle.printout.proofs.Placing.{room-one, room-two, two-put}
+use Rattle.columns.specs.Columns.{ended}
+use Rattle.columns.specs.Putting.{Room, Put}
+use Rattle.printout.specs.Parts.{directPart, gossipPart, numbersPart}
+use Rattle.columns.proofs.Placing.{room-one, room-two, two-put}
 
 -- an absent half has no time and one that is there its own
 half-time : {A : Type 0} (f : A → ℕ) (d : A) (h : Option A) → present (isSome h) (f (orElse d h)) ≡ Option·map f h

@@ -19,7 +19,8 @@ use Rattle.table.specs.Table.{slots, checked}
 use Rattle.table.specs.declared.Checked.{Checked}
 use Rattle.table.specs.declared.Checked.the-variants.{Sound, Length, Slot}
 use Rattle.printout.specs.Printout.{linesFrom, listing, printed}
-use Rattle.printout.specs.Steps.{Room, Put, ended}
+use Rattle.columns.specs.Columns.{ended}
+use Rattle.columns.specs.Putting.{Room, Put}
 use Rattle.printout.proofs.Room.{lines-fit}
 
 module _ (s : List ℕ) where

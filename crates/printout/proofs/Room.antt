@@ -21,9 +21,10 @@ use Rattle.table.specs.Table.{slots, slotAt, checked}
 use Rattle.table.specs.declared.Checked.the-variants.{Sound}
 use Rattle.table.proofs.Slots.{slot-long}
 use Rattle.table.proofs.Keeping.{table-sound, used-sound}
-use Rattle.printout.specs.Printout.{timeText, preferenceText, slotText, linesFrom, mostListed, lineRoom, room}
-use Rattle.printout.specs.Steps.{directPart, gossipPart, numbersPart}
-use Rattle.printout.proofs.Decimal.{decimal-most, ended-long}
+use Rattle.columns.specs.Columns.{timeText, preferenceText}
+use Rattle.printout.specs.Printout.{slotText, linesFrom, mostListed, lineRoom, room}
+use Rattle.printout.specs.Parts.{directPart, gossipPart, numbersPart}
+use Rattle.columns.proofs.Decimal.{decimal-most, ended-long}
 use Rattle.printout.proofs.Lines.{slot-free, slot-parts}
 
 -- a number of at most 20 digits

@@ -1,6 +1,5 @@
 -- What is printed, worked out by computing it.
 --     one-line                  the line of the paper's example
---     nought, ten, last-second  numbers
 --     free-slot, no-octets      a table that prints nothing, and one that is refused
 -- Assumes nothing.
 use mathlib.Core.Path.{_≡_, refl}
@@ -10,10 +9,11 @@ use mathlib.Core.List.{[], _∷_}
 use lib.ListN.{replicate}
 use Rattle.octets.specs.Octets.{ascii, allZero, sameOctets}
 use Rattle.octets.specs.Options.{orElse}
-use Rattle.slots.specs.Slot.{slotLength, timeLimit, free, marked}
+use Rattle.slots.specs.Slot.{slotLength, free, marked}
 use Rattle.slots.specs.Entry.{Entry}
 use Rattle.table.specs.Table.{slots, slotAt, right, whole, judged, checked}
-use Rattle.printout.specs.Printout.{lastDigits, decimal, timeText, preferenceText, line, lineOf, slotText, linesFrom, listing, printed}
+use Rattle.columns.specs.Columns.{lastDigits, decimal, timeText, preferenceText}
+use Rattle.printout.specs.Printout.{line, lineOf, slotText, linesFrom, listing, printed}
 
 abbrev alice : Entry
 alice =
@@ -27,18 +27,6 @@ alice =
 one-line : lineOf alice ≡ ascii "alice@a.example 1000 1000 3 mutual - 0\n"
 unfolding lineOf line timeText preferenceText decimal lastDigits orElse
 one-line = refl
-
-nought : decimal 0 ≡ ascii "0"
-unfolding decimal lastDigits
-nought = refl
-
-ten : decimal 10 ≡ ascii "10"
-unfolding decimal lastDigits
-ten = refl
-
-last-second : decimal timeLimit ≡ ascii "253402300799"
-unfolding decimal lastDigits
-last-second = refl
 
 free-slot : printed (replicate slotLength 0) ≡ []
 unfolding printed listing linesFrom slotText marked sameOctets checked whole slots judged right free allZero slotAt

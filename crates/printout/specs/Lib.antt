@@ -1,2 +1,2 @@
 pub mod Printout
-pub mod Steps
+pub mod Parts

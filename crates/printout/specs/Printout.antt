@@ -1,46 +1,23 @@
 -- What the listing program prints: "Writing" of paper 01, its last paragraph.
---     decimal                 a number in base ten
---     timeText, preferenceText    a time, a preference
 --     line                    fields as a line
 --     lineOf                  the line of an entry
 --     slotText, linesFrom     the line of a slot, where it has one, and those of some slots
 --     listing, printed        what is printed for a table by the answer of its check, and for any input
 --     lineRoom, room          room that a line, and all that is printed, never exceeds
-use Prim.Native.Nat.{ℕ, zero, suc, _+_, _*_, _/_, _%_}
-use mathlib.Core.Bool.{Bool, true, false}
-use mathlib.Core.Option.{Option, some, none, Option·map}
+use Prim.Native.Nat.{ℕ, zero, suc, _+_, _*_}
+use mathlib.Core.Bool.{true, false}
+use mathlib.Core.Option.{Option·map}
 use mathlib.Core.List.{List, [], _∷_, _++_}
-use lib.Dec.{leb, ltb}
+use lib.Dec.{leb}
 use lib.ListN.{length}
-use Rattle.octets.specs.Octets.{ascii, octet}
+use Rattle.octets.specs.Octets.{ascii}
 use Rattle.octets.specs.Options.{orElse}
+use Rattle.columns.specs.Columns.{decimal, timeText, preferenceText}
 use Rattle.slots.specs.Slot.{slotLength, addressRoom, marked}
 use Rattle.slots.specs.Entry.{Entry, noDirect, noGossip, entryOf}
 use Rattle.table.specs.Table.{slots, slotAt, checked}
 use Rattle.table.specs.declared.Checked.{Checked}
 use Rattle.table.specs.declared.Checked.the-variants.{Sound, Length, Slot}
-
--- the digit of a number below ten
-abbrev pub digit : ℕ → ℕ
-digit d = octet "0" + d
-
--- the last k digits of n, the most significant first, and no zero in front of them
-unfoldable pub lastDigits : ℕ → ℕ → List ℕ
-lastDigits zero n = []
-lastDigits (suc k) n = elim (ltb n 10) [ true ↦ digit n ∷ [] | false ↦ lastDigits k (n / 10) ++ (digit (n % 10) ∷ []) ]
-
--- all of them: n has at most n digits, and 0 has one
-unfoldable pub decimal : ℕ → List ℕ
-decimal n = lastDigits (suc n) n
-
--- an absent time is a hyphen, so that it differs from the time 0
-unfoldable pub timeText : Option ℕ → List ℕ
-timeText none = ascii "-"
-timeText (some t) = decimal t
-
-unfoldable pub preferenceText : Bool → List ℕ
-preferenceText true = ascii "mutual"
-preferenceText false = ascii "none"
 
 -- a first field and those behind it: a space between two of them, and LF behind the last
 unfoldable pub line : List ℕ → List (List ℕ) → List ℕ

@@ -3,11 +3,11 @@ ghost use Prim.Native.Nat.{_<_, _≤_};
 ghost use mathlib.Core.Path.{_≡_};
 ghost use lib.ListN.{length};
 ghost use Rattle.octets.specs.Written.{onto};
-ghost use Rattle.slots.specs.Entry.{present};
 ghost use Rattle.table.specs.Table.{slots as slotsOf, slotAt, checked};
 ghost use Rattle.table.specs.declared.Checked.the-variants.{Sound};
-ghost use Rattle.printout.specs.Printout.{decimal, timeText, preferenceText, slotText, linesFrom, printed};
-ghost use Rattle.printout.specs.Steps.{Room, Put, ended, directPart, gossipPart, numbersPart};
+ghost use Rattle.columns.specs.Putting.{Room, Put};
+ghost use Rattle.printout.specs.Printout.{slotText, linesFrom, printed};
+ghost use Rattle.printout.specs.Parts.{directPart, gossipPart, numbersPart};
 use slots::Slot;
 use table::Checked;
 
@@ -22,73 +22,14 @@ const LINE: usize = Slot::ADDRESS_ROOM + 5 * 20 + 6 + 7;
 // Room for all that is printed.
 pub const ROOM: usize = MOST * LINE;
 
-// Writes `text` from the place `at` on and `end` behind it, and answers the place behind both.
-fn put_text(out: &mut [u8], at: usize, text: &[u8], end: u8) -> usize
-    requires { ⌜ Room (now out) at (ended (now text) end) ⌝ }
-    ensures { λ r. ⌜ Put (now (out .entry)) (now (out .exit)) at (ended (now (text .entry)) end) r ⌝ }
-{
-    octets::put(&mut *out, at, text);
-    let o = at + text.len();
-    out[o] = end;
-    o + 1
-}
-
-// Writes a number in base ten: the digits before the last, by a call of itself that goes at most 19 deep, and the last.
-fn put_decimal(out: &mut [u8], at: usize, n: u64) -> usize
-    requires { ⌜ Room (now out) at (decimal n) ⌝ }
-    ensures { λ r. ⌜ Put (now (out .entry)) (now (out .exit)) at (decimal n) r ⌝ }
-{
-    if n < 10 {
-        out[at] = b'0' + n as u8;
-        return at + 1;
-    }
-    let o = put_decimal(&mut *out, at, n / 10);
-    out[o] = b'0' + (n % 10) as u8;
-    o + 1
-}
-
-// Writes a number and `end` behind it.
-fn put_number(out: &mut [u8], at: usize, n: u64, end: u8) -> usize
-    requires { ⌜ Room (now out) at (ended (decimal n) end) ⌝ }
-    ensures { λ r. ⌜ Put (now (out .entry)) (now (out .exit)) at (ended (decimal n) end) r ⌝ }
-{
-    let o = put_decimal(&mut *out, at, n);
-    out[o] = end;
-    o + 1
-}
-
-// Writes a time, or a hyphen where there is none, and a space behind it.
-fn put_time(out: &mut [u8], at: usize, is_there: bool, seconds: u64) -> usize
-    requires { ⌜ Room (now out) at (ended (timeText (present «is_there» seconds)) 32) ⌝ }
-    ensures { λ r. ⌜ Put (now (out .entry)) (now (out .exit)) at (ended (timeText (present «is_there» seconds)) 32) r ⌝ }
-{
-    if is_there {
-        put_number(out, at, seconds, b' ')
-    } else {
-        put_text(out, at, b"-", b' ')
-    }
-}
-
-// Writes the preference and a space behind it.
-fn put_preference(out: &mut [u8], at: usize, mutual: bool) -> usize
-    requires { ⌜ Room (now out) at (ended (preferenceText «mutual») 32) ⌝ }
-    ensures { λ r. ⌜ Put (now (out .entry)) (now (out .exit)) at (ended (preferenceText «mutual») 32) r ⌝ }
-{
-    if mutual {
-        put_text(out, at, b"mutual", b' ')
-    } else {
-        put_text(out, at, b"none", b' ')
-    }
-}
-
 // Writes what a line says of the direct half.
 fn put_direct(out: &mut [u8], at: usize, n: Slot) -> usize
     requires { ⌜ Room (now out) at (directPart n) ⌝ }
     ensures { λ r. ⌜ Put (now (out .entry)) (now (out .exit)) at (directPart n) r ⌝ }
 {
-    let timed = put_time(&mut *out, at, n.direct, n.timestamp);
-    let measured = put_number(&mut *out, timed, n.direct_length as u64, b' ');
-    put_preference(&mut *out, measured, n.mutual)
+    let timed = columns::put_time(&mut *out, at, n.direct, n.timestamp);
+    let measured = columns::put_number(&mut *out, timed, n.direct_length as u64, b' ');
+    columns::put_preference(&mut *out, measured, n.mutual)
 }
 
 // Writes what it says of the gossip half, which ends it.
@@ -96,8 +37,8 @@ fn put_gossip(out: &mut [u8], at: usize, n: Slot) -> usize
     requires { ⌜ Room (now out) at (gossipPart n) ⌝ }
     ensures { λ r. ⌜ Put (now (out .entry)) (now (out .exit)) at (gossipPart n) r ⌝ }
 {
-    let timed = put_time(&mut *out, at, n.gossip, n.gossip_timestamp);
-    put_number(&mut *out, timed, n.gossip_length as u64, b'\n')
+    let timed = columns::put_time(&mut *out, at, n.gossip, n.gossip_timestamp);
+    columns::put_number(&mut *out, timed, n.gossip_length as u64, b'\n')
 }
 
 // Writes what an entry says behind its address.
@@ -105,7 +46,7 @@ fn put_numbers(out: &mut [u8], at: usize, n: Slot) -> usize
     requires { ⌜ Room (now out) at (numbersPart n) ⌝ }
     ensures { λ r. ⌜ Put (now (out .entry)) (now (out .exit)) at (numbersPart n) r ⌝ }
 {
-    let seen = put_time(&mut *out, at, n.seen, n.last_seen);
+    let seen = columns::put_time(&mut *out, at, n.seen, n.last_seen);
     let direct = put_direct(&mut *out, seen, n);
     put_gossip(&mut *out, direct, n)
 }
@@ -118,7 +59,7 @@ fn put_slot(t: &[u8], i: usize, out: &mut [u8], at: usize) -> usize
     if !table::is_used(t, i) {
         return at;
     }
-    let addressed = put_text(&mut *out, at, table::address(t, i), b' ');
+    let addressed = columns::put_text(&mut *out, at, table::address(t, i), b' ');
     put_numbers(&mut *out, addressed, table::numbers(t, i))
 }
 
@@ -143,11 +84,11 @@ pub fn print(input: &[u8], out: &mut [u8; ROOM]) -> usize
     ensures { λ _. ⌜ now (out .exit) ≡ onto (printed (now (input .entry))) (now (out .entry)) ⌝ }
 {
     if LONGEST < input.len() {
-        return put_text(out, 0, b"refused 1", b'\n');
+        return columns::put_text(out, 0, b"refused 1", b'\n');
     }
     match table::check(input) {
         Checked::Sound => put_lines(input, out),
-        Checked::Length => put_text(out, 0, b"refused 1", b'\n'),
-        Checked::Slot(_) => put_text(out, 0, b"refused 2", b'\n'),
+        Checked::Length => columns::put_text(out, 0, b"refused 1", b'\n'),
+        Checked::Slot(_) => columns::put_text(out, 0, b"refused 2", b'\n'),
     }
 }

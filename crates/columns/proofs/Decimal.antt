@@ -12,8 +12,8 @@ use native.Mathlib.Omega.{arith}
 use borrow.Author.Tests.{lt-ltb, le-ltb}
 use lib.ListN.{length, length-append}
 use Rattle.octets.proofs.Lists.{lt-or-le}
-use Rattle.printout.specs.Printout.{lastDigits, decimal}
-use Rattle.printout.specs.Steps.{ended}
+use Rattle.columns.specs.Columns.{lastDigits, decimal}
+use Rattle.columns.specs.Columns.{ended}
 
 -- one turn
 last-one : (k n : ℕ) → n < 10 → lastDigits (suc k) n ≡ (48 + n) ∷ []

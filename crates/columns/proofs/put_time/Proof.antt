@@ -1,7 +1,7 @@
--- `printout::put_time` meets its contract: the laws of `Placing` answer every need. Assumes nothing.
-use Rattle.printout.proofs.Placing.{choosing}
-use Rattle.printout.proofs.put_time.Statement.{statement}
-use Rattle.printout.proofs.put_time.Tie as tie
+-- `columns::put_time` meets its contract: the laws of `Placing` answer every need. Assumes nothing.
+use Rattle.columns.proofs.Placing.{choosing}
+use Rattle.columns.proofs.put_time.Statement.{statement}
+use Rattle.columns.proofs.put_time.Tie as tie
 
 put-number-requires : tie.Need-put-number-requires
 put-number-requires c κs = search choosing

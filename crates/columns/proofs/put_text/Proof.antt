@@ -1,7 +1,7 @@
--- `printout::put_text` meets its contract: the laws of `Placing` answer every need. Assumes nothing.
-use Rattle.printout.proofs.Placing.{ending}
-use Rattle.printout.proofs.put_text.Statement.{statement}
-use Rattle.printout.proofs.put_text.Tie as tie
+-- `columns::put_text` meets its contract: the laws of `Placing` answer every need. Assumes nothing.
+use Rattle.columns.proofs.Placing.{ending}
+use Rattle.columns.proofs.put_text.Statement.{statement}
+use Rattle.columns.proofs.put_text.Tie as tie
 
 put-requires : tie.Need-put-requires
 put-requires c κs = search ending

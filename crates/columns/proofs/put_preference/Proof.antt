@@ -1,7 +1,7 @@
--- `printout::put_preference` meets its contract: the laws of `Placing` answer every need. Assumes nothing.
-use Rattle.printout.proofs.Placing.{choosing}
-use Rattle.printout.proofs.put_preference.Statement.{statement}
-use Rattle.printout.proofs.put_preference.Tie as tie
+-- `columns::put_preference` meets its contract: the laws of `Placing` answer every need. Assumes nothing.
+use Rattle.columns.proofs.Placing.{choosing}
+use Rattle.columns.proofs.put_preference.Statement.{statement}
+use Rattle.columns.proofs.put_preference.Tie as tie
 
 slice-aggregate-put-text : tie.Need-slice-aggregate-put-text
 slice-aggregate-put-text c = search choosing

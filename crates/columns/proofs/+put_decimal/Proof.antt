@@ -1,13 +1,13 @@
--- `printout::put_decimal` meets its contract: the laws of `Placing` answer every need. It ends since the number falls to its tenth. Assumes nothing.
-use Rattle.printout.proofs.Placing.{counting}
+-- `columns::put_decimal` meets its contract: the laws of `Placing` answer every need. It ends since the number falls to its tenth. Assumes nothing.
+use Rattle.columns.proofs.Placing.{counting}
 use Prim.Native.Nat.{ℕ, _<_}
 use borrow.Fn.Kinds.{In}
 use borrow.Fn.PlainCycle.{Measures, is, falls, and}
-use Rattle.printout.proofs.put_decimal.Reads as put-decimal
-use Rattle.printout.proofs.put_decimal.Kinds as put-decimal-kinds
-use Rattle.printout.proofs.+put_decimal.Lts-put_decimal as put-decimal-lts
-use Rattle.printout.proofs.+put_decimal.{statement}
-use Rattle.printout.proofs.+put_decimal.Tie.{close}
+use Rattle.columns.proofs.put_decimal.Reads as put-decimal
+use Rattle.columns.proofs.put_decimal.Kinds as put-decimal-kinds
+use Rattle.columns.proofs.+put_decimal.Lts-put_decimal as put-decimal-lts
+use Rattle.columns.proofs.+put_decimal.{statement}
+use Rattle.columns.proofs.+put_decimal.Tie.{close}
 
 abbrev μ-put-decimal : Measures 1 put-decimal-kinds.ps ℕ
 μ-put-decimal κs a = a .1 .1 .0

@@ -1,7 +1,7 @@
--- `printout::put_number` meets its contract: the laws of `Placing` answer every need. Assumes nothing.
-use Rattle.printout.proofs.Placing.{ending}
-use Rattle.printout.proofs.put_number.Statement.{statement}
-use Rattle.printout.proofs.put_number.Tie as tie
+-- `columns::put_number` meets its contract: the laws of `Placing` answer every need. Assumes nothing.
+use Rattle.columns.proofs.Placing.{ending}
+use Rattle.columns.proofs.put_number.Statement.{statement}
+use Rattle.columns.proofs.put_number.Tie as tie
 
 put-decimal-requires : tie.Need-put-decimal-requires
 put-decimal-requires c κs = search ending

@@ -1,0 +1,23 @@
+-- The parts of a line as they are written, each column with the octet behind it.
+--     directPart     what a line says of the direct half, by the numbers of its slot
+--     gossipPart     what it says of the gossip half
+--     numbersPart    all that stands behind the address
+use mathlib.Core.List.{List, _++_}
+use Prim.Native.Nat.{ℕ}
+use Rattle.octets.specs.Octets.{octet}
+use Rattle.slots.specs.declared.Slot.{Slot}
+use Rattle.slots.specs.Entry.{present}
+use Rattle.columns.specs.Columns.{decimal, timeText, preferenceText, ended}
+
+unfoldable pub directPart : Slot → List ℕ
+directPart n =
+    ended (timeText (present (n .direct) (n .timestamp))) (octet " ")
+    ++ (ended (decimal (n .«direct_length»)) (octet " ") ++ ended (preferenceText (n .«mutual»)) (octet " "))
+
+unfoldable pub gossipPart : Slot → List ℕ
+gossipPart n =
+    ended (timeText (present (n .gossip) (n .«gossip_timestamp»))) (octet " ") ++ ended (decimal (n .«gossip_length»)) (octet "\n")
+
+unfoldable pub numbersPart : Slot → List ℕ
+numbersPart n =
+    ended (timeText (present (n .seen) (n .«last_seen»))) (octet " ") ++ (directPart n ++ gossipPart n)
