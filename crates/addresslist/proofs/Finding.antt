@@ -32,8 +32,8 @@ use Rattle.tokens.proofs.Quoting.{quoted-to, quoted-unreadable}
 use Rattle.address.specs.Address.{addressOctet, plain}
 use Rattle.addresslist.specs.List.{openingOf, Token, runToken, quotedToken, tokenAt, firstToken}
 use Rattle.addresslist.specs.Answers.{between, foundIn, Inside}
-use Rattle.addresslist.specs.declared.token.Sort.{Sort}
-use Rattle.addresslist.specs.declared.token.Sort.the-variants.{Word}
+use Rattle.grammar.specs.declared.Sort.{Sort}
+use Rattle.grammar.specs.declared.Sort.the-variants.{Word}
 use Rattle.addresslist.specs.declared.token.Start.{Start}
 use Rattle.addresslist.specs.declared.token.Start.the-variants.{Run, Quote, Sign, Nothing}
 use Rattle.addresslist.specs.declared.token.TokenAt.{TokenAt}

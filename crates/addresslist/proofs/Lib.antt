@@ -1,4 +1,3 @@
-pub mod Table
 pub mod Telling
 pub mod Finding
 pub mod Listing

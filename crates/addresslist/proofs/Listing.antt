@@ -22,14 +22,15 @@ use Rattle.tokens.proofs.Skipping.{skipped-suffix}
 use Rattle.tokens.proofs.Quoting.{quote-suffix}
 use Rattle.address.specs.Address.{addressOctet, plain}
 use Rattle.address.proofs.Sides.{plain-least}
-use Rattle.addresslist.specs.List.{openingOf, Token, address, other, end, unreadable, runToken, quotedToken, tokenAt, firstToken, afterAddress, after, mayEnd, listedBy, listed, addresses}
-use Rattle.addresslist.specs.declared.token.Sort.{Sort}
+use Rattle.grammar.specs.Grammar.{afterAddress, after, mayEnd}
+use Rattle.addresslist.specs.List.{openingOf, Token, address, other, end, unreadable, runToken, quotedToken, tokenAt, firstToken, listedBy, listed, addresses}
+use Rattle.grammar.specs.declared.Sort.{Sort}
 use Rattle.addresslist.specs.declared.token.Start.{Start}
 use Rattle.addresslist.specs.declared.token.Start.the-variants.{Run, Quote, Sign, Nothing}
-use Rattle.addresslist.specs.declared.grammar.Stage.{Stage}
-use Rattle.addresslist.specs.declared.grammar.Stage.the-variants.{Place}
-use Rattle.addresslist.specs.declared.grammar.Follow.{Follow}
-use Rattle.addresslist.specs.declared.grammar.Follow.the-variants.{On, Wrong}
+use Rattle.grammar.specs.declared.Stage.{Stage}
+use Rattle.grammar.specs.declared.Stage.the-variants.{Place}
+use Rattle.grammar.specs.declared.Follow.{Follow}
+use Rattle.grammar.specs.declared.Follow.the-variants.{On, Wrong}
 use Rattle.addresslist.proofs.Finding.{opens-run-octet}
 
 -- Where a token stands in a list: an address in front of what is left of it, and any other before that.

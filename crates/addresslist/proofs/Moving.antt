@@ -11,14 +11,15 @@ use mathlib.Core.Option.{some, none}
 use native.Mathlib.Omega.{arith}
 use borrow.Author.Needs.{needs}
 use lib.ListN.{length, drop}
-use Rattle.addresslist.specs.List.{address, other, firstToken, afterAddress, after, mayEnd}
+use Rattle.grammar.specs.Grammar.{afterAddress, after, mayEnd}
+use Rattle.addresslist.specs.List.{address, other, firstToken}
 use Rattle.addresslist.specs.Answers.{between, foundIn, Inside, left, Gives, Hands, Goes, Moved}
-use Rattle.addresslist.specs.declared.token.Sort.{Sort}
+use Rattle.grammar.specs.declared.Sort.{Sort}
 use Rattle.addresslist.specs.declared.token.TokenAt.{TokenAt}
 use Rattle.addresslist.specs.declared.token.TokenAt.the-variants.{Address as AddressAt, Other as OtherAt, End as Over, Unreadable as Unfound}
-use Rattle.addresslist.specs.declared.grammar.Stage.{Stage}
-use Rattle.addresslist.specs.declared.grammar.Follow.{Follow}
-use Rattle.addresslist.specs.declared.grammar.Follow.the-variants.{On as Onto, Wrong}
+use Rattle.grammar.specs.declared.Stage.{Stage}
+use Rattle.grammar.specs.declared.Follow.{Follow}
+use Rattle.grammar.specs.declared.Follow.the-variants.{On as Onto, Wrong}
 use Rattle.addresslist.specs.declared.ListCursor.{ListCursor}
 use Rattle.addresslist.specs.declared.NextAddress.{NextAddress}
 use Rattle.addresslist.specs.declared.NextAddress.the-variants.{Address, End, Unreadable}

@@ -26,10 +26,11 @@ use Rattle.tokens.proofs.Places.{Suffix, whole, behind}
 use Rattle.tokens.proofs.Skipping.{stays}
 use Rattle.address.specs.Address.{addressOctet, plain}
 use Rattle.address.proofs.Sides.{plain-least, plain-octets, plain-at, low-apart}
-use Rattle.addresslist.specs.List.{address, runToken, tokenAt, firstToken, afterAddress, addresses}
+use Rattle.grammar.specs.Grammar.{afterAddress}
+use Rattle.addresslist.specs.List.{address, runToken, tokenAt, firstToken, addresses}
 use Rattle.addresslist.specs.Answers.{countedOf}
-use Rattle.addresslist.specs.declared.grammar.Stage.{Stage}
-use Rattle.addresslist.specs.declared.grammar.Stage.the-variants.{Place, Behind}
+use Rattle.grammar.specs.declared.Stage.{Stage}
+use Rattle.grammar.specs.declared.Stage.the-variants.{Place, Behind}
 use Rattle.addresslist.specs.declared.Counted.the-variants.{Count, Unreadable as Uncounted}
 use Rattle.addresslist.proofs.Telling.{opens-run}
 use Rattle.addresslist.proofs.Listing.{by-tokens, listed-address, listed-end}

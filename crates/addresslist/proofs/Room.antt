@@ -11,10 +11,11 @@ use lib.ListN.{length, length-append}
 use Rattle.octets.specs.Options.{total}
 use Rattle.octets.proofs.Options.{Takes, takes-more, takes-front}
 use Rattle.tokens.proofs.Places.{suffix-length}
-use Rattle.addresslist.specs.List.{afterAddress, addresses}
-use Rattle.addresslist.specs.declared.grammar.Stage.{Stage}
-use Rattle.addresslist.specs.declared.grammar.Stage.the-variants.{Place, Opened, Phrase, Angle, Closing, Behind}
-use Rattle.addresslist.specs.declared.grammar.Follow.the-variants.{On}
+use Rattle.grammar.specs.Grammar.{afterAddress}
+use Rattle.addresslist.specs.List.{addresses}
+use Rattle.grammar.specs.declared.Stage.{Stage}
+use Rattle.grammar.specs.declared.Stage.the-variants.{Place, Opened, Phrase, Angle, Closing, Behind}
+use Rattle.grammar.specs.declared.Follow.the-variants.{On}
 use Rattle.addresslist.proofs.Listing.{by-tokens}
 
 -- Behind an address another octet must come before the next one: there its own octet is paid for already.

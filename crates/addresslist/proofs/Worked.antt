@@ -14,7 +14,8 @@ use Rattle.runs.specs.Runs.{belongs, run}
 use Rattle.tokens.specs.Tokens.{control, kindOf, past, afterQuote}
 use Rattle.address.specs.Pieces.{onFirst, pieces, before, behind}
 use Rattle.address.specs.Address.{atom, localPart, freeEnds, label, domain, plain}
-use Rattle.addresslist.specs.List.{openingOf, runToken, quotedToken, tokenAt, firstToken, afterAddress, after, listedBy, listed, addresses}
+use Rattle.grammar.specs.Grammar.{afterAddress, after}
+use Rattle.addresslist.specs.List.{openingOf, runToken, quotedToken, tokenAt, firstToken, listedBy, listed, addresses}
 
 abbrev Readable : String → List String → Type 0
 Readable s list = addresses (ascii s) ≡ some (map ascii list)

@@ -13,7 +13,7 @@ use lib.ListN.{length, take, drop}
 use Rattle.octets.specs.Options.{inFront}
 use Rattle.address.specs.Address.{plain}
 use Rattle.addresslist.specs.List.{Token, address, other, end, unreadable, listed}
-use Rattle.addresslist.specs.declared.grammar.Stage.the-variants.{Place}
+use Rattle.grammar.specs.declared.Stage.the-variants.{Place}
 use Rattle.addresslist.specs.declared.token.TokenAt.{TokenAt}
 use Rattle.addresslist.specs.declared.token.TokenAt.the-variants.{Address as AddressAt, Other as OtherAt, End as Over, Unreadable as Unfound}
 use Rattle.addresslist.specs.declared.ListCursor.{ListCursor}

@@ -1,11 +1,10 @@
--- "A list is addresses separated by commas", of paper 01. A list is read from its front, a token at a time, and a grammar says which
--- token may stand where.
+-- "A list is addresses separated by commas", of paper 01. A list is read from its front, a token at a time, and the grammar (crate
+-- `grammar`) says which token may stand where.
 --     openingOf, runToken .. firstToken    tokens
---     afterAddress, after, mayEnd          the grammar
 --     listed, addresses                    the addresses of a list, none where it is unreadable
 --     among                                an address is one of some
 use Prim.Native.Nat.{ℕ, zero, suc}
-use mathlib.Core.Bool.{Bool, true, false, cond, not, _||_}
+use mathlib.Core.Bool.{Bool, true, false, cond, _||_}
 use mathlib.Core.List.{List, [], _∷_}
 use mathlib.Core.Option.{Option, some, none}
 use lib.Dec.{eqb}
@@ -16,14 +15,14 @@ use Rattle.octets.specs.Options.{inFront}
 use Rattle.runs.specs.Runs.{run}
 use Rattle.tokens.specs.Tokens.{skipped, afterQuote}
 use Rattle.address.specs.Address.{addressOctet, plain, canonical}
-use Rattle.addresslist.specs.declared.token.Sort.{Sort}
-use Rattle.addresslist.specs.declared.token.Sort.the-variants.{Word, Less, Greater, Comma, Colon, Semicolon}
+use Rattle.grammar.specs.Grammar.{afterAddress, after, mayEnd}
+use Rattle.grammar.specs.declared.Sort.{Sort}
+use Rattle.grammar.specs.declared.Sort.the-variants.{Word, Less, Greater, Comma, Colon, Semicolon}
 use Rattle.addresslist.specs.declared.token.Start.{Start}
 use Rattle.addresslist.specs.declared.token.Start.the-variants.{Run, Quote, Sign, Nothing}
-use Rattle.addresslist.specs.declared.grammar.Stage.{Stage}
-use Rattle.addresslist.specs.declared.grammar.Stage.the-variants.{Place, Opened, Phrase, Angle, Closing, Behind}
-use Rattle.addresslist.specs.declared.grammar.Follow.{Follow}
-use Rattle.addresslist.specs.declared.grammar.Follow.the-variants.{On, Wrong}
+use Rattle.grammar.specs.declared.Stage.{Stage}
+use Rattle.grammar.specs.declared.Stage.the-variants.{Place}
+use Rattle.grammar.specs.declared.Follow.the-variants.{On, Wrong}
 
 -- What a token is shows in its first octet. A run is made of the octets of atoms, of dots and of "@"; a sign is a token by itself. An
 -- octet that opens nothing, as a control octet, a bracket or a backslash, makes the list unreadable.
@@ -73,84 +72,6 @@ tokenAt (x ∷ s) =
 -- "Spaces, tabs and comments may stand between tokens"
 unfoldable pub firstToken : List ℕ → Token
 firstToken s = elim (skipped s) [ none ↦ unreadable | some rest ↦ tokenAt rest ]
-
--- "`address`, `[phrase] <address>`, or a group `phrase : [list] ;` without inner groups", separated by commas. What a token does at each
--- place of the grammar: `On` goes on at another place, inside a group or not; `Wrong` is unreadable.
-
--- a bare address is a list place, and so is one between "<" and ">"
-unfoldable pub afterAddress : Stage → Bool → Follow
-afterAddress Place inside = On Behind inside
-afterAddress Opened inside = On Behind inside
-afterAddress Phrase inside = Wrong
-afterAddress Angle inside = On Closing inside
-afterAddress Closing inside = Wrong
-afterAddress Behind inside = Wrong
-
--- where a list place must begin; "Empty list places .. make the field unreadable"
-abbrev pub atPlace : Bool → Sort → Follow
-atPlace inside Word = On Phrase inside
-atPlace inside Less = On Angle inside
-atPlace inside Greater = Wrong
-atPlace inside Comma = Wrong
-atPlace inside Colon = Wrong
-atPlace inside Semicolon = Wrong
-
--- behind the colon of a group: "[list] ;"
-abbrev pub atOpened : Bool → Sort → Follow
-atOpened inside Word = On Phrase inside
-atOpened inside Less = On Angle inside
-atOpened inside Greater = Wrong
-atOpened inside Comma = Wrong
-atOpened inside Colon = Wrong
-atOpened inside Semicolon = On Behind false
-
--- behind one or more words: "phrase <address>", "phrase :", "without inner groups"
-abbrev pub atPhrase : Bool → Sort → Follow
-atPhrase inside Word = On Phrase inside
-atPhrase inside Less = On Angle inside
-atPhrase inside Greater = Wrong
-atPhrase inside Comma = Wrong
-atPhrase inside Colon = elim inside [ true ↦ Wrong | false ↦ On Opened true ]
-atPhrase inside Semicolon = Wrong
-
--- behind "<" an address must stand; "routes, `<>` .. make the field unreadable"
-abbrev pub atAngle : Bool → Sort → Follow
-atAngle inside sort = Wrong
-
--- behind "<address"
-abbrev pub atClosing : Bool → Sort → Follow
-atClosing inside Word = Wrong
-atClosing inside Less = Wrong
-atClosing inside Greater = On Behind inside
-atClosing inside Comma = Wrong
-atClosing inside Colon = Wrong
-atClosing inside Semicolon = Wrong
-
--- behind a whole list place: "separated by commas", and a group's ";"
-abbrev pub atBehind : Bool → Sort → Follow
-atBehind inside Word = Wrong
-atBehind inside Less = Wrong
-atBehind inside Greater = Wrong
-atBehind inside Comma = On Place inside
-atBehind inside Colon = Wrong
-atBehind inside Semicolon = elim inside [ true ↦ On Behind false | false ↦ Wrong ]
-
-unfoldable pub after : Stage → Bool → Sort → Follow
-after Place inside sort = atPlace inside sort
-after Opened inside sort = atOpened inside sort
-after Phrase inside sort = atPhrase inside sort
-after Angle inside sort = atAngle inside sort
-after Closing inside sort = atClosing inside sort
-after Behind inside sort = atBehind inside sort
-
--- A list may end behind a whole list place, and not inside a group, whose ";" is then missing.
-abbrev pub mayEnd : Stage → Bool → Bool
-mayEnd Place inside = false
-mayEnd Opened inside = false
-mayEnd Phrase inside = false
-mayEnd Angle inside = false
-mayEnd Closing inside = false
-mayEnd Behind inside = not inside
 
 -- the addresses that the octets s give from a place of the grammar on, of fewer than n tokens
 unfoldable pub listedBy : ℕ → Stage → Bool → List ℕ → Option (List (List ℕ))

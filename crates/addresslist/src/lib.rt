@@ -1,6 +1,5 @@
 // Lists of addresses, read from the front a token at a time. A cursor is a place in a list and in the grammar of lists;
 // the next address is handed out from it, with the cursor behind.
-pub mod grammar; // which token may stand where
 pub mod token; // the tokens of a list
 
 use grammar::Follow;

@@ -1,5 +1,6 @@
 // The tokens of a list: the signs `,` `<` `>` `:` `;`, words and addresses, with spaces, tabs and comments between them.
 // A long run costs its length.
+use grammar::Sort;
 use runs::Class;
 use tokens::Reached;
 ghost use Prim.Native.Nat.{_<_};
@@ -11,16 +12,6 @@ ghost use Rattle.octets.specs.Finding.{holds};
 ghost use Rattle.address.specs.Address.{addressOctet};
 ghost use Rattle.addresslist.specs.List.{openingOf, runToken, quotedToken, tokenAt, firstToken};
 ghost use Rattle.addresslist.specs.Answers.{foundIn, Inside};
-
-// The sorts of tokens besides addresses.
-pub enum Sort {
-    Word,
-    Less,
-    Greater,
-    Comma,
-    Colon,
-    Semicolon,
-}
 
 // What an octet opens.
 pub enum Start {

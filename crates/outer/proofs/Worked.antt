@@ -15,7 +15,8 @@ use Rattle.header.specs.Header as header
 use Rattle.tokens.specs.Tokens.{control, kindOf, past, afterQuote}
 use Rattle.address.specs.Pieces.{onFirst, pieces, before, behind}
 use Rattle.address.specs.Address.{atom, localPart, freeEnds, label, domain, plain, canonical}
-use Rattle.addresslist.specs.List.{openingOf, runToken, quotedToken, tokenAt, firstToken, afterAddress, after, listedBy, listed, addresses}
+use Rattle.grammar.specs.Grammar.{afterAddress, after}
+use Rattle.addresslist.specs.List.{openingOf, runToken, quotedToken, tokenAt, firstToken, listedBy, listed, addresses}
 use Rattle.calendar.specs.Calendar as calendar
 use Rattle.datewords.specs.Words as words
 use Rattle.date.specs.Date as date

@@ -12,7 +12,8 @@ use Rattle.runs.specs.Runs.{belongs, run}
 use Rattle.tokens.specs.Tokens.{control, kindOf, past, afterQuote}
 use Rattle.address.specs.Pieces.{onFirst, pieces, before, behind}
 use Rattle.address.specs.Address.{atom, localPart, freeEnds, label, domain, plain, canonical}
-use Rattle.addresslist.specs.List.{openingOf, runToken, quotedToken, tokenAt, firstToken, afterAddress, after, listedBy, listed, addresses, among}
+use Rattle.grammar.specs.Grammar.{afterAddress, after}
+use Rattle.addresslist.specs.List.{openingOf, runToken, quotedToken, tokenAt, firstToken, listedBy, listed, addresses, among}
 use Rattle.roll.specs.Roll.{entry, rolled, unrolledWithin, unrolled, listedIn}
 
 abbrev two : List ℕ
