@@ -6,14 +6,15 @@
  * A program that is not there (a call that the library does not have yet, GMime) is named on standard error.
  *
  * With --smoke nothing is measured and the counts are printed. With --count each case but the hostile ones, which take
- * long there, is run once inside the function counted_window, whose instructions callgrind counts; the order of the cases is
- * printed. */
+ * long there, is run once by count_round, and callgrind, below which the program then has to run, counts its instructions; the
+ * order of the cases is printed. */
 #define _POSIX_C_SOURCE 200809L
 #include <dlfcn.h>
 #include <stdio.h>
 #include <stdlib.h>
 #include <string.h>
 #include <time.h>
+#include <valgrind/callgrind.h>
 
 #include "peer/peer.h"
 #ifdef WITH_GMIME
@@ -370,15 +371,19 @@ static void measure(int passes) {
     for (int i = 0; i < row_count; i++) printf("%s\t%s\t%.1f\n", rows[i].one->name, rows[i].program, rows[i].best);
 }
 
-/* A function of its own, and called through a pointer, so that callgrind sees where it begins and ends. */
-__attribute__((noinline)) void counted_window(const struct row *row) { row->round(row->one, row->library, row->table); }
+/* Callgrind is told itself where to count: that it sees where a function ends cannot be relied on on every machine. */
+static void count_round(const struct row *row) {
+    CALLGRIND_TOGGLE_COLLECT;
+    row->round(row->one, row->library, row->table);
+    CALLGRIND_TOGGLE_COLLECT;
+    CALLGRIND_DUMP_STATS;
+}
 
 static void count(void) {
-    void (*volatile counted)(const struct row *) = counted_window;
     for (int i = 0; i < row_count; i++) {
         if (strncmp(rows[i].one->name, "hostile", 7) == 0) continue;
         rows[i].round(rows[i].one, rows[i].library, rows[i].table);
-        counted(&rows[i]);
+        count_round(&rows[i]);
         printf("%s\t%s\t%u\n", rows[i].one->name, rows[i].program, (unsigned)rows[i].one->count);
     }
 }

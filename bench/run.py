@@ -194,18 +194,21 @@ def count_instructions(data: Path) -> Times:
     folder = BUILD / "callgrind"
     shutil.rmtree(folder, ignore_errors=True)
     folder.mkdir(parents=True)
-    words = ["valgrind", "--tool=callgrind", f"--callgrind-out-file={folder}/out", "--toggle-collect=counted_window",
-             "--dump-after=counted_window", BUILD / "measure", data, "--count"]
+    words = ["valgrind", "--tool=callgrind", f"--callgrind-out-file={folder}/out", "--collect-atstart=no",
+             BUILD / "measure", data, "--count"]
     found = subprocess.run(words, cwd=ROOT, text=True, stdout=subprocess.PIPE, stderr=subprocess.DEVNULL)
-    counts = {}
-    for place, line in enumerate(found.stdout.splitlines(), 1):
-        name, program, calls = line.split("\t")
-        total = re.search(r"^totals: (\d+)", (folder / f"out.{place}").read_text(), re.MULTILINE)
-        if total:
-            counts[name, program] = int(total.group(1)) / int(calls)
     if found.returncode != 0:
         print("valgrind: it did not run to its end, the instruction counts are left out", file=sys.stderr)
         return {}
+    counts = {}
+    for place, line in enumerate(found.stdout.splitlines(), 1):
+        name, program, calls = line.split("\t")
+        dump = folder / f"out.{place}"
+        total = re.search(r"^totals: (\d+)", dump.read_text(), re.MULTILINE) if dump.exists() else None
+        if total is None:
+            print("valgrind: it left no count for each case, the instruction counts are left out", file=sys.stderr)
+            return {}
+        counts[name, program] = int(total.group(1)) / int(calls)
     return counts
 
 
