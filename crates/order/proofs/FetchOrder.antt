@@ -24,7 +24,8 @@ use Rattle.recommend.proofs.SameEntries.{recommended-alike, key-alike}
 use Rattle.order.specs.Fetching.{after, fetched, fits, allFit, Agreeing, SayTheSame}
 use Rattle.order.proofs.Halves.{Seen, Timely, Stamped}
 use Rattle.order.proofs.Permuting.{permuted-stands, folded, Steps, folded-permuted}
-use Rattle.order.proofs.EntryOrder.{Known, entry-keeps, entry-swap}
+use Rattle.order.proofs.Shares.{Known}
+use Rattle.order.proofs.EntryOrder.{entry-keeps, entry-swap}
 
 -- a good message's counted field has the message's date
 good-stamped : (m : Message) → GoodMessage m → Stamped (m .date) (m .direct)

@@ -5,4 +5,5 @@ pub mod FetchOrder
 pub mod Halves
 pub mod Later
 pub mod Permuting
+pub mod Shares
 pub mod WorkedOrder

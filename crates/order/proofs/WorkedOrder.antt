@@ -260,7 +260,7 @@ either-order =
     both-agree
 
 pub younger-stands : targetKeyOf (tableAfter free (older ∷ younger ∷ [])) ann 0 ≡ ascii "bar"
-unfolding advice.targetIn advice.targetOf advice.targetBy advice.directOf advice.gossipOf entryAfter brought.entryHeard brought.entryPut update.updated update.younger update.withField newcomer seenBy withDirect octets.sameOctets octets.lowered octets.lower address.canonical address.plain address.localPart address.atom address.domain address.label address.freeEnds tests.every pieces.onFirst pieces.pieces pieces.before pieces.behind runs.belongs blank orElse
+unfolding advice.targetIn advice.targetOf advice.targetBy advice.directOf advice.gossipOf entryAfter brought.entryHeard brought.entryPut update.updated update.taking update.stays update.above newcomer seenBy withDirect octets.sameOctets octets.lowered octets.lower address.canonical address.plain address.localPart address.atom address.domain address.label address.freeEnds tests.every pieces.onFirst pieces.pieces pieces.before pieces.behind runs.belongs blank orElse
 younger-stands =
     alone-taken (tableAfter free both) ann (both-sound older older-octets "foo" 1000 (reads .0) younger younger-octets "bar" 2000 (reads .1)) refl
     ∙ ap advice.targetOf (both-entry older older-octets "foo" 1000 (reads .0) younger younger-octets "bar" 2000 (reads .1))
