@@ -105,13 +105,16 @@ module _ (order : Order Direct) where
     unfolding Timely
     sent-parts date brought e s h = sent-by date brought (e .address) (e .lastSeen) (e .direct) (e .gossip) s h
 
-    pub timely-sent : (date : ℕ) (brought : Option Direct) (e : Entry) → Stamped date brought → Timely e → Timely (taking theDirect order date brought e)
+    pub timely-sent : (date : ℕ) (brought : Option Direct) (e : Entry) → Stamped date brought → Timely e
+        → Timely (taking theDirect order date brought e)
     unfolding Timely
     timely-sent date brought e s h =
         rw (sent-parts date brought e s h)
-        (later-holds theDirect order (Seen (some (max (orElse 0 (e .lastSeen)) date))) brought (e .direct) (seen-new (e .lastSeen) date brought s) (seen-more (e .lastSeen) date (e .direct) h))
+        (later-holds theDirect order (Seen (some (max (orElse 0 (e .lastSeen)) date))) brought (e .direct)
+        (seen-new (e .lastSeen) date brought s) (seen-more (e .lastSeen) date (e .direct) h))
 
-    pub sent-swap : (d₁ d₂ : ℕ) (b₁ b₂ : Option Direct) (e : Entry) → Stamped d₁ b₁ → Stamped d₂ b₂ → Timely e → Settled theDirect order b₂ b₁
+    pub sent-swap : (d₁ d₂ : ℕ) (b₁ b₂ : Option Direct) (e : Entry) → Stamped d₁ b₁ → Stamped d₂ b₂ → Timely e
+        → Settled theDirect order b₂ b₁
         → taking theDirect order d₂ b₂ (taking theDirect order d₁ b₁ e) ≡ taking theDirect order d₁ b₁ (taking theDirect order d₂ b₂ e)
     unfolding orElse
     sent-swap d₁ d₂ b₁ b₂ e s₁ s₂ h same =

@@ -7,7 +7,7 @@
 --     later-holds                    what holds of both holds of the one that stands
 --     above-orderly, above-tied      the paper's order: "An equal date replaces."
 -- Assumes nothing.
-use Prim.Native.Nat.{ℕ, _≤_, _<_}
+use Prim.Native.Nat.{ℕ, _≤_}
 use mathlib.Core.Path.{_≡_, refl, sym, _∙_}
 use mathlib.Core.Bool.{Bool, true, false}
 use mathlib.Core.Option.{Option, some, none}

@@ -1,7 +1,9 @@
+pub mod CallOrder
 pub mod EachPremise
 pub mod EntryOrder
 pub mod FetchCalls
 pub mod FetchOrder
+pub mod Forms
 pub mod Halves
 pub mod Later
 pub mod Permuting

@@ -43,7 +43,8 @@ known-else b none k = tt
 known-else b (some e) k = k
 
 module _ (sending : Order Direct) (telling : Order Gossip) (so : Orderly theDirect sending) (to : Orderly theGossip telling) (b : List ℕ) where
-  known-sent : (x : Bool) (date : ℕ) (brought : Option Direct) (e : Option Entry) → Stamped date brought → Known e → Known (sentBy sending b x date brought e)
+  known-sent : (x : Bool) (date : ℕ) (brought : Option Direct) (e : Option Entry) → Stamped date brought → Known e
+      → Known (sentBy sending b x date brought e)
   unfolding Known sentBy
   known-sent true date brought e s k = timely-sent sending so date brought (orElse (newcomer b) e) s (known-else b e k)
   known-sent false date brought e s k = k
@@ -82,8 +83,9 @@ module _ (sending : Order Direct) (telling : Order Gossip) (so : Orderly theDire
     sent-sent true true e k same =
         ap some (sent-swap sending so (s .date) (r .date) (s .direct) (r .direct) (orElse (newcomer b) e) hs hr (known-else b e k) (same refl refl))
 
-    pub share-swap : (s .sent ≡ true → r .sent ≡ true → Settled theDirect sending (r .direct) (s .direct)) → Settled theGossip telling (r .gossip) (s .gossip)
-        → (e : Option Entry) → Known e → shared sending telling b r (shared sending telling b s e) ≡ shared sending telling b s (shared sending telling b r e)
+    pub share-swap : (s .sent ≡ true → r .sent ≡ true → Settled theDirect sending (r .direct) (s .direct))
+        → Settled theGossip telling (r .gossip) (s .gossip) → (e : Option Entry) → Known e
+        → shared sending telling b r (shared sending telling b s e) ≡ shared sending telling b s (shared sending telling b r e)
     share-swap direct gossip e k =
         twice s r
         ∙ heard-heard (s .gossip) (r .gossip) _ gossip

@@ -61,7 +61,7 @@ use Rattle.settings.specs.declared.Gossip.the-variants.{Unset}
 use Rattle.process.proofs.Outcomes.{message-fits, done-left}
 use Rattle.recommend.specs.Recommending.{targetKeyOf}
 use Rattle.order.specs.Fetching.{Agree, SayTheSame}
-use Rattle.order.specs.Calls.{Call, answerTo, leftBy, tableAfter, answers, messageIn, OctetCall}
+use Rattle.order.specs.Calls.{Call, OctetCall, leftByAll, answersOf, answerTo, leftBy, messageIn, tableAfter, answers}
 use Rattle.trip.proofs.HandedOut.{alone-taken}
 use Rattle.trip.proofs.WorkedTrip.{tested, free}
 use Rattle.order.proofs.FetchCalls.{brings-message, call-good, calls-in-any-order}
@@ -180,11 +180,11 @@ module _ (c : Call) (o : OctetCall c) (key : String) (at : ℕ) (e : Reads c (br
     next-good = call-good d p (bringing next then) (brings-it d (bringing next then) f)
 
     both-done : answers free (c ∷ d ∷ []) ≡ Done ∷ Done ∷ []
-    unfolding answers
+    unfolding answersOf
     both-done = rw (first-done, first-left, next-done)
 
     both-after : tableAfter free (c ∷ d ∷ []) ≡ applied first (bringing next then)
-    unfolding tableAfter
+    unfolding leftByAll
     both-after = ap (λ (t : List ℕ). leftBy t d) first-left ∙ next-left
 
     both-sound : checked (tableAfter free (c ∷ d ∷ [])) ≡ Sound
