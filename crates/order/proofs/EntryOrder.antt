@@ -15,13 +15,12 @@ use Rattle.octets.proofs.Comparing.{same-true}
 use Rattle.octets.proofs.Tests.{by-test}
 use Rattle.slots.specs.Entry.{Gossip, Entry, newcomer}
 use Rattle.update.specs.Update.{above, theDirect, updated, theGossip, heard}
-use Rattle.update.proofs.Halves.{heard-again}
 use Rattle.update.specs.Message.{Gossiped, Message, entryPut, entryHeard, entryAfter}
 use Rattle.order.specs.Brought.{bringsDirect, lastOf, keyAbout, lastKey, bringsGossip}
 use Rattle.order.specs.Fetching.{Agree}
-use Rattle.order.proofs.Later.{Settled, above-orderly, above-tied}
+use Rattle.order.proofs.Later.{later, Settled, above-orderly, above-tied, above-equal}
 use Rattle.order.proofs.Halves.{Stamped}
-use Rattle.order.proofs.Shares.{Share, sentBy, heardOf, shared, Known, share-keeps, share-swap}
+use Rattle.order.proofs.Shares.{Share, sentBy, heardOf, shared, heard-both, Known, share-keeps, share-swap}
 
 -- a key by gossip, as the half of a date
 unfoldable heardAt : ℕ → Option (List ℕ) → Option Gossip
@@ -49,12 +48,16 @@ module _ (date : ℕ) (b : List ℕ) where
       (λ t. rw (entryPut, keyAbout, t) (ap (λ (a : List ℕ). some (heard date (g .key) (orElse (newcomer a) e))) (same-true (g .address) b t)))
       (λ f. rw (entryPut, keyAbout, f))
 
+  last-later : (first last : Option (List ℕ)) → later theGossip (above theGossip) (heardAt date last) (heardAt date first) ≡ heardAt date (lastOf first last)
+  unfolding later heardAt lastOf
+  last-later first none = refl
+  last-later none (some key) = refl
+  last-later (some k) (some key) = above-equal theGossip (record { timestamp = date; key = k }) (record { timestamp = date; key = key }) refl
+
   heard-last : (first last : Option (List ℕ)) (e : Option Entry) → told last (told first e) ≡ told (lastOf first last) e
-  unfolding heardOf heardAt lastOf orElse heard
-  heard-last none none e = refl
-  heard-last none (some key) e = refl
-  heard-last (some k) none e = refl
-  heard-last (some k) (some key) e = ap some (heard-again date k key (orElse (newcomer b) e))
+  heard-last first last e =
+      heard-both (above theGossip) (above-orderly theGossip) b (heardAt date first) (heardAt date last) e
+      ∙ ap (λ (g : Option Gossip). heardOf (above theGossip) b g e) (last-later first last)
 
   heard-all : (gs : List Gossiped) (e : Option Entry) → entryHeard date gs b e ≡ told (lastKey gs b) e
   unfolding entryHeard lastKey heardOf heardAt

@@ -4,6 +4,7 @@
 --     hearing                            a gossip half comes in with its own date
 --     sent-parts, heard-parts            a message of the sender and gossip, by the parts
 --     timely-sent, timely-heard          both keep last seen above the Autocrypt timestamp
+--     heard-twice                        gossip behind gossip: the one of them that stands
 --     sent-swap, heard-swap, apart-swap  two changes in either order
 -- Assumes nothing.
 use Prim.Native.Nat.{ℕ, _≤_, max}
@@ -17,7 +18,7 @@ use Rattle.octets.proofs.Tests.{by-test}
 use Rattle.slots.specs.Entry.{Direct, Gossip, Entry, seenBy, withDirect, withGossip}
 use Rattle.update.specs.Update.{Order, stays, withHalf, taking, theDirect, theGossip}
 use Rattle.update.proofs.Writing.{taking-stays, taking-takes}
-use Rattle.order.proofs.Later.{over, later, Orderly, later-stays, later-replaces, later-holds, Settled, later-swap}
+use Rattle.order.proofs.Later.{over, later, Orderly, later-stays, later-replaces, later-holds, Settled, later-swap, later-twice}
 
 -- "a direct key implies last seen present and not below the Autocrypt timestamp"
 pub record Seen (seen : Option ℕ) (d : Direct) : Type 0 where
@@ -161,20 +162,31 @@ module _ (order : Order Gossip) where
   unfolding Timely
   timely-heard g e h = rw (heard-parts g e) h
 
-  pub heard-swap : Orderly theGossip order → (g₁ g₂ : Gossip) (e : Entry) → Settled theGossip order (some g₂) (some g₁)
-      → hearing g₂ (hearing g₁ e) ≡ hearing g₁ (hearing g₂ e)
-  heard-swap o g₁ g₂ e same =
-      twice g₁ g₂
-      ∙ (λ i. record {
-        address = e .address;
-        lastSeen = e .lastSeen;
-        direct = e .direct;
-        gossip = later-swap theGossip order o (some g₂) (some g₁) (e .gossip) same i;
-      })
-      ∙ sym (twice g₂ g₁)
-    where
-      twice : (g₁ g₂ : Gossip) → hearing g₂ (hearing g₁ e) ≡ heardParts g₂ (heardParts g₁ e)
-      twice g₁ g₂ = heard-parts g₂ (hearing g₁ e) ∙ ap (heardParts g₂) (heard-parts g₁ e)
+  both-parts : (g₁ g₂ : Gossip) (e : Entry) → hearing g₂ (hearing g₁ e) ≡ heardParts g₂ (heardParts g₁ e)
+  both-parts g₁ g₂ e = heard-parts g₂ (hearing g₁ e) ∙ ap (heardParts g₂) (heard-parts g₁ e)
+
+  module _ (o : Orderly theGossip order) (g₁ g₂ : Gossip) (e : Entry) where
+    pub heard-swap : Settled theGossip order (some g₂) (some g₁) → hearing g₂ (hearing g₁ e) ≡ hearing g₁ (hearing g₂ e)
+    heard-swap same =
+        both-parts g₁ g₂ e
+        ∙ (λ i. record {
+          address = e .address;
+          lastSeen = e .lastSeen;
+          direct = e .direct;
+          gossip = later-swap theGossip order o (some g₂) (some g₁) (e .gossip) same i;
+        })
+        ∙ sym (both-parts g₂ g₁ e)
+
+    pub heard-twice : (g : Gossip) → later theGossip order (some g₂) (some g₁) ≡ some g → hearing g₂ (hearing g₁ e) ≡ hearing g e
+    heard-twice g q =
+        both-parts g₁ g₂ e
+        ∙ (λ i. record {
+          address = e .address;
+          lastSeen = e .lastSeen;
+          direct = e .direct;
+          gossip = (later-twice theGossip order o (some g₁) (some g₂) (e .gossip) ∙ ap (λ (x : Option Gossip). later theGossip order x (e .gossip)) q) i;
+        })
+        ∙ sym (heard-parts g e)
 
   -- the sender's message leaves gossip alone, and gossip leaves the rest alone
   pub apart-swap : (sending : Order Direct) (date : ℕ) (b : Option Direct) (g : Gossip) (e : Entry)

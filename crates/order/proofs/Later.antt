@@ -4,12 +4,13 @@
 --     Orderly                        what is asked of an order
 --     later-stays, later-replaces    the old one stays, or is replaced
 --     Settled, later-swap            two come in in either order, if one stays against the other or they are the same
+--     later-twice                    two come in one after the other, or the one of them that stands
 --     later-holds                    what holds of both holds of the one that stands
---     above-orderly, above-tied      the paper's order: "An equal date replaces."
+--     above-orderly .. above-equal   the paper's order: "An equal date replaces."
 -- Assumes nothing.
 use Prim.Native.Nat.{ℕ, _≤_}
 use mathlib.Core.Path.{_≡_, refl, sym, _∙_}
-use mathlib.Core.Bool.{Bool, true, false}
+use mathlib.Core.Bool.{Bool, true, false, false≢true}
 use mathlib.Core.Option.{Option, some, none}
 use native.Mathlib.Omega.{arith}
 use borrow.Author.Tests.{ltb-true, ltb-false, lt-ltb, le-ltb}
@@ -90,6 +91,36 @@ module _ {A : Type 0} (half : Half A) (order : Order A) where
     later-swap (some x) (some y) none same = both-swap x y (same x y refl refl)
     later-swap (some x) (some y) (some old) same = three-swap x y old (same x y refl refl)
 
+    -- what stays against one that stays against a third, and what does not
+    stays-on : (x y z : A) → over half order x y ≡ true → over half order y z ≡ true → over half order x z ≡ true
+    stays-on x y z t u = by-test (over half order x z) (λ h. h) (λ f. absurd (false≢true (sym (o .one-way y z u) ∙ o .between x z y t f)))
+
+    yields-on : (x y z : A) → over half order x y ≡ false → over half order y z ≡ false → over half order x z ≡ false
+    yields-on x y z f g = by-test (over half order x z) (λ t. absurd (false≢true (sym g ∙ o .between x y z t f))) (λ h. h)
+
+    three-twice : (x y old : A)
+        → later half order (some y) (later half order (some x) (some old)) ≡ later half order (later half order (some y) (some x)) (some old)
+    three-twice x y old =
+        by-test (over half order old x)
+        (λ h. by-test (over half order x y)
+        (λ t. rw (later-stays x old h, later-stays y x t) (later-stays y old (stays-on old x y h t) ∙ sym (later-stays x old h)))
+        (λ f. rw (later-stays x old h, later-replaces y x f)))
+        (λ h. by-test (over half order x y)
+        (λ t. rw (later-replaces x old h, later-stays y x t) (sym (later-replaces x old h)))
+        (λ f. rw (later-replaces x old h, later-replaces y x f) (sym (later-replaces y old (yields-on old x y h f)))))
+
+    onto-none : (x : Option A) → later half order x none ≡ x
+    unfolding later
+    onto-none none = refl
+    onto-none (some x) = refl
+
+    pub later-twice : (x y old : Option A) → later half order y (later half order x old) ≡ later half order (later half order y x) old
+    unfolding later
+    later-twice x none old = refl
+    later-twice none (some y) old = refl
+    later-twice (some x) (some y) none = sym (onto-none (later half order (some y) (some x)))
+    later-twice (some x) (some y) (some old) = three-twice x y old
+
 -- the paper's order
 module _ {A : Type 0} (half : Half A) where
   pub above-orderly : Orderly half (above half)
@@ -108,3 +139,8 @@ module _ {A : Type 0} (half : Half A) where
   pub above-tied : (x y : A) → over half (above half) x y ≡ false → over half (above half) y x ≡ false → half .timestamp x ≡ half .timestamp y
   unfolding above over
   above-tied x y f g = omega (arith, ltb-false (half .timestamp y) (half .timestamp x) f, ltb-false (half .timestamp x) (half .timestamp y) g)
+
+  -- of two that come in at one date the last stands
+  pub above-equal : (x y : A) → half .timestamp x ≡ half .timestamp y → later half (above half) (some y) (some x) ≡ some y
+  unfolding above over
+  above-equal x y e = later-replaces half (above half) y x (le-ltb (half .timestamp y) (half .timestamp x) (omega arith))

@@ -1,6 +1,7 @@
 -- What a message brings one address, and what that does to its entry, by an order for each half.
 --     Share, shared    the address is the sender's or not, and the halves that come in
 --     Known            what is known of an entry, or of none
+--     heard-both       gossip behind gossip: the one of them that stands
 --     share-keeps      a share keeps that
 --     share-swap       two shares in either order, where their halves are settled
 -- Assumes nothing.
@@ -10,10 +11,11 @@ use mathlib.Core.Bool.{Bool, true, false}
 use mathlib.Core.List.{List}
 use mathlib.Core.Option.{Option, some, none}
 use Rattle.octets.specs.Options.{orElse, IfSome}
+use Rattle.octets.proofs.Tests.{by-test}
 use Rattle.slots.specs.Entry.{Direct, Gossip, Entry, newcomer}
 use Rattle.update.specs.Update.{Order, taking, theDirect, theGossip}
-use Rattle.order.proofs.Later.{Orderly, Settled}
-use Rattle.order.proofs.Halves.{Timely, Stamped, hearing, timely-sent, timely-heard, sent-swap, heard-swap, apart-swap}
+use Rattle.order.proofs.Later.{over, later, Orderly, later-stays, later-replaces, Settled}
+use Rattle.order.proofs.Halves.{Timely, Stamped, hearing, timely-sent, timely-heard, sent-swap, heard-swap, heard-twice, apart-swap}
 
 pub record Share : Type 0 where
   pub sent : Bool
@@ -41,6 +43,17 @@ known-else : (b : List ℕ) (e : Option Entry) → Known e → Timely (orElse (n
 unfolding Known Timely newcomer orElse
 known-else b none k = tt
 known-else b (some e) k = k
+
+-- "Gossip fields are read in order from the payload."
+module _ (order : Order Gossip) (o : Orderly theGossip order) (b : List ℕ) where
+  pub heard-both : (x y : Option Gossip) (e : Option Entry) → heardOf order b y (heardOf order b x e) ≡ heardOf order b (later theGossip order y x) e
+  unfolding heardOf later orElse
+  heard-both x none e = refl
+  heard-both none (some h) e = refl
+  heard-both (some g) (some h) e =
+      by-test (over theGossip order g h)
+      (λ t. rw (later-stays theGossip order h g t) (ap some (heard-twice order o g h (orElse (newcomer b) e) g (later-stays theGossip order h g t))))
+      (λ f. rw (later-replaces theGossip order h g f) (ap some (heard-twice order o g h (orElse (newcomer b) e) h (later-replaces theGossip order h g f))))
 
 module _ (sending : Order Direct) (telling : Order Gossip) (so : Orderly theDirect sending) (to : Orderly theGossip telling) (b : List ℕ) where
   known-sent : (x : Bool) (date : ℕ) (brought : Option Direct) (e : Option Entry) → Stamped date brought → Known e
