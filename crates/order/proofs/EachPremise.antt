@@ -10,7 +10,7 @@ use Rattle.octets.specs.Octets.{ascii, sameOctets}
 use Rattle.octets.specs.Options.{orElse}
 use Rattle.slots.specs.Entry.{newcomer, seenBy, withDirect, withGossip}
 use Rattle.advice.specs.Advice.{directOf, gossipOf, targetBy, targetOf}
-use Rattle.update.specs.Update.{younger, withField, updated, youngerGossip, heard}
+use Rattle.update.specs.Update.{stays, taking, above, updated, heard}
 use Rattle.update.specs.Message.{Message, entryPut, entryHeard, entryAfter}
 
 abbrev ann : List ℕ
@@ -31,9 +31,9 @@ unfoldable targetAfter : Message → Message → List ℕ
 targetAfter m n = targetOf (entryAfter n ann (entryAfter m ann none))
 
 direct-differs : (targetAfter (keyed (ascii "one")) (keyed (ascii "two")) ≡ ascii "two") × (targetAfter (keyed (ascii "two")) (keyed (ascii "one")) ≡ ascii "one")
-unfolding targetAfter entryAfter entryHeard entryPut sameOctets newcomer updated younger withField seenBy withDirect targetOf targetBy directOf gossipOf orElse
+unfolding targetAfter entryAfter entryHeard entryPut sameOctets newcomer updated taking stays above seenBy withDirect targetOf targetBy directOf gossipOf orElse
 direct-differs = (refl, refl)
 
 gossip-differs : (targetAfter (telling (ascii "one")) (telling (ascii "two")) ≡ ascii "two") × (targetAfter (telling (ascii "two")) (telling (ascii "one")) ≡ ascii "one")
-unfolding targetAfter entryAfter entryHeard entryPut sameOctets newcomer heard youngerGossip withGossip targetOf targetBy directOf gossipOf orElse
+unfolding targetAfter entryAfter entryHeard entryPut sameOctets newcomer heard taking stays above withGossip targetOf targetBy directOf gossipOf orElse
 gossip-differs = (refl, refl)

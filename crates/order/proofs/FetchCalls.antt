@@ -1,16 +1,13 @@
 -- Demand 3 in words of the calls: `process` one call after the other, in two orders.
 --     left-after, answer-fits        on a sound table a call leaves what its message does
 --     call-good                      what a call brings is good
---     map-stands                     what stands in a list of changed elements
---     calls-run                      the calls of a list are their messages, one after the other
 --     calls-in-any-order             the whole of demand 3
 --     broken-stays                   any other table stays as it is, in whatever order
 -- Assumes nothing.
 use Prim.Native.Nat.{ℕ}
 use mathlib.Core.Path.{_≡_, refl, sym, ap, _∙_}
-use mathlib.Core.Logic.{⊎-elim}
 use mathlib.Core.Bool.{true, false}
-use mathlib.Core.List.{List, [], _∷_, map, List·Memᴰ, List·Memᴰ·head, List·Memᴰ·tail, List·Memᴰ·cases-cons, List·Memᴰ·not-nil, List·Permᴰ, Permᴰ·map, Permᴰ·symm}
+use mathlib.Core.List.{List, [], _∷_, List·Memᴰ, List·Permᴰ}
 use mathlib.Core.Option.{Option, some, none}
 use native.Mathlib.Omega.{arith}
 use Rattle.octets.specs.Octets.{AllOctets}
@@ -28,10 +25,11 @@ use Rattle.update.specs.Message.{Message, GoodMessage, hasRoom}
 use Rattle.delivery.specs.Delivery.{delivered}
 use Rattle.process.specs.Processing.{messageRows, messageOf, refusedProcessing}
 use Rattle.process.proofs.Outcomes.{in-order, message-good, unsound-first, message-refused, message-fits, message-full, refused-left, done-left}
-use Rattle.order.specs.Fetching.{after, fetched, fits, allFit, Agree, Agreeing, SayTheSame}
-use Rattle.order.specs.Calls.{Call, answerTo, leftBy, tableAfter, answers, messageIn, OctetCall}
-use Rattle.order.proofs.Permuting.{permuted-stands}
-use Rattle.order.proofs.FetchOrder.{fetched-one, fetch-order}
+use Rattle.order.specs.Fetching.{slotForm, after, fits, Agree, SayTheSame}
+use Rattle.order.specs.Calls.{Call, OctetCall, leftByAll, answerTo, leftBy, messageIn, slotCalling, tableAfter, answers}
+use Rattle.order.proofs.Forms.{slots-lawful}
+use Rattle.order.proofs.FetchOrder.{say-the-same}
+use Rattle.order.proofs.CallOrder.{Delivers, calls-alike}
 
 -- what a call brings, by the rows for which no table is asked
 module _ (c : Call) where
@@ -79,7 +77,7 @@ module _ (c : Call) where
     unfolding leftBy
     stays r e = refused-left t (c .receipt) (c .outer) (c .payload) (c .setting) r e
 
-    left-after : leftBy t c ≡ after t (messageIn c)
+    left-after : leftBy t c ≡ after slotForm t (messageIn c)
     unfolding after delivered leftBy
     left-after =
         by-way
@@ -87,7 +85,7 @@ module _ (c : Call) where
         (λ e h q. rw (brings-message e, delivered, h) (stays NoFreeSlot q))
         (λ e h q. rw (brings-message e, delivered, h) (done-left t (c .receipt) (c .outer) (c .payload) (c .setting) q))
 
-    answer-fits : (Refused NoFreeSlot ≡ answerTo t c → ⊥) → fits t (messageIn c) ≡ true
+    answer-fits : (Refused NoFreeSlot ≡ answerTo t c → ⊥) → fits slotForm t (messageIn c) ≡ true
     unfolding fits answerTo
     answer-fits n =
         by-way
@@ -95,28 +93,8 @@ module _ (c : Call) where
         (λ e h q. absurd (n (sym (refused-is Refused Done refusal NoFreeSlot q))))
         (λ e h q. rw (brings-message e) h)
 
--- what stands in a list of changed elements was made of an element
-map-stands : {A B : Type 0} (f : A → B) (list : List A) (y : B) → List·Memᴰ y (map f list) → (x : A) × List·Memᴰ x list × (y ≡ f x)
-map-stands f [] y i = absurd (List·Memᴰ·not-nil i)
-map-stands f (a ∷ rest) y i =
-    ⊎-elim
-    (λ q. (a, List·Memᴰ·head refl, q))
-    (λ j. let r = map-stands f rest y j in (r .0, List·Memᴰ·tail (r .1), r .2))
-    (List·Memᴰ·cases-cons i)
-
--- the calls of a list are their messages, where none is refused for room
-calls-run : (cs : List Call) (t : List ℕ) → AllOctets t → checked t ≡ Sound → ((c : Call) → List·Memᴰ c cs → OctetCall c)
-    → (List·Memᴰ (Refused NoFreeSlot) (answers t cs) → ⊥)
-    → (tableAfter t cs ≡ fetched t (map messageIn cs)) × (allFit t (map messageIn cs) ≡ true)
-unfolding tableAfter answers fetched allFit
-calls-run [] t o s octets n = (refl, refl)
-calls-run (c ∷ rest) t o s octets n =
-    let fit : fits t (messageIn c) ≡ true = answer-fits c t s (λ q. n (List·Memᴰ·head q)) in
-    let one = fetched-one t (messageIn c) o s (call-good c (octets c (List·Memᴰ·head refl))) fit in
-    let e : leftBy t c ≡ after t (messageIn c) = left-after c t s in
-    let more : List·Memᴰ (Refused NoFreeSlot) (answers (after t (messageIn c)) rest) → ⊥ = λ i. n (List·Memᴰ·tail (rw e i)) in
-    let others = calls-run rest (after t (messageIn c)) (one .octets) (one .sound) (λ d i. octets d (List·Memᴰ·tail i)) more in
-    (ap (λ (u : List ℕ). tableAfter u rest) e ∙ others .0, rw fit (others .1))
+process-delivers : Delivers slotForm slotCalling
+process-delivers = record { leaves = λ t h c. left-after c t (h .sound); fitting = λ t h c. answer-fits c t (h .sound); good = call-good }
 
 -- Demand 3: two orders of the same calls, from one sound table. If 8 is among the answers of neither, and any two messages that bring an
 -- address something at the same date bring it the same, the tables that they end with say the same.
@@ -125,19 +103,13 @@ pub calls-in-any-order : (t : List ℕ) (cs ds : List Call) → AllOctets t → 
     → (List·Memᴰ (Refused NoFreeSlot) (answers t cs) → ⊥) → (List·Memᴰ (Refused NoFreeSlot) (answers t ds) → ⊥)
     → ((c d : Call) → List·Memᴰ c cs → List·Memᴰ d cs → (m n : Message) → messageIn c ≡ some m → messageIn d ≡ some n → Agree m n)
     → SayTheSame (tableAfter t cs) (tableAfter t ds)
-unfolding Agreeing
 calls-in-any-order t cs ds o s octets p n₁ n₂ agree =
-    let first = calls-run cs t o s octets n₁ in
-    let second = calls-run ds t o s (λ c i. octets c (permuted-stands c (Permᴰ·symm p) i)) n₂ in
-    rw (first .0, second .0)
-    (fetch-order t (map messageIn cs) (map messageIn ds) o s
-    (λ m i. let r = map-stands messageIn cs (some m) i in call-good (r .0) (octets (r .0) (r .1)) m (sym (r .2)))
-    (Permᴰ·map messageIn p) (first .1) (second .1)
-    (λ m n i j. let r = map-stands messageIn cs (some m) i in let q = map-stands messageIn cs (some n) j in agree (r .0) (q .0) (r .1) (q .1) m n (sym (r .2)) (sym (q .2))))
+    say-the-same (tableAfter t cs) (tableAfter t ds)
+    (calls-alike slotForm slots-lawful slotCalling process-delivers t cs ds (record { octets = o; sound = s }) octets p n₁ n₂ agree)
 
 -- rows 1 and 2: every call refuses a table that is not sound, and leaves it
 pub broken-stays : (t : List ℕ) (cs : List Call) → (checked t ≡ Sound → ⊥) → tableAfter t cs ≡ t
-unfolding tableAfter leftBy
+unfolding leftByAll leftBy
 broken-stays t [] n = refl
 broken-stays t (c ∷ rest) n =
     ap (λ (u : List ℕ). tableAfter u rest)

@@ -1,8 +1,11 @@
+pub mod CallOrder
 pub mod EachPremise
 pub mod EntryOrder
 pub mod FetchCalls
 pub mod FetchOrder
+pub mod Forms
 pub mod Halves
 pub mod Later
 pub mod Permuting
+pub mod Shares
 pub mod WorkedOrder

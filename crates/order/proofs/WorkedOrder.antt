@@ -61,7 +61,7 @@ use Rattle.settings.specs.declared.Gossip.the-variants.{Unset}
 use Rattle.process.proofs.Outcomes.{message-fits, done-left}
 use Rattle.recommend.specs.Recommending.{targetKeyOf}
 use Rattle.order.specs.Fetching.{Agree, SayTheSame}
-use Rattle.order.specs.Calls.{Call, answerTo, leftBy, tableAfter, answers, messageIn, OctetCall}
+use Rattle.order.specs.Calls.{Call, OctetCall, leftByAll, answersOf, answerTo, leftBy, messageIn, tableAfter, answers}
 use Rattle.trip.proofs.HandedOut.{alone-taken}
 use Rattle.trip.proofs.WorkedTrip.{tested, free}
 use Rattle.order.proofs.FetchCalls.{brings-message, call-good, calls-in-any-order}
@@ -180,11 +180,11 @@ module _ (c : Call) (o : OctetCall c) (key : String) (at : ℕ) (e : Reads c (br
     next-good = call-good d p (bringing next then) (brings-it d (bringing next then) f)
 
     both-done : answers free (c ∷ d ∷ []) ≡ Done ∷ Done ∷ []
-    unfolding answers
+    unfolding answersOf
     both-done = rw (first-done, first-left, next-done)
 
     both-after : tableAfter free (c ∷ d ∷ []) ≡ applied first (bringing next then)
-    unfolding tableAfter
+    unfolding leftByAll
     both-after = ap (λ (t : List ℕ). leftBy t d) first-left ∙ next-left
 
     both-sound : checked (tableAfter free (c ∷ d ∷ [])) ≡ Sound
@@ -260,7 +260,7 @@ either-order =
     both-agree
 
 pub younger-stands : targetKeyOf (tableAfter free (older ∷ younger ∷ [])) ann 0 ≡ ascii "bar"
-unfolding advice.targetIn advice.targetOf advice.targetBy advice.directOf advice.gossipOf entryAfter brought.entryHeard brought.entryPut update.updated update.younger update.withField newcomer seenBy withDirect octets.sameOctets octets.lowered octets.lower address.canonical address.plain address.localPart address.atom address.domain address.label address.freeEnds tests.every pieces.onFirst pieces.pieces pieces.before pieces.behind runs.belongs blank orElse
+unfolding advice.targetIn advice.targetOf advice.targetBy advice.directOf advice.gossipOf entryAfter brought.entryHeard brought.entryPut update.updated update.taking update.stays update.above newcomer seenBy withDirect octets.sameOctets octets.lowered octets.lower address.canonical address.plain address.localPart address.atom address.domain address.label address.freeEnds tests.every pieces.onFirst pieces.pieces pieces.before pieces.behind runs.belongs blank orElse
 younger-stands =
     alone-taken (tableAfter free both) ann (both-sound older older-octets "foo" 1000 (reads .0) younger younger-octets "bar" 2000 (reads .1)) refl
     ∙ ap advice.targetOf (both-entry older older-octets "foo" 1000 (reads .0) younger younger-octets "bar" 2000 (reads .1))

@@ -1,9 +1,12 @@
 -- "Fetch order is immaterial", in words of what `process` answers and leaves.
---     Call                   what `process` is given beside the table
---     answerTo, leftBy       what it answers and leaves: the definitions that its contract cites
---     tableAfter, answers    the calls of a list one after the other
---     messageIn              what a call brings: none where it is refused by 3 to 7
---     OctetCall              lent memory holds octets
+--     Call                     what `process` is given beside the table
+--     OctetCall                lent memory holds octets
+--     Calling                  what a call on a form of table answers, leaves and brings
+--     leftByAll, answersOf     the calls of a list one after the other
+--     answerTo, leftBy         what `process` answers and leaves: the definitions that its contract cites
+--     messageIn                what a call brings: none where it is refused by 3 to 7
+--     slotCalling              `process` on a table of slots
+--     tableAfter, answers      its calls one after the other
 use Prim.Native.Nat.{ℕ}
 use mathlib.Core.List.{List, [], _∷_}
 use mathlib.Core.Option.{Option, some, none}
@@ -21,25 +24,39 @@ pub record Call : Type 0 where
   pub payload : List ℕ
   pub setting : Gossip
 
+pub record OctetCall (c : Call) : Type 0 where
+  pub outer : AllOctets (c .outer)
+  pub payload : AllOctets (c .payload)
+
+pub record Calling (T : Type 0) : Type 0 where
+  pub answer : T → Call → Answer
+  pub left : T → Call → T
+  pub brings : Call → Option Message
+
+unfoldable pub leftByAll : {T : Type 0} → Calling T → T → List Call → T
+leftByAll calling t [] = t
+leftByAll calling t (c ∷ rest) = leftByAll calling (calling .left t c) rest
+
+unfoldable pub answersOf : {T : Type 0} → Calling T → T → List Call → List Answer
+answersOf calling t [] = []
+answersOf calling t (c ∷ rest) = calling .answer t c ∷ answersOf calling (calling .left t c) rest
+
 unfoldable pub answerTo : List ℕ → Call → Answer
 answerTo t c = answerOf (refusedProcessing t (c .receipt) (c .outer) (c .payload) (c .setting))
 
 unfoldable pub leftBy : List ℕ → Call → List ℕ
 leftBy t c = leftByProcessing t (c .receipt) (c .outer) (c .payload) (c .setting)
 
-unfoldable pub tableAfter : List ℕ → List Call → List ℕ
-tableAfter t [] = t
-tableAfter t (c ∷ rest) = tableAfter (leftBy t c) rest
-
-unfoldable pub answers : List ℕ → List Call → List Answer
-answers t [] = []
-answers t (c ∷ rest) = answerTo t c ∷ answers (leftBy t c) rest
-
 unfoldable pub messageIn : Call → Option Message
 messageIn c =
     unlessRefused (firstOf (messageRows (c .receipt) (c .outer) (c .payload) (c .setting))) none
     (some (messageOf (c .receipt) (c .outer) (c .payload) (c .setting)))
 
-pub record OctetCall (c : Call) : Type 0 where
-  pub outer : AllOctets (c .outer)
-  pub payload : AllOctets (c .payload)
+abbrev pub slotCalling : Calling (List ℕ)
+slotCalling = record { answer = answerTo; left = leftBy; brings = messageIn }
+
+abbrev pub tableAfter : List ℕ → List Call → List ℕ
+tableAfter t cs = leftByAll slotCalling t cs
+
+abbrev pub answers : List ℕ → List Call → List Answer
+answers t cs = answersOf slotCalling t cs

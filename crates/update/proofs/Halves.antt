@@ -14,44 +14,47 @@ use native.Mathlib.Omega.{arith}
 use borrow.Author.Tests.{le-ltb}
 use Rattle.octets.proofs.Tests.{by-test}
 use Rattle.slots.specs.Entry.{Direct, Gossip, Entry, seenBy, withDirect, withGossip}
-use Rattle.update.specs.Update.{younger, withField, updated, youngerGossip, heard}
-use Rattle.update.proofs.Writing.{updated-older, updated-now, heard-older, heard-now}
+use Rattle.update.specs.Update.{Order, stays, Half, withHalf, taking, above, theDirect, younger, updated, theGossip, youngerGossip, heard}
+use Rattle.update.proofs.Writing.{taking-stays, taking-takes, heard-older, heard-now}
 
--- what both ways of an update, or of gossip, have in common
-module _ {A : Type 0} (part : Entry → A) (date : ℕ) (e : Entry) where
-  updated-keeps : (brought : Option Direct) → part (withField brought (seenBy date e)) ≡ part e → part (updated date brought e) ≡ part e
-  updated-keeps brought h =
-      by-test (younger date (e .direct)) (λ y. ap part (updated-older date e brought y)) (λ y. ap part (updated-now date e brought y) ∙ h)
-
-  heard-keeps : (key : List ℕ) → part (withGossip (record { timestamp = date; key = key }) e) ≡ part e → part (heard date key e) ≡ part e
-  heard-keeps key h =
-      by-test (youngerGossip date (e .gossip)) (λ y. ap part (heard-older date e key y)) (λ y. ap part (heard-now date e key y) ∙ h)
+-- a part that what comes in leaves alone
+taking-keeps : {A B : Type 0} (part : Entry → B) (half : Half A) (order : Order A) (date : ℕ) (brought : Option A) (e : Entry)
+    → part (withHalf half brought (half .dated date e)) ≡ part e → part (taking half order date brought e) ≡ part e
+taking-keeps part half order date brought e h =
+    by-test (stays order (half .stored e) date brought)
+    (λ y. ap part (taking-stays half order date brought e y))
+    (λ y. ap part (taking-takes half order date brought e y) ∙ h)
 
 module _ (date : ℕ) (e : Entry) where
   pub keyless-direct : updated date none e .direct ≡ e .direct
-  unfolding withField seenBy
-  keyless-direct = updated-keeps (λ (x : Entry). x .direct) date e none refl
+  unfolding updated seenBy
+  keyless-direct = taking-keeps (λ (x : Entry). x .direct) theDirect (above theDirect) date none e refl
 
   pub updated-gossip : (brought : Option Direct) → updated date brought e .gossip ≡ e .gossip
-  unfolding withField seenBy withDirect
-  updated-gossip none = updated-keeps (λ (x : Entry). x .gossip) date e none refl
-  updated-gossip (some d) = updated-keeps (λ (x : Entry). x .gossip) date e (some d) refl
+  unfolding updated seenBy withDirect
+  updated-gossip none = taking-keeps (λ (x : Entry). x .gossip) theDirect (above theDirect) date none e refl
+  updated-gossip (some d) = taking-keeps (λ (x : Entry). x .gossip) theDirect (above theDirect) date (some d) e refl
 
   pub heard-seen : (key : List ℕ) → heard date key e .lastSeen ≡ e .lastSeen
-  unfolding withGossip
-  heard-seen key = heard-keeps (λ (x : Entry). x .lastSeen) date e key refl
+  unfolding heard withGossip
+  heard-seen key = taking-keeps (λ (x : Entry). x .lastSeen) theGossip (above theGossip) date _ e refl
 
   pub heard-direct : (key : List ℕ) → heard date key e .direct ≡ e .direct
-  unfolding withGossip
-  heard-direct key = heard-keeps (λ (x : Entry). x .direct) date e key refl
+  unfolding heard withGossip
+  heard-direct key = taking-keeps (λ (x : Entry). x .direct) theGossip (above theGossip) date _ e refl
+
+-- "An equal date replaces.", of any half
+equal-stays-not : {A : Type 0} (half : Half A) (x : A) → stays (above half) (some x) (half .timestamp x) none ≡ false
+unfolding stays above
+equal-stays-not half x = le-ltb (half .timestamp x) (half .timestamp x) (omega arith)
 
 pub equal-replaces : (d : Direct) → younger (d .timestamp) (some d) ≡ false
 unfolding younger
-equal-replaces d = le-ltb (d .timestamp) (d .timestamp) (omega arith)
+equal-replaces d = equal-stays-not theDirect d
 
 pub equal-heard : (g : Gossip) → youngerGossip (g .timestamp) (some g) ≡ false
 unfolding youngerGossip
-equal-heard g = le-ltb (g .timestamp) (g .timestamp) (omega arith)
+equal-heard g = equal-stays-not theGossip g
 
 -- gossip over gossip of the same date
 over-gossip : (date : ℕ) (k l : List ℕ) (e : Entry)

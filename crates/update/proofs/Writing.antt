@@ -1,5 +1,6 @@
 -- What the three writers leave is `put` of the change.
 --     weighing                        what `has_younger` and `has_younger_gossip` ask
+--     taking-stays, taking-takes      what comes in for a half, by the test of its order
 --     updated-older .. heard-now      `updated` and `heard` by their tests
 --     good-updated                    a direct half that was brought is good under last seen raised to its date
 --     setting                         what `set_field` asks: two writes to one slot
@@ -26,7 +27,7 @@ use Rattle.octets.proofs.Lists.{given-octets}
 use Rattle.address.specs.Address.{isCanonical}
 use Rattle.slots.specs.declared.Slot.{Slot}
 use Rattle.slots.specs.Slot.{slotLength, timeLimit, keyLimit, hasDirect, hasGossip, isMutual, timestamp, gossipTimestamp, directKeyOf, gossipKeyOf, numbersOf, sound}
-use Rattle.slots.specs.Entry.{Direct, Gossip, Entry, present, entryOf, slotOf, seenBy, withDirect, withGossip, GoodKey, Good}
+use Rattle.slots.specs.Entry.{Direct, Entry, present, entryOf, slotOf, seenBy, withDirect, withGossip, GoodKey, Good}
 use Rattle.slots.proofs.Sounds.{sound-parts}
 use Rattle.slots.proofs.Entries.{slot-back}
 use Rattle.slots.proofs.Made.{slot-long, slot-sound, entry-back}
@@ -39,48 +40,58 @@ use Rattle.table.proofs.Slots.{slots-kept, slot-same, slot-octets, slot-long as
 use Rattle.table.proofs.Finding.{found-at}
 use Rattle.table.proofs.Replaced.{written-over, written-back}
 use Rattle.table.proofs.Entries.{entry-sound}
-use Rattle.update.specs.Update.{younger, withField, updated, youngerGossip, heard, begun, put}
+use Rattle.update.specs.Update.{Order, stays, Half, withHalf, taking, above, theDirect, younger, withField, updated, theGossip, youngerGossip, heard, begun, put}
 use Rattle.update.proofs.Placing.{begun-sound, put-at, put-nothing}
 
--- the two tests
-direct-test : (date : ℕ) (b : Bool) (d : Direct) → (b && ltb date (d .timestamp)) ≡ younger date (present b d)
-unfolding younger
-direct-test date true d = refl
-direct-test date false d = refl
-
-gossip-test : (date : ℕ) (b : Bool) (g : Gossip) → (b && ltb date (g .timestamp)) ≡ youngerGossip date (present b g)
-unfolding youngerGossip
-gossip-test date true g = refl
-gossip-test date false g = refl
+-- the test of a half, as its numbers are stored
+half-test : {A : Type 0} (half : Half A) (date : ℕ) (b : Bool) (x : A) → (b && ltb date (half .timestamp x)) ≡ stays (above half) (present b x) date none
+unfolding stays above
+half-test half date true x = refl
+half-test half date false x = refl
 
 module _ (s : List ℕ) (n : Slot) (date : ℕ) (e : n ≡ numbersOf s) where
   pub younger-is : (n .direct && ltb date (n .timestamp)) ≡ younger date (entryOf s .direct)
-  unfolding entryOf numbersOf
-  younger-is = rw e (direct-test date (hasDirect s) (record { timestamp = timestamp s; key = directKeyOf s; «mutual» = isMutual s }))
+  unfolding younger entryOf numbersOf
+  younger-is = rw e (half-test theDirect date (hasDirect s) (record { timestamp = timestamp s; key = directKeyOf s; «mutual» = isMutual s }))
 
   pub younger-gossip-is : (n .gossip && ltb date (n .«gossip_timestamp»)) ≡ youngerGossip date (entryOf s .gossip)
-  unfolding entryOf numbersOf
-  younger-gossip-is = rw e (gossip-test date (hasGossip s) (record { timestamp = gossipTimestamp s; key = gossipKeyOf s }))
+  unfolding youngerGossip entryOf numbersOf
+  younger-gossip-is = rw e (half-test theGossip date (hasGossip s) (record { timestamp = gossipTimestamp s; key = gossipKeyOf s }))
 
 pub ruleset weighing = (younger-is, younger-gossip-is, needs)
 
--- the two definitions, by their tests
+-- what comes in for a half, by the test
+module _ {A : Type 0} (half : Half A) (order : Order A) (date : ℕ) (brought : Option A) (e : Entry) where
+  pub taking-stays : stays order (half .stored e) date brought ≡ true → taking half order date brought e ≡ e
+  unfolding taking
+  taking-stays h = rw (taking, h)
+
+  pub taking-takes : stays order (half .stored e) date brought ≡ false → taking half order date brought e ≡ withHalf half brought (half .dated date e)
+  unfolding taking
+  taking-takes h = rw (taking, h)
+
+-- the paper's order asks for the date alone
+by-date : {A : Type 0} (half : Half A) (old : Option A) (date : ℕ) (brought : Option A) → stays (above half) old date brought ≡ stays (above half) old date none
+unfolding stays above
+by-date half none date brought = refl
+by-date half (some x) date brought = refl
+
 module _ (date : ℕ) (e : Entry) where
   pub updated-older : (brought : Option Direct) → younger date (e .direct) ≡ true → updated date brought e ≡ e
-  unfolding updated
-  updated-older brought h = rw (updated, h)
+  unfolding updated younger
+  updated-older brought h = taking-stays theDirect (above theDirect) date brought e (by-date theDirect (e .direct) date brought ∙ h)
 
   pub updated-now : (brought : Option Direct) → younger date (e .direct) ≡ false → updated date brought e ≡ withField brought (seenBy date e)
-  unfolding updated
-  updated-now brought h = rw (updated, h)
+  unfolding updated younger withField
+  updated-now brought h = taking-takes theDirect (above theDirect) date brought e (by-date theDirect (e .direct) date brought ∙ h)
 
   pub heard-older : (key : List ℕ) → youngerGossip date (e .gossip) ≡ true → heard date key e ≡ e
-  unfolding heard
-  heard-older key h = rw (heard, h)
+  unfolding heard youngerGossip
+  heard-older key h = taking-stays theGossip (above theGossip) date _ e (by-date theGossip (e .gossip) date _ ∙ h)
 
   pub heard-now : (key : List ℕ) → youngerGossip date (e .gossip) ≡ false → heard date key e ≡ withGossip (record { timestamp = date; key = key }) e
-  unfolding heard
-  heard-now key h = rw (heard, h)
+  unfolding heard youngerGossip
+  heard-now key h = taking-takes theGossip (above theGossip) date _ e (by-date theGossip (e .gossip) date _ ∙ h)
 
 -- a direct half that was brought, under last seen raised to its date
 pub good-updated : (e : Entry) → Good e → (date : ℕ) → date ≤ timeLimit → (d : Direct) → GoodKey (d .key) → d .timestamp ≡ date → Good (withDirect d (seenBy date e))

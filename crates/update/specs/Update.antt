@@ -1,4 +1,7 @@
 -- The update of paper 01, "The two fields and the update": what a message does to an entry, and where in the table that is put.
+--     Order, stays              which half stands, the stored one or what comes in
+--     Half, taking              a half of an entry, and the entry once something came in for it
+--     above                     the paper's order: "An equal date replaces."
 --     younger, updated          the sender's entry
 --     youngerGossip, heard      the entry of an address that the message has gossip about
 --     begun                     "takes the lowest free slot"
@@ -13,29 +16,62 @@ use Rattle.table.specs.Table.{slotAt, withSlot, found, lowestFree}
 use Rattle.table.specs.declared.Found.{Found}
 use Rattle.table.specs.declared.Found.the-variants.{At, Nothing}
 
+-- An order says whether a stored half stays, where something of a date comes in, with a half or without one.
+abbrev pub Order : Type 0 → Type 0
+Order A = A → ℕ → Option A → Bool
+
+-- Which half stands, the stored one or what comes in: where none is stored, none stays.
+unfoldable pub stays : {A : Type 0} → Order A → Option A → ℕ → Option A → Bool
+stays order none date brought = false
+stays order (some old) date brought = order old date brought
+
+-- A half of an entry: the one that is stored, its timestamp, what a date alone does to the entry, and the entry with another half.
+pub record Half (A : Type 0) : Type 0 where
+  pub stored : Entry → Option A
+  pub timestamp : A → ℕ
+  pub dated : ℕ → Entry → Entry
+  pub set : A → Entry → Entry
+
+-- what comes in without a half sets none
+abbrev pub withHalf : {A : Type 0} → Half A → Option A → Entry → Entry
+withHalf half none e = e
+withHalf half (some x) e = half .set x e
+
+-- where the stored half stays, the entry does
+unfoldable pub taking : {A : Type 0} → Half A → Order A → ℕ → Option A → Entry → Entry
+taking half order date brought e = elim (stays order (half .stored e) date brought) [ true ↦ e | false ↦ withHalf half brought (half .dated date e) ]
+
+-- the paper's order: a stored half stays where its timestamp is above the date, whatever comes in
+unfoldable pub above : {A : Type 0} → Half A → Order A
+above half old date brought = ltb date (half .timestamp old)
+
+-- "Raise last seen to the date. With a counted field set timestamp, key and preference."
+abbrev pub theDirect : Half Direct
+theDirect = record { stored = λ e. e .direct; timestamp = λ d. d .timestamp; dated = seenBy; set = withDirect }
+
+-- "set gossip timestamp and key"
+abbrev pub theGossip : Half Gossip
+theGossip = record { stored = λ e. e .gossip; timestamp = λ g. g .timestamp; dated = λ date e. e; set = withGossip }
+
 -- "if there is a direct key and the date is below the Autocrypt timestamp"
 unfoldable pub younger : ℕ → Option Direct → Bool
-younger date none = false
-younger date (some d) = ltb date (d .timestamp)
+younger date old = stays (above theDirect) old date none
 
--- "With a counted field set timestamp, key and preference."
 unfoldable pub withField : Option Direct → Entry → Entry
-withField none e = e
-withField (some d) e = withDirect d e
+withField brought e = withHalf theDirect brought e
 
--- ".. the sender's last seen and direct half stay .. Raise last seen to the date. With a counted field set timestamp, key and preference. An
--- equal date replaces." The direct half that the message brings, if any, has the date for its timestamp.
+-- ".. the sender's last seen and direct half stay": so does the entry. The direct half that the message brings, if any, has the date for its
+-- timestamp.
 unfoldable pub updated : ℕ → Option Direct → Entry → Entry
-updated date brought e = elim (younger date (e .direct)) [ true ↦ e | false ↦ withField brought (seenBy date e) ]
+updated date brought e = taking theDirect (above theDirect) date brought e
 
 -- "the stored gossip timestamp is above the date"
 unfoldable pub youngerGossip : ℕ → Option Gossip → Bool
-youngerGossip date none = false
-youngerGossip date (some g) = ltb date (g .timestamp)
+youngerGossip date old = stays (above theGossip) old date none
 
 -- "Unless the stored gossip timestamp is above the date, set gossip timestamp and key."
 unfoldable pub heard : ℕ → List ℕ → Entry → Entry
-heard date key e = elim (youngerGossip date (e .gossip)) [ true ↦ e | false ↦ withGossip (record { timestamp = date; key = key }) e ]
+heard date key e = taking theGossip (above theGossip) date (some (record { timestamp = date; key = key })) e
 
 -- "A sender or accepted gossip address without an entry takes the lowest free slot". Without one the table stays: a message for which there
 -- are not enough is refused before.
