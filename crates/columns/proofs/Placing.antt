@@ -19,8 +19,8 @@ use lib.ListN.{length, set, length-append}
 use Rattle.octets.specs.Octets.{ascii}
 use Rattle.octets.specs.Written.{putAt}
 use Rattle.octets.proofs.Writing.{begin-at, put, puts, done-at}
-use Rattle.slots.specs.Entry.{present}
-use Rattle.slots.proofs.Parts.{put-more, put-length}
+use Rattle.heads.specs.Entry.{present}
+use Rattle.heads.proofs.Parts.{put-more, put-length}
 use Rattle.columns.specs.Columns.{decimal, timeText, preferenceText, ended}
 use Rattle.columns.specs.Putting.{Room, Put}
 use Rattle.columns.proofs.Decimal.{decimal-one, decimal-more, ended-long}

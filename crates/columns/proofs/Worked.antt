@@ -3,7 +3,7 @@
 -- Assumes nothing.
 use mathlib.Core.Path.{_≡_, refl}
 use Rattle.octets.specs.Octets.{ascii}
-use Rattle.slots.specs.Slot.{timeLimit}
+use Rattle.heads.specs.Head.{timeLimit}
 use Rattle.columns.specs.Columns.{lastDigits, decimal}
 
 nought : decimal 0 ≡ ascii "0"

@@ -13,7 +13,7 @@ use Rattle.octets.specs.Octets.{sameOctets}
 use Rattle.octets.specs.Options.{orElse}
 use Rattle.octets.proofs.Comparing.{same-true}
 use Rattle.octets.proofs.Tests.{by-test}
-use Rattle.slots.specs.Entry.{Gossip, Entry, newcomer}
+use Rattle.heads.specs.Entry.{Gossip, Entry, newcomer}
 use Rattle.update.specs.Update.{above, theDirect, updated, theGossip, heard}
 use Rattle.update.specs.Message.{Gossiped, Message, entryPut, entryHeard, entryAfter}
 use Rattle.order.specs.Brought.{bringsDirect, lastOf, keyAbout, lastKey, bringsGossip}

@@ -11,7 +11,7 @@ use mathlib.Core.List.{List, [], _∷_, List·Memᴰ, List·Memᴰ·head, List·
 use mathlib.Core.Option.{Option, some, none}
 use Rattle.octets.specs.Octets.{AllOctets}
 use Rattle.octets.proofs.Tests.{and-left, and-right}
-use Rattle.slots.specs.Entry.{Entry}
+use Rattle.heads.specs.Entry.{Entry}
 use Rattle.table.specs.Table.{checked}
 use Rattle.table.specs.declared.Checked.the-variants.{Sound}
 use Rattle.update.specs.Message.{Message, entryAfter, GoodMessage}

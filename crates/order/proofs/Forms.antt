@@ -8,7 +8,8 @@ use mathlib.Core.List.{List}
 use mathlib.Core.Option.{Option, some, none}
 use Prim.Native.Nat.{ℕ}
 use Rattle.octets.specs.Options.{IfSome}
-use Rattle.slots.specs.Entry.{Direct, Entry, GoodDirect, Good}
+use Rattle.heads.specs.Entry.{Direct, Entry}
+use Rattle.slots.specs.Entry.{GoodDirect, Good}
 use Rattle.table.specs.Entries.{entryIn}
 use Rattle.table.proofs.Entries.{entry-good}
 use Rattle.update.specs.Message.{Message, hasRoom, entryAfter, GoodBrought, GoodMessage}

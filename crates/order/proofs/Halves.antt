@@ -15,7 +15,7 @@ use mathlib.Core.Option.{Option, some, none}
 use native.Mathlib.Omega.{arith}
 use Rattle.octets.specs.Options.{orElse, isSome, IfSome}
 use Rattle.octets.proofs.Tests.{by-test}
-use Rattle.slots.specs.Entry.{Direct, Gossip, Entry, seenBy, withDirect, withGossip}
+use Rattle.heads.specs.Entry.{Direct, Gossip, Entry, seenBy, withDirect, withGossip}
 use Rattle.update.specs.Update.{Order, stays, withHalf, taking, theDirect, theGossip}
 use Rattle.update.proofs.Writing.{taking-stays, taking-takes}
 use Rattle.order.proofs.Later.{over, later, Orderly, later-stays, later-replaces, later-holds, Settled, later-swap, later-twice}

@@ -12,7 +12,7 @@ use mathlib.Core.List.{List}
 use mathlib.Core.Option.{Option, some, none}
 use Rattle.octets.specs.Options.{orElse, IfSome}
 use Rattle.octets.proofs.Tests.{by-test}
-use Rattle.slots.specs.Entry.{Direct, Gossip, Entry, newcomer}
+use Rattle.heads.specs.Entry.{Direct, Gossip, Entry, newcomer}
 use Rattle.update.specs.Update.{Order, taking, theDirect, theGossip}
 use Rattle.order.proofs.Later.{over, later, Orderly, later-stays, later-replaces, Settled}
 use Rattle.order.proofs.Halves.{Timely, Stamped, hearing, timely-sent, timely-heard, sent-swap, heard-swap, heard-twice, apart-swap}

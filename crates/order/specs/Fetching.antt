@@ -13,7 +13,7 @@ use mathlib.Core.Bool.{Bool, true, _&&_}
 use mathlib.Core.List.{List, [], _∷_, List·Memᴰ}
 use mathlib.Core.Option.{Option, some, none}
 use Rattle.octets.specs.Octets.{AllOctets}
-use Rattle.slots.specs.Entry.{Direct, Entry}
+use Rattle.heads.specs.Entry.{Direct, Entry}
 use Rattle.table.specs.Table.{checked}
 use Rattle.table.specs.Entries.{entryIn}
 use Rattle.table.specs.declared.Checked.the-variants.{Sound}

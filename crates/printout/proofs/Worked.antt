@@ -10,7 +10,7 @@ use lib.ListN.{replicate}
 use Rattle.octets.specs.Octets.{ascii, allZero, sameOctets}
 use Rattle.octets.specs.Options.{orElse}
 use Rattle.slots.specs.Slot.{slotLength, free, marked}
-use Rattle.slots.specs.Entry.{Entry}
+use Rattle.heads.specs.Entry.{Entry}
 use Rattle.table.specs.Table.{slots, slotAt, right, whole, judged, checked}
 use Rattle.columns.specs.Columns.{lastDigits, decimal, timeText, preferenceText}
 use Rattle.printout.specs.Printout.{line, lineOf, slotText, linesFrom, listing, printed}

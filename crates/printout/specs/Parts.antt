@@ -5,19 +5,19 @@
 use mathlib.Core.List.{List, _++_}
 use Prim.Native.Nat.{ℕ}
 use Rattle.octets.specs.Octets.{octet}
-use Rattle.slots.specs.declared.Slot.{Slot}
-use Rattle.slots.specs.Entry.{present}
+use Rattle.heads.specs.declared.Head.{Head}
+use Rattle.heads.specs.Entry.{present}
 use Rattle.columns.specs.Columns.{decimal, timeText, preferenceText, ended}
 
-unfoldable pub directPart : Slot → List ℕ
+unfoldable pub directPart : Head → List ℕ
 directPart n =
     ended (timeText (present (n .direct) (n .timestamp))) (octet " ")
     ++ (ended (decimal (n .«direct_length»)) (octet " ") ++ ended (preferenceText (n .«mutual»)) (octet " "))
 
-unfoldable pub gossipPart : Slot → List ℕ
+unfoldable pub gossipPart : Head → List ℕ
 gossipPart n =
     ended (timeText (present (n .gossip) (n .«gossip_timestamp»))) (octet " ") ++ ended (decimal (n .«gossip_length»)) (octet "\n")
 
-unfoldable pub numbersPart : Slot → List ℕ
+unfoldable pub numbersPart : Head → List ℕ
 numbersPart n =
     ended (timeText (present (n .seen) (n .«last_seen»))) (octet " ") ++ (directPart n ++ gossipPart n)

@@ -8,6 +8,7 @@ ghost use Rattle.table.specs.declared.Checked.the-variants.{Sound};
 ghost use Rattle.columns.specs.Putting.{Room, Put};
 ghost use Rattle.printout.specs.Printout.{slotText, linesFrom, printed};
 ghost use Rattle.printout.specs.Parts.{directPart, gossipPart, numbersPart};
+use heads::Head;
 use slots::Slot;
 use table::Checked;
 
@@ -23,7 +24,7 @@ const LINE: usize = Slot::ADDRESS_ROOM + 5 * 20 + 6 + 7;
 pub const ROOM: usize = MOST * LINE;
 
 // Writes what a line says of the direct half.
-fn put_direct(out: &mut [u8], at: usize, n: Slot) -> usize
+fn put_direct(out: &mut [u8], at: usize, n: Head) -> usize
     requires { ⌜ Room (now out) at (directPart n) ⌝ }
     ensures { λ r. ⌜ Put (now (out .entry)) (now (out .exit)) at (directPart n) r ⌝ }
 {
@@ -33,7 +34,7 @@ fn put_direct(out: &mut [u8], at: usize, n: Slot) -> usize
 }
 
 // Writes what it says of the gossip half, which ends it.
-fn put_gossip(out: &mut [u8], at: usize, n: Slot) -> usize
+fn put_gossip(out: &mut [u8], at: usize, n: Head) -> usize
     requires { ⌜ Room (now out) at (gossipPart n) ⌝ }
     ensures { λ r. ⌜ Put (now (out .entry)) (now (out .exit)) at (gossipPart n) r ⌝ }
 {
@@ -42,7 +43,7 @@ fn put_gossip(out: &mut [u8], at: usize, n: Slot) -> usize
 }
 
 // Writes what an entry says behind its address.
-fn put_numbers(out: &mut [u8], at: usize, n: Slot) -> usize
+fn put_numbers(out: &mut [u8], at: usize, n: Head) -> usize
     requires { ⌜ Room (now out) at (numbersPart n) ⌝ }
     ensures { λ r. ⌜ Put (now (out .entry)) (now (out .exit)) at (numbersPart n) r ⌝ }
 {

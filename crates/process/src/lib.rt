@@ -8,6 +8,7 @@ ghost use Rattle.process.specs.Processing.{refusedProcessing, leftByProc
 ghost use Rattle.process.specs.Stages.{answerFrom, leftFrom, Opened, Roomy, Sent, Readied, answerWith, leftWith};
 use fields::Survey;
 use fields::Surveyed;
+use heads::Head;
 use outer::Sender;
 use refusals::Answer;
 use refusals::Refusal;
@@ -128,7 +129,7 @@ fn process_sound(
     ensures { λ r. ⌜ r ≡ answerFrom 0 (now (table .entry)) receipt (now (outer .entry)) (now (payload .entry)) gossip ⌝ }
     ensures { λ _. ⌜ now (table .exit) ≡ leftFrom 0 (now (table .entry)) receipt (now (outer .entry)) (now (payload .entry)) gossip ⌝ }
 {
-    if Slot::TIME_LIMIT < receipt {
+    if Head::TIME_LIMIT < receipt {
         return Answer::Refused(Refusal::ReceiptTime);
     }
     match fields::walk(outer) {

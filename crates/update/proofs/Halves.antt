@@ -13,7 +13,7 @@ use mathlib.Core.List.{List}
 use native.Mathlib.Omega.{arith}
 use borrow.Author.Tests.{le-ltb}
 use Rattle.octets.proofs.Tests.{by-test}
-use Rattle.slots.specs.Entry.{Direct, Gossip, Entry, seenBy, withDirect, withGossip}
+use Rattle.heads.specs.Entry.{Direct, Gossip, Entry, seenBy, withDirect, withGossip}
 use Rattle.update.specs.Update.{Order, stays, Half, withHalf, taking, above, theDirect, younger, updated, theGossip, youngerGossip, heard}
 use Rattle.update.proofs.Writing.{taking-stays, taking-takes, heard-older, heard-now}
 
