@@ -1,8 +1,8 @@
--- `slots::is_clear` meets its contract: the laws of `Reading` answer every need. Assumes nothing.
-use Rattle.slots.proofs.Reading.{reading}
+-- `heads::is_clear` meets its contract: the laws of `Reading` answer every need. Assumes nothing.
+use Rattle.heads.proofs.Reading.{reading}
 use borrow.Author.Needs.{needs}
-use Rattle.slots.proofs.is_clear.Statement.{statement}
-use Rattle.slots.proofs.is_clear.Tie as tie
+use Rattle.heads.proofs.is_clear.Statement.{statement}
+use Rattle.heads.proofs.is_clear.Tie as tie
 
 shared-slice-read-result : tie.Need-shared-slice-read-result
 shared-slice-read-result c = search needs

@@ -1,8 +1,8 @@
--- `slots::Slot::bits` meets its contract: the laws of `Reading` answer every need. Assumes nothing.
-use Rattle.slots.proofs.Reading.{reading}
+-- `heads::Head::bits` meets its contract: the laws of `Reading` answer every need. Assumes nothing.
+use Rattle.heads.proofs.Reading.{reading}
 use borrow.Author.Needs.{needs}
-use Rattle.slots.proofs.Slot.bits.Statement.{statement}
-use Rattle.slots.proofs.Slot.bits.Tie as tie
+use Rattle.heads.proofs.Head.bits.Statement.{statement}
+use Rattle.heads.proofs.Head.bits.Tie as tie
 
 weight-requires : tie.Need-weight-requires
 weight-requires c κs = search needs

@@ -1,8 +1,8 @@
--- `slots::Slot::read` meets its contract: the laws of `Reading` answer every need. Assumes nothing.
-use Rattle.slots.proofs.Reading.{reading}
+-- `heads::Head::read` meets its contract: the laws of `Reading` answer every need. Assumes nothing.
+use Rattle.heads.proofs.Reading.{reading}
 use borrow.Author.Needs.{needs}
-use Rattle.slots.proofs.Slot.read.Statement.{statement}
-use Rattle.slots.proofs.Slot.read.Tie as tie
+use Rattle.heads.proofs.Head.read.Statement.{statement}
+use Rattle.heads.proofs.Head.read.Tie as tie
 
 shared-slice-read-bits : tie.Need-shared-slice-read-bits
 shared-slice-read-bits c = search needs

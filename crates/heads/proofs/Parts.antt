@@ -1,4 +1,4 @@
--- Laws on lists that a slot's parts ask for.
+-- Laws on lists that the parts of a head or of a slot ask for.
 --     take-min, drop-min         a count that is cut off at an area's end
 --     drop-take                  what is left of the first m elements
 --     drop-zeros                 what is left of a run of zeros
@@ -8,6 +8,7 @@
 --     put-over                   writing over all of it
 --     put-front, put-behind      writing over the first of two lists, or over the second
 --     put-more, put-three        writing on behind what was just written
+--     put-within                 writing within the first elements
 --     put-length                 writing keeps the length
 --     part-before, part-behind   what was not written over
 --     part-back                  a part that was lent on, back in its place
@@ -95,6 +96,19 @@ put-more d x y at n e h =
     let a : at + length x + length y ≡ at + length (x ++ y) = simp length-append (omega arith) in
     rw (whole, ← front, drop-append-add (take at d ++ x) (drop (at + length x) d) (length y), drop-drop, a) in
     rw (ahead, rest) (append-assoc (take at d) x (y ++ drop (at + length (x ++ y)) d) ∙ ap (λ (l : List ℕ). take at d ++ l) (sym (append-assoc x y (drop (at + length (x ++ y)) d))))
+
+pub put-within : (d x : List ℕ) (m at : ℕ) → at + length x ≤ m → putAt (take m d) at x ++ drop m d ≡ putAt d at x
+unfolding putAt
+put-within d x m at h =
+    let j : ℕ = at + length x in
+    let k : j + (m - j) ≡ m = omega arith in
+    let rest : drop j (take m d) ++ drop m d ≡ drop j d =
+    rw (drop-take j m d)
+    (ap (λ (t : List ℕ). take (m - j) (drop j d) ++ t) (sym (drop-drop (m - j) j d ∙ ap (λ (q : ℕ). drop q d) k))
+    ∙ take-append-drop (m - j) (drop j d)) in
+    rw (take-take at m d (omega arith))
+    (append-assoc (take at d) (x ++ drop j (take m d)) (drop m d)
+    ∙ ap (λ (t : List ℕ). take at d ++ t) (append-assoc x (drop j (take m d)) (drop m d) ∙ ap (λ (t : List ℕ). x ++ t) rest))
 
 pub part-back : (d w : List ℕ) (a k : ℕ) → length w ≡ k → take a d ++ (w ++ drop k (drop a d)) ≡ putAt d a w
 unfolding putAt
