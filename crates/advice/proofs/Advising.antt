@@ -8,8 +8,8 @@ use mathlib.Core.Bool.{Bool, _&&_}
 use mathlib.Core.List.{List}
 use borrow.Author.Needs.{needs}
 use Rattle.address.specs.Address.{canonical}
-use Rattle.slots.specs.declared.Slot.{Slot}
-use Rattle.slots.specs.Slot.{numbersOf}
+use Rattle.heads.specs.declared.Head.{Head}
+use Rattle.heads.specs.Head.{headOf}
 use Rattle.table.specs.Table.{slotAt, found, checked}
 use Rattle.table.specs.declared.Checked.the-variants.{Sound}
 use Rattle.table.specs.declared.Found.{Found}
@@ -28,7 +28,7 @@ module _ (t a : List ℕ) (m reply : Bool) (g : Found) (e : g ≡ found t (canon
   advise-nothing q = rw (adviceIn, entry-nothing t (canonical a) (sym e ∙ q))
 
   pub advise-at :
-      checked t ≡ Sound → (i : ℕ) → g ≡ At i → (n : Slot) → n ≡ numbersOf (slotAt t i) → (k : Advice) → k ≡ ratedAs n
+      checked t ≡ Sound → (i : ℕ) → g ≡ At i → (n : Head) → n ≡ headOf (slotAt t i) → (k : Advice) → k ≡ ratedAs n
       → (r : Advice) → r ≡ raised reply (m && n .«mutual») k → r ≡ adviceIn t m reply a
   unfolding adviceIn adviceFor
   advise-at s i q n p k l r h =

@@ -12,7 +12,8 @@ use native.Mathlib.Omega.{arith}
 use lib.ListN.{length, getD}
 use Rattle.octets.proofs.Tests.{by-test}
 use Rattle.address.specs.Address.{canonical}
-use Rattle.slots.specs.Slot.{hasDirect, hasGossip, numbersOf, directKeyOf, gossipKeyOf, sound}
+use Rattle.heads.specs.Head.{hasDirect, hasGossip, headOf}
+use Rattle.slots.specs.Slot.{directKeyOf, gossipKeyOf, sound}
 use Rattle.slots.specs.Entry.{entryOf}
 use Rattle.slots.specs.Facts.{Sound}
 use Rattle.slots.proofs.Sounds.{sound-parts}
@@ -32,29 +33,29 @@ module _ (t : List ℕ) (i : ℕ) (l : i < slots t) (e : sound (slotAt t i) ≡ 
   parts : Sound (slotAt t i)
   parts = sound-parts (slotAt t i) e
 
-  pub key-octets : octetsAt t (keyPart i (numbersOf (slotAt t i))) ≡ targetBy (directOf (entryOf (slotAt t i))) (gossipOf (entryOf (slotAt t i)))
-  unfolding octetsAt numbersOf targetBy directKeyOf gossipKeyOf
+  pub key-octets : octetsAt t (keyPart i (headOf (slotAt t i))) ≡ targetBy (directOf (entryOf (slotAt t i))) (gossipOf (entryOf (slotAt t i)))
+  unfolding octetsAt headOf targetBy directKeyOf gossipKeyOf
   key-octets =
       by-test (hasDirect (slotAt t i))
       (λ d.
-      rw (← key-direct i (numbersOf (slotAt t i)) d, direct-there (slotAt t i) d)
-      (area-octets t i 296 2048 (numbersOf (slotAt t i) .«direct_length») (omega arith) (parts .direct-length d .1)))
+      rw (← key-direct i (headOf (slotAt t i)) d, direct-there (slotAt t i) d)
+      (area-octets t i 296 2048 (headOf (slotAt t i) .«direct_length») (omega arith) (parts .direct-length d .1)))
       (λ d.
       by-test (hasGossip (slotAt t i))
       (λ g.
-      rw (← key-gossip i (numbersOf (slotAt t i)) d g, direct-absent (slotAt t i) d, gossip-there (slotAt t i) g)
-      (area-octets t i 2344 2048 (numbersOf (slotAt t i) .«gossip_length») (omega arith) (parts .gossip-length g .1)))
-      (λ g. rw (← key-none i (numbersOf (slotAt t i)) d g, direct-absent (slotAt t i) d, gossip-absent (slotAt t i) g)))
+      rw (← key-gossip i (headOf (slotAt t i)) d g, direct-absent (slotAt t i) d, gossip-there (slotAt t i) g)
+      (area-octets t i 2344 2048 (headOf (slotAt t i) .«gossip_length») (omega arith) (parts .gossip-length g .1)))
+      (λ g. rw (← key-none i (headOf (slotAt t i)) d g, direct-absent (slotAt t i) d, gossip-absent (slotAt t i) g)))
 
-  pub key-within : Within t (keyPart i (numbersOf (slotAt t i)))
-  unfolding numbersOf
+  pub key-within : Within t (keyPart i (headOf (slotAt t i)))
+  unfolding headOf
   key-within =
       by-test (hasDirect (slotAt t i))
-      (λ d. rw (← key-direct i (numbersOf (slotAt t i)) d) (omega (arith, parts .direct-length d .1, room t i l)))
+      (λ d. rw (← key-direct i (headOf (slotAt t i)) d) (omega (arith, parts .direct-length d .1, room t i l)))
       (λ d.
       by-test (hasGossip (slotAt t i))
-      (λ g. rw (← key-gossip i (numbersOf (slotAt t i)) d g) (omega (arith, parts .gossip-length g .1, room t i l)))
-      (λ g. rw (← key-none i (numbersOf (slotAt t i)) d g) zero-le))
+      (λ g. rw (← key-gossip i (headOf (slotAt t i)) d g) (omega (arith, parts .gossip-length g .1, room t i l)))
+      (λ g. rw (← key-none i (headOf (slotAt t i)) d g) zero-le))
 
 module _ (t : List ℕ) (s : checked t ≡ Checked) where
   -- an address stands in a slot, or nowhere
@@ -67,7 +68,7 @@ module _ (t : List ℕ) (s : checked t ≡ Checked) where
   target-octets a =
       by-place (found t (canonical a))
       (λ i q.
-      rw (← target-there t a (found t (canonical a)) refl i q (numbersOf (slotAt t i)) refl (keyPart i (numbersOf (slotAt t i))) refl, targetIn, entry-at t (canonical a) i q)
+      rw (← target-there t a (found t (canonical a)) refl i q (headOf (slotAt t i)) refl (keyPart i (headOf (slotAt t i))) refl, targetIn, entry-at t (canonical a) i q)
       (key-octets t i (found-at t (canonical a) i q .0) (entry-sound t (canonical a) s i q)))
       (λ q. rw (← target-nothing t a (found t (canonical a)) refl q, targetIn, entry-nothing t (canonical a) q))
 
@@ -75,7 +76,7 @@ module _ (t : List ℕ) (s : checked t ≡ Checked) where
   target-within a =
       by-place (found t (canonical a))
       (λ i q.
-      rw (← target-there t a (found t (canonical a)) refl i q (numbersOf (slotAt t i)) refl (keyPart i (numbersOf (slotAt t i))) refl)
+      rw (← target-there t a (found t (canonical a)) refl i q (headOf (slotAt t i)) refl (keyPart i (headOf (slotAt t i))) refl)
       (key-within t i (found-at t (canonical a) i q .0) (entry-sound t (canonical a) s i q)))
       (λ q. rw (← target-nothing t a (found t (canonical a)) refl q) zero-le)
 

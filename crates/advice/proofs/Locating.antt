@@ -16,8 +16,9 @@ use Rattle.address.specs.Answers.{writtenOf, ontoIfFits}
 use Rattle.address.specs.declared.Fitted.{Fitted}
 use Rattle.address.specs.declared.Fitted.the-variants.{Length, NoRoom}
 use Rattle.address.proofs.Forming.{form-never, form-there, form-end}
-use Rattle.slots.specs.declared.Slot.{Slot}
-use Rattle.slots.specs.Slot.{timeLimit, numbersOf, sound}
+use Rattle.heads.specs.declared.Head.{Head}
+use Rattle.heads.specs.Head.{timeLimit, headOf}
+use Rattle.slots.specs.Slot.{sound}
 use Rattle.slots.proofs.Sounds.{sound-parts}
 use Rattle.table.specs.Table.{slots, slotAt, found, checked}
 use Rattle.table.specs.declared.Checked.the-variants.{Sound}
@@ -53,6 +54,6 @@ module _ (t a : List ℕ) (s : checked t ≡ Sound) (g : Found) (e : g ≡ found
   pub located-sound : sound (slotAt t i) ≡ true
   located-sound = entry-sound t (canonical a) s i located
 
-  pub located-time : (n : Slot) → n ≡ numbersOf (slotAt t i) → n .timestamp ≤ timeLimit
-  unfolding numbersOf
+  pub located-time : (n : Head) → n ≡ headOf (slotAt t i) → n .timestamp ≤ timeLimit
+  unfolding headOf
   located-time n p = rw p (sound-parts (slotAt t i) located-sound .direct-range)

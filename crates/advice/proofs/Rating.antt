@@ -14,8 +14,9 @@ use borrow.Author.Needs.{needs}
 use borrow.Author.Tests.{lt-ltb, le-ltb}
 use Rattle.octets.specs.Options.{orElse}
 use Rattle.octets.proofs.Tests.{by-test}
-use Rattle.slots.specs.declared.Slot.{Slot}
-use Rattle.slots.specs.Slot.{hasLastSeen, hasDirect, hasGossip, isMutual, lastSeen, timestamp, gossipTimestamp, directKeyOf, gossipKeyOf, numbersOf, sound}
+use Rattle.heads.specs.declared.Head.{Head}
+use Rattle.heads.specs.Head.{hasLastSeen, hasDirect, hasGossip, isMutual, lastSeen, timestamp, gossipTimestamp, headOf}
+use Rattle.slots.specs.Slot.{directKeyOf, gossipKeyOf, sound}
 use Rattle.slots.specs.Entry.{entryOf}
 use Rattle.slots.specs.Facts.{Sound}
 use Rattle.slots.proofs.Sounds.{sound-parts}
@@ -50,8 +51,8 @@ module _ (s : List ℕ) (e : sound s ≡ true) where
   parts : Sound s
   parts = sound-parts s e
 
-  pub rated-of : ratedAs (numbersOf s) ≡ rated (entryOf s)
-  unfolding ratedAs numbersOf rated ratedBy
+  pub rated-of : ratedAs (headOf s) ≡ rated (entryOf s)
+  unfolding ratedAs headOf rated ratedBy
   rated-of =
       by-test (hasDirect s)
       (λ d. rw (ratedAs, d, rated, direct-there s d, seen-there s (parts .direct-seen d .0)))
@@ -60,11 +61,11 @@ module _ (s : List ℕ) (e : sound s ≡ true) where
       (λ g. rw (ratedAs, d, g, rated, direct-absent s d, gossip-there s g))
       (λ g. rw (ratedAs, d, g, rated, direct-absent s d, gossip-absent s g)))
 
-  pub prefers-of : numbersOf s .«mutual» ≡ prefersBy (directOf (entryOf s))
-  unfolding numbersOf prefersBy
+  pub prefers-of : headOf s .«mutual» ≡ prefersBy (directOf (entryOf s))
+  unfolding headOf prefersBy
   prefers-of = by-test (hasDirect s) (λ d. rw (direct-there s d)) (λ d. rw (direct-absent s d, parts .no-mutual d))
 
-module _ (n : Slot) where
+module _ (n : Head) where
   module _ (d : n .direct ≡ true) where
     pub rate-stale : n .timestamp + 3024000 < n .«last_seen» → Discourage ≡ ratedAs n
     unfolding ratedAs stale

@@ -14,8 +14,8 @@ use native.Mathlib.Numerals.{add-one}
 use borrow.Author.Needs.{needs}
 use Rattle.octets.specs.Options.{orElse, isSome}
 use Rattle.address.specs.Address.{canonical}
-use Rattle.slots.specs.declared.Slot.{Slot}
-use Rattle.slots.specs.Slot.{numbersOf}
+use Rattle.heads.specs.declared.Head.{Head}
+use Rattle.heads.specs.Head.{headOf}
 use Rattle.addresslist.specs.List.{addresses}
 use Rattle.addresslist.specs.Answers.{between, beginning, left, Hands}
 use Rattle.addresslist.specs.declared.ListCursor.{ListCursor}
@@ -30,7 +30,7 @@ use Rattle.advice.specs.declared.Part.{Part}
 use Rattle.advice.proofs.Locating.{located-in, located-low}
 use Rattle.advice.proofs.Overall.{handed-rest, handed-given, handed-end, handed-unread}
 
-module _ (i : ℕ) (n : Slot) where
+module _ (i : ℕ) (n : Head) where
   pub key-direct : n .direct ≡ true → _≡_ {A = Part} (record { start = i * 4392 + 296; length = n .«direct_length» }) (keyPart i n)
   unfolding keyPart
   key-direct d = rw (keyPart, d)
@@ -51,7 +51,7 @@ module _ (t a : List ℕ) (g : Found) (e : g ≡ found t (canonical a)) where
   unfolding targetPart partIn
   target-nothing q = rw (targetPart, sym e ∙ q)
 
-  pub target-there : (i : ℕ) → g ≡ At i → (n : Slot) → n ≡ numbersOf (slotAt t i) → (r : Part) → r ≡ keyPart i n → r ≡ targetPart t a
+  pub target-there : (i : ℕ) → g ≡ At i → (n : Head) → n ≡ headOf (slotAt t i) → (r : Part) → r ≡ keyPart i n → r ≡ targetPart t a
   unfolding targetPart partIn
   target-there i q n p r h = rw (targetPart, sym e ∙ q) (h ∙ rw p)
 

@@ -10,7 +10,7 @@ use mathlib.Core.Bool.{Bool, true, false}
 use mathlib.Core.List.{List, [], _∷_, map}
 use mathlib.Core.Option.{Option, some, none}
 use Rattle.octets.specs.Options.{orElse}
-use Rattle.slots.specs.Entry.{Gossip, Entry}
+use Rattle.heads.specs.Entry.{Gossip, Entry}
 use Rattle.advice.specs.Advice.{stale, directOf, gossipOf, ratedBy, rated, raised, prefersBy, adviceFor, targetBy, targetOf, anyDisable, allEncrypt, anyDiscourage, overall}
 use Rattle.advice.specs.declared.Advice.{Advice}
 use Rattle.advice.specs.declared.Advice.the-variants.{Disable, Discourage, Available, Encrypt}

@@ -14,7 +14,7 @@ use mathlib.Core.Option.{Option, some, none}
 use lib.Dec.{ltb}
 use Rattle.octets.specs.Options.{orElse}
 use Rattle.address.specs.Address.{canonical}
-use Rattle.slots.specs.Entry.{Direct, Gossip, Entry}
+use Rattle.heads.specs.Entry.{Direct, Gossip, Entry}
 use Rattle.table.specs.Entries.{entryIn}
 use Rattle.advice.specs.declared.Advice.{Advice}
 use Rattle.advice.specs.declared.Advice.the-variants.{Disable, Discourage, Available, Encrypt}

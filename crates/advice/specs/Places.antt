@@ -10,8 +10,9 @@ use Prim.Native.Nat.{ℕ, zero, suc, _+_, _*_, _≤_}
 use mathlib.Core.Bool.{true, false}
 use mathlib.Core.List.{List, [], _∷_}
 use lib.ListN.{length, take, drop}
-use Rattle.slots.specs.declared.Slot.{Slot}
-use Rattle.slots.specs.Slot.{slotLength, directAt, gossipAt, numbersOf}
+use Rattle.heads.specs.declared.Head.{Head}
+use Rattle.heads.specs.Head.{headOf}
+use Rattle.slots.specs.Slot.{slotLength, directAt, gossipAt}
 use Rattle.address.specs.Address.{canonical}
 use Rattle.table.specs.Table.{slotAt, found}
 use Rattle.table.specs.declared.Found.{Found}
@@ -22,7 +23,7 @@ use Rattle.advice.specs.declared.Advice.the-variants.{Disable, Discourag
 use Rattle.advice.specs.declared.Part.{Part}
 
 -- `rated` of Advice.antt, by the numbers of the entry's slot
-unfoldable pub ratedAs : Slot → Advice
+unfoldable pub ratedAs : Head → Advice
 ratedAs n =
     elim (n .direct) [
       | true ↦ elim (stale (n .«last_seen») (n .timestamp)) [ true ↦ Discourage | false ↦ Available ]
@@ -47,7 +48,7 @@ abbrev pub noPart : Part
 noPart = record { start = 0; length = 0 }
 
 -- "296-2343 direct key", "2344-4391 gossip key": the key to encrypt to, in slot i with these numbers
-unfoldable pub keyPart : ℕ → Slot → Part
+unfoldable pub keyPart : ℕ → Head → Part
 keyPart i n =
     elim (n .direct) [
       | true ↦ record { start = i * slotLength + directAt; length = n .«direct_length» }
@@ -58,7 +59,7 @@ keyPart i n =
     ]
 
 unfoldable pub partIn : List ℕ → Found → Part
-partIn t (At i) = keyPart i (numbersOf (slotAt t i))
+partIn t (At i) = keyPart i (headOf (slotAt t i))
 partIn t Nothing = noPart
 
 -- the key to encrypt to for an address as it stands in a list

@@ -7,12 +7,13 @@ ghost use mathlib.Core.List.{[]};
 ghost use Rattle.octets.specs.Options.{orElse, isSome};
 ghost use Rattle.address.specs.Address.{plain, canonical as canonicalOf};
 ghost use Rattle.addresslist.specs.List.{addresses};
-ghost use Rattle.slots.specs.Slot.{timeLimit};
+ghost use Rattle.heads.specs.Head.{timeLimit};
 ghost use Rattle.table.specs.Table.{checked, found};
 ghost use Rattle.table.specs.declared.Checked.the-variants.{Sound};
 ghost use Rattle.advice.specs.Advice.{raised, adviceIn, overall, advised};
 ghost use Rattle.advice.specs.Places.{ratedAs, lowerOf, keyPart, targetPart, targetAt};
 use addresslist::NextAddress;
+use heads::Head;
 use slots::Slot;
 use table::Found;
 
@@ -34,7 +35,7 @@ pub struct Part {
 }
 
 // What the entry with these numbers gets before reply and preferences are looked at.
-fn rate(entry: Slot) -> Advice
+fn rate(entry: Head) -> Advice
     requires { ⌜ entry .timestamp ≤ timeLimit ⌝ }
     ensures { λ r. ⌜ r ≡ ratedAs entry ⌝ }
 {
@@ -142,7 +143,7 @@ pub fn overall_advice(table: &[u8], recipients: &[u8], mutual: bool, reply: bool
 }
 
 // Where the key to encrypt to lies: in the slot i, whose numbers are given.
-fn key_part(i: usize, entry: Slot) -> Part
+fn key_part(i: usize, entry: Head) -> Part
     requires { ⌜ i < 256 ⌝ }
     ensures { λ r. ⌜ r ≡ keyPart i entry ⌝ }
 {

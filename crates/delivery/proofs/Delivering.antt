@@ -22,7 +22,7 @@ use Rattle.date.specs.Date.{effectiveDate}
 use Rattle.date.specs.Answers.{datedOf, optionOf}
 use Rattle.date.specs.declared.Dated.{Dated}
 use Rattle.date.proofs.Effective.{effective-upto}
-use Rattle.slots.specs.Slot.{timeLimit}
+use Rattle.heads.specs.Head.{timeLimit}
 use Rattle.update.specs.Message.{Message, Gossiped, gossipAddresses, addressesOf, hasRoom, heardAll, applied}
 use Rattle.fields.specs.Fields.{fieldsIn, valuesOf}
 use Rattle.fields.specs.declared.Survey.{Survey}

@@ -11,7 +11,7 @@ use Rattle.octets.specs.Options.{IfSome}
 use Rattle.header.specs.Header.{FieldText, fieldsOf}
 use Rattle.header.proofs.Values.{ValuesOctets}
 use Rattle.keyfield.specs.Field.{Field}
-use Rattle.slots.specs.Slot.{timeLimit}
+use Rattle.heads.specs.Head.{timeLimit}
 use Rattle.update.specs.Message.{GoodBrought, GoodMessage}
 use Rattle.fields.specs.Fields.{fieldsIn}
 use Rattle.fields.proofs.Values.{fields-are}

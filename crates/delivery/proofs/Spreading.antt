@@ -13,7 +13,8 @@ use lib.ListN.{length, take, drop}
 use Rattle.octets.specs.Options.{isSome}
 use Rattle.header.specs.Answers.{fieldsFrom}
 use Rattle.address.specs.Address.{isCanonical}
-use Rattle.slots.specs.Slot.{timeLimit, keyLimit}
+use Rattle.heads.specs.Head.{timeLimit}
+use Rattle.slots.specs.Slot.{keyLimit}
 use Rattle.table.specs.Table.{checked}
 use Rattle.table.specs.declared.Checked.the-variants.{Sound}
 use Rattle.roll.specs.Roll.{unrolled}

@@ -9,7 +9,7 @@ use mathlib.Core.List.{List}
 use mathlib.Core.Option.{Option, some, none}
 use Rattle.header.specs.Header.{FieldText}
 use Rattle.keyfield.specs.Field.{Field}
-use Rattle.slots.specs.Entry.{Direct}
+use Rattle.heads.specs.Entry.{Direct}
 use Rattle.update.specs.Update.{updated, put}
 use Rattle.update.specs.Message.{Message, hasRoom, applied}
 use Rattle.fields.specs.Fields.{fieldsIn}

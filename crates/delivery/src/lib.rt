@@ -3,7 +3,7 @@
 ghost use Prim.Native.Nat.{_≤_};
 ghost use mathlib.Core.Path.{_≡_};
 ghost use mathlib.Core.List.{[]};
-ghost use Rattle.slots.specs.Slot.{timeLimit};
+ghost use Rattle.heads.specs.Head.{timeLimit};
 ghost use Rattle.table.specs.Table.{checked};
 ghost use Rattle.table.specs.declared.Checked.the-variants.{Sound};
 ghost use Rattle.update.specs.Message.{hasRoom, heardAll, applied};

@@ -13,12 +13,14 @@ use lib.Dec.{eqb, ltb}
 use lib.ListN.{length, getD, take, drop, replicate}
 use Rattle.octets.specs.Options.{orElse}
 use Rattle.octets.proofs.Tests.{by-test}
-use Rattle.slots.specs.declared.Slot.{Slot}
-use Rattle.slots.specs.Slot.{slotLength, bits, directLength, gossipLength, addressOf, directKeyOf, gossipKeyOf, numbersOf, marked, free}
-use Rattle.slots.specs.Entry.{entryOf, numbersFor, bitsOf, noDirect, noGossip}
+use Rattle.heads.specs.declared.Head.{Head}
+use Rattle.heads.specs.Head.{bits, directLength, gossipLength, headOf, bitsOf}
+use Rattle.slots.specs.Slot.{slotLength, addressOf, directKeyOf, gossipKeyOf, marked, free}
+use Rattle.heads.specs.Entry.{headFor, noDirect, noGossip}
+use Rattle.slots.specs.Entry.{entryOf}
 use Rattle.slots.specs.Facts.{Sound}
 use Rattle.slots.proofs.Sounds.{sound-parts, marked-not-free}
-use Rattle.slots.proofs.Entries.{numbers-back, address-fits, direct-fits, gossip-fits, direct-key, gossip-key, all-bits}
+use Rattle.slots.proofs.Entries.{head-back, address-fits, direct-fits, gossip-fits, direct-key, gossip-key, all-bits}
 use Rattle.table.specs.Table.{slots, slotAt, checked}
 use Rattle.table.specs.declared.Checked.the-variants.{Sound as Checked}
 use Rattle.table.proofs.Slots.{slot-long, area-octets}
@@ -66,31 +68,31 @@ module _ (t : List ℕ) (c : checked t ≡ Checked) (i : ℕ) (l : i < slots t) 
   sound-slot = sound-parts s (used-sound t (table-sound t c) i l m .0)
 
   -- the numbers of the slot are those of its entry
-  same : numbersOf s ≡ numbersFor (entryOf s)
-  same = sym (numbers-back s long sound-slot)
+  same : headOf s ≡ headFor (entryOf s)
+  same = sym (head-back s long sound-slot)
 
-  shown-there : told 1 (i * 4392) (numbersOf s) ≡ shownAt t i
+  shown-there : told 1 (i * 4392) (headOf s) ≡ shownAt t i
   unfolding shownAt
   shown-there = let u : usedAt t i ≡ true = sym (sym m ∙ within-used t i (slots t) refl l (marked s) refl) in rw (shownAt, u)
 
-  told-tells : Tells t (entryOf s) (told 1 (i * 4392) (numbersOf s))
-  unfolding told stated parts placed numbersOf numbersFor entryOf addressOf directKeyOf gossipKeyOf
+  told-tells : Tells t (entryOf s) (told 1 (i * 4392) (headOf s))
+  unfolding told stated parts placed headOf headFor entryOf addressOf directKeyOf gossipKeyOf
   told-tells =
       record {
         count = refl;
         used = refl;
         bits = ap bitsOf same;
-        last-seen = ap (λ (n : Slot). n .«last_seen») same;
-        timestamp = ap (λ (n : Slot). n .timestamp) same;
-        gossip-timestamp = ap (λ (n : Slot). n .«gossip_timestamp») same;
+        last-seen = ap (λ (n : Head). n .«last_seen») same;
+        timestamp = ap (λ (n : Head). n .timestamp) same;
+        gossip-timestamp = ap (λ (n : Head). n .«gossip_timestamp») same;
         address =
-            lies t _ (entryOf s .address) 5 (i * 4392) 40 (numbersOf s .«address_length») refl refl (ap (λ (n : Slot). n .«address_length») same)
-            (area-octets t i 40 256 (numbersOf s .«address_length») (omega arith) (address-fits s long sound-slot));
+            lies t _ (entryOf s .address) 5 (i * 4392) 40 (headOf s .«address_length») refl refl (ap (λ (n : Head). n .«address_length») same)
+            (area-octets t i 40 256 (headOf s .«address_length») (omega arith) (address-fits s long sound-slot));
         direct-key =
-            lies t _ (orElse noDirect (entryOf s .direct) .key) 7 (i * 4392) 296 (directLength s) refl refl (ap (λ (n : Slot). n .«direct_length») same)
+            lies t _ (orElse noDirect (entryOf s .direct) .key) 7 (i * 4392) 296 (directLength s) refl refl (ap (λ (n : Head). n .«direct_length») same)
             (area-octets t i 296 2048 (directLength s) (omega arith) (direct-fits s long sound-slot) ∙ sym (direct-key s long sound-slot));
         gossip-key =
-            lies t _ (orElse noGossip (entryOf s .gossip) .key) 9 (i * 4392) 2344 (gossipLength s) refl refl (ap (λ (n : Slot). n .«gossip_length») same)
+            lies t _ (orElse noGossip (entryOf s .gossip) .key) 9 (i * 4392) 2344 (gossipLength s) refl refl (ap (λ (n : Head). n .«gossip_length») same)
             (area-octets t i 2344 2048 (gossipLength s) (omega arith) (gossip-fits s long sound-slot) ∙ sym (gossip-key s long sound-slot));
       }
 

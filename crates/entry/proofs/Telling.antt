@@ -20,10 +20,10 @@ use mir.Val.{Fits}
 use Rattle.octets.specs.Written.{putAt, onto}
 use Rattle.octets.proofs.Writing.{begin-at, put, done-at}
 use Rattle.octets.proofs.Tests.{and-left}
-use Rattle.slots.specs.declared.Slot.{Slot}
-use Rattle.slots.specs.Slot.{slotLength, emptyNumbers, numbersOf, marked}
-use Rattle.slots.specs.Entry.{bitsOf}
-use Rattle.slots.proofs.Parts.{put-first, put-more}
+use Rattle.heads.specs.declared.Head.{Head}
+use Rattle.heads.specs.Head.{emptyHead, headOf, bitsOf}
+use Rattle.slots.specs.Slot.{slotLength, marked}
+use Rattle.heads.proofs.Parts.{put-first, put-more}
 use Rattle.table.specs.Table.{slots, slotAt}
 use Rattle.table.proofs.Slots.{room}
 use Rattle.entry.specs.Shown.{shownCount, startOf, placed, stated, parts, told, usedAt, shownAt}
@@ -37,7 +37,7 @@ module _ (at offset n : ℕ) where
   unfolding startOf
   start-there d = rw (ne-eqb n 0 d)
 
-module _ (d : List ℕ) (n : Slot) where
+module _ (d : List ℕ) (n : Head) where
   pub stated-put : shownCount ≤ length d → (used b : ℕ) → b ≡ bitsOf n
       → set (set (set (set (set d 0 used) 1 b) 2 (n .«last_seen»)) 3 (n .timestamp)) 4 (n .«gossip_timestamp») ≡ putAt d 0 (stated used n)
   unfolding stated
@@ -87,7 +87,7 @@ module _ (t : List ℕ) (i : ℕ) where
 
   module _ (b : Bool) (e : b ≡ usedAt t i) where
     module _ (q : not b ≡ true) where
-      pub shown-none : (n : Slot) (d out : List ℕ) → n ≡ emptyNumbers 0 → out ≡ onto (told 0 0 n) d → out ≡ onto (shownAt t i) d
+      pub shown-none : (n : Head) (d out : List ℕ) → n ≡ emptyHead 0 → out ≡ onto (told 0 0 n) d → out ≡ onto (shownAt t i) d
       unfolding shownAt told stated parts placed startOf bitsOf
       shown-none n d out p h = h ∙ rw (p, shownAt, sym e ∙ not-true b q)
 
@@ -102,7 +102,7 @@ module _ (t : List ℕ) (i : ℕ) where
       pub used-fits : length t < 2 ^ 64 → Fits w64 (i * 4392)
       used-fits l = record { fits = omega (arith, used-end l) }
 
-      pub shown-used : (n : Slot) (d out : List ℕ) → n ≡ numbersOf (slotAt t i) → out ≡ onto (told 1 (i * 4392) n) d → out ≡ onto (shownAt t i) d
+      pub shown-used : (n : Head) (d out : List ℕ) → n ≡ headOf (slotAt t i) → out ≡ onto (told 1 (i * 4392) n) d → out ≡ onto (shownAt t i) d
       unfolding shownAt
       shown-used n d out p h = h ∙ rw (p, shownAt, sym e ∙ not-false b q)
 

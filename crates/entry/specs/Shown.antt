@@ -12,9 +12,10 @@ use mathlib.Core.List.{List, [], _∷_, _++_}
 use lib.Dec.{eqb, ltb}
 use lib.ListN.{length, getD, take, drop, replicate}
 use Rattle.octets.specs.Options.{orElse}
-use Rattle.slots.specs.declared.Slot.{Slot}
-use Rattle.slots.specs.Slot.{slotLength, addressAt, directAt, gossipAt, marked, numbersOf}
-use Rattle.slots.specs.Entry.{Entry, bitsOf, numbersFor, noDirect, noGossip}
+use Rattle.heads.specs.declared.Head.{Head}
+use Rattle.heads.specs.Head.{headOf, bitsOf}
+use Rattle.slots.specs.Slot.{slotLength, addressAt, directAt, gossipAt, marked}
+use Rattle.heads.specs.Entry.{Entry, headFor, noDirect, noGossip}
 use Rattle.table.specs.Table.{slots, slotAt}
 
 abbrev pub shownCount : ℕ
@@ -28,16 +29,16 @@ unfoldable pub placed : ℕ → ℕ → ℕ → List ℕ
 placed at offset n = startOf at offset n ∷ n ∷ []
 
 -- the first five of the eleven
-unfoldable pub stated : ℕ → Slot → List ℕ
+unfoldable pub stated : ℕ → Head → List ℕ
 stated used n = used ∷ bitsOf n ∷ n .«last_seen» ∷ n .timestamp ∷ n .«gossip_timestamp» ∷ []
 
 -- the last six: address, direct key and gossip key
-unfoldable pub parts : ℕ → Slot → List ℕ
+unfoldable pub parts : ℕ → Head → List ℕ
 parts at n =
     placed at addressAt (n .«address_length»)
     ++ (placed at directAt (n .«direct_length») ++ placed at gossipAt (n .«gossip_length»))
 
-unfoldable pub told : ℕ → ℕ → Slot → List ℕ
+unfoldable pub told : ℕ → ℕ → Head → List ℕ
 told used at n = stated used n ++ parts at n
 
 unfoldable pub usedAt : List ℕ → ℕ → Bool
@@ -46,7 +47,7 @@ usedAt t i = ltb i (slots t) && marked (slotAt t i)
 unfoldable pub shownAt : List ℕ → ℕ → List ℕ
 shownAt t i =
     elim (usedAt t i) [
-      | true ↦ told 1 (i * slotLength) (numbersOf (slotAt t i))
+      | true ↦ told 1 (i * slotLength) (headOf (slotAt t i))
       | false ↦ replicate shownCount 0
     ]
 
@@ -60,7 +61,7 @@ pub record Lies (t w : List ℕ) (k : ℕ) (x : List ℕ) : Type 0 where
 pub record Tells (t : List ℕ) (e : Entry) (w : List ℕ) : Type 0 where
   pub count : length w ≡ shownCount
   pub used : getD w 0 0 ≡ 1
-  pub bits : getD w 1 0 ≡ bitsOf (numbersFor e)
+  pub bits : getD w 1 0 ≡ bitsOf (headFor e)
   pub last-seen : getD w 2 0 ≡ orElse 0 (e .lastSeen)
   pub timestamp : getD w 3 0 ≡ orElse noDirect (e .direct) .timestamp
   pub gossip-timestamp : getD w 4 0 ≡ orElse noGossip (e .gossip) .timestamp

@@ -6,6 +6,7 @@ ghost use lib.ListN.{length};
 ghost use Rattle.octets.specs.Written.{putAt, onto};
 ghost use Rattle.slots.specs.Slot.{slotLength};
 ghost use Rattle.entry.specs.Shown.{shownCount, startOf, stated, parts, told, usedAt, shownAt};
+use heads::Head;
 use slots::Slot;
 
 // How many numbers tell a slot.
@@ -23,7 +24,7 @@ fn start_of(at: usize, offset: usize, count: usize) -> u64
 }
 
 // Writes the first five of the eleven numbers.
-fn put_stated(numbers: &mut [u64], used: u64, n: Slot)
+fn put_stated(numbers: &mut [u64], used: u64, n: Head)
     requires { ⌜ shownCount ≤ length (now numbers) ⌝ }
     ensures { λ _. ⌜ now (numbers .exit) ≡ putAt (now (numbers .entry)) 0 (stated used n) ⌝ }
 {
@@ -35,7 +36,7 @@ fn put_stated(numbers: &mut [u64], used: u64, n: Slot)
 }
 
 // Writes the other six: start and length of address, direct key and gossip key.
-fn put_parts(numbers: &mut [u64], at: usize, n: Slot)
+fn put_parts(numbers: &mut [u64], at: usize, n: Head)
     requires { ⌜ (shownCount ≤ length (now numbers)) × (at + slotLength < 2 ^ 64) ⌝ }
     ensures { λ _. ⌜ now (numbers .exit) ≡ putAt (now (numbers .entry)) 5 (parts at n) ⌝ }
 {
@@ -48,7 +49,7 @@ fn put_parts(numbers: &mut [u64], at: usize, n: Slot)
 }
 
 // Writes all eleven.
-fn put(numbers: &mut [u64], used: u64, at: usize, n: Slot)
+fn put(numbers: &mut [u64], used: u64, at: usize, n: Head)
     requires { ⌜ (shownCount ≤ length (now numbers)) × (at + slotLength < 2 ^ 64) ⌝ }
     ensures { λ _. ⌜ now (numbers .exit) ≡ onto (told used at n) (now (numbers .entry)) ⌝ }
 {
@@ -73,7 +74,7 @@ pub fn tell(table: &[u8], slot: usize, numbers: &mut [u64])
     ensures { λ _. ⌜ now (numbers .exit) ≡ onto (shownAt (now (table .entry)) slot) (now (numbers .entry)) ⌝ }
 {
     if !is_used(table, slot) {
-        put(numbers, 0, 0, Slot::empty(0));
+        put(numbers, 0, 0, Head::empty(0));
         return;
     }
     put(numbers, 1, slot * Slot::LEN, table::numbers(table, slot));

@@ -13,7 +13,7 @@ use Rattle.octets.specs.Octets.{ascii}
 use Rattle.header.specs.Header.{FieldText}
 use Rattle.date.specs.Date.{dateOf}
 use Rattle.keyfield.specs.Field.{Field, fieldOf}
-use Rattle.slots.specs.Entry.{Entry}
+use Rattle.heads.specs.Entry.{Entry}
 use Rattle.fields.specs.Fields.{fieldsIn}
 use Rattle.outer.specs.Outer.{senderIn}
 use Rattle.keys.specs.Keys.{countedIn}

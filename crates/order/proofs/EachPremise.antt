@@ -8,7 +8,7 @@ use mathlib.Core.List.{List, [], _∷_}
 use mathlib.Core.Option.{some, none}
 use Rattle.octets.specs.Octets.{ascii, sameOctets}
 use Rattle.octets.specs.Options.{orElse}
-use Rattle.slots.specs.Entry.{newcomer, seenBy, withDirect, withGossip}
+use Rattle.heads.specs.Entry.{newcomer, seenBy, withDirect, withGossip}
 use Rattle.advice.specs.Advice.{directOf, gossipOf, targetBy, targetOf}
 use Rattle.update.specs.Update.{younger, withField, updated, youngerGossip, heard}
 use Rattle.update.specs.Message.{Message, entryPut, entryHeard, entryAfter}

@@ -14,7 +14,7 @@ use Rattle.octets.specs.Octets.{sameOctets}
 use Rattle.octets.specs.Options.{orElse, IfSome}
 use Rattle.octets.proofs.Comparing.{same-true}
 use Rattle.octets.proofs.Tests.{by-test}
-use Rattle.slots.specs.Entry.{Direct, Entry, newcomer}
+use Rattle.heads.specs.Entry.{Direct, Entry, newcomer}
 use Rattle.update.specs.Update.{updated, heard}
 use Rattle.update.proofs.Halves.{heard-again}
 use Rattle.update.specs.Message.{Gossiped, Message, entryPut, entryHeard, entryAfter}

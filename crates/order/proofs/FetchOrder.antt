@@ -12,7 +12,8 @@ use mathlib.Core.Option.{Option, some, none}
 use Rattle.octets.specs.Octets.{AllOctets}
 use Rattle.octets.specs.Options.{IfSome}
 use Rattle.octets.proofs.Tests.{and-left, and-right}
-use Rattle.slots.specs.Entry.{Direct, Entry, GoodDirect, Good}
+use Rattle.heads.specs.Entry.{Direct, Entry}
+use Rattle.slots.specs.Entry.{GoodDirect, Good}
 use Rattle.table.specs.Table.{checked}
 use Rattle.table.specs.Entries.{entryIn}
 use Rattle.table.specs.declared.Checked.the-variants.{Sound}

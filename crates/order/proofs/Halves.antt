@@ -15,7 +15,7 @@ use borrow.Author.Tests.{ltb-true, ltb-false}
 use lib.Dec.{ltb}
 use Rattle.octets.specs.Options.{orElse, isSome, IfSome}
 use Rattle.octets.proofs.Tests.{by-test}
-use Rattle.slots.specs.Entry.{Direct, Gossip, Entry, seenBy, withDirect, withGossip}
+use Rattle.heads.specs.Entry.{Direct, Gossip, Entry, seenBy, withDirect, withGossip}
 use Rattle.update.specs.Update.{younger, withField, updated, youngerGossip, heard}
 use Rattle.order.proofs.Later.{later, later-stays, later-replaces, later-swap, later-holds}
 

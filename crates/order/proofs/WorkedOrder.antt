@@ -32,7 +32,7 @@ use Rattle.addresslist.specs.List as list
 use Rattle.date.specs.Date as date
 use Rattle.keyfield.specs.Field as keyfield
 use Rattle.slots.specs.Slot as slots
-use Rattle.slots.specs.Entry.{Entry, newcomer, seenBy, withDirect}
+use Rattle.heads.specs.Entry.{Entry, newcomer, seenBy, withDirect}
 use Rattle.table.specs.Table as table
 use Rattle.table.specs.Table.{checked, found, isAt}
 use Rattle.table.specs.Entries.{entryIn}

@@ -6,7 +6,7 @@ use mathlib.Core.Bool.{true, false}
 use mathlib.Core.List.{List, [], _∷_}
 use mathlib.Core.Option.{Option, some, none}
 use Rattle.octets.specs.Octets.{sameOctets}
-use Rattle.slots.specs.Entry.{Direct}
+use Rattle.heads.specs.Entry.{Direct}
 use Rattle.update.specs.Message.{Gossiped, Message}
 
 -- "An Autocrypt field is valid if it also names the sender.": to other addresses a message brings no direct key

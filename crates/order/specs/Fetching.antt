@@ -9,7 +9,7 @@ use mathlib.Core.Path.{_≡_}
 use mathlib.Core.Bool.{Bool, true, _&&_}
 use mathlib.Core.List.{List, [], _∷_, List·Memᴰ}
 use mathlib.Core.Option.{Option, some, none}
-use Rattle.slots.specs.Entry.{Direct}
+use Rattle.heads.specs.Entry.{Direct}
 use Rattle.table.specs.Entries.{entryIn}
 use Rattle.update.specs.Message.{Message, hasRoom}
 use Rattle.delivery.specs.Delivery.{delivered}

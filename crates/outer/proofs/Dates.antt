@@ -18,7 +18,7 @@ use Rattle.date.specs.Answers.{datedOf, optionOf}
 use Rattle.date.specs.declared.Dated.{Dated}
 use Rattle.date.specs.declared.Dated.the-variants.{Unavailable}
 use Rattle.date.proofs.Effective.{option-dated, effective-upto}
-use Rattle.slots.specs.Slot.{timeLimit}
+use Rattle.heads.specs.Head.{timeLimit}
 use Rattle.fields.specs.Answers.{valueAt, valueIn}
 use Rattle.fields.specs.declared.Only.{Only}
 use Rattle.fields.specs.declared.Only.the-variants.{One, Other}

@@ -19,11 +19,13 @@ use lib.ListN.{length, length-append}
 use Rattle.octets.specs.Options.{orElse, isSome}
 use Rattle.octets.proofs.Lists.{left-one}
 use Rattle.octets.proofs.Writing.{Wrote, begin-at, kept, counted, puts, done-at}
-use Rattle.slots.specs.declared.Slot.{Slot}
-use Rattle.slots.specs.Slot.{marked, addressOf, numbersOf}
-use Rattle.slots.specs.Entry.{Entry, Direct, Gossip, entryOf, numbersFor, present, noDirect, noGossip}
+use Rattle.heads.specs.declared.Head.{Head}
+use Rattle.heads.specs.Head.{headOf}
+use Rattle.slots.specs.Slot.{marked, addressOf}
+use Rattle.heads.specs.Entry.{Entry, Direct, Gossip, headFor, present, noDirect, noGossip}
+use Rattle.slots.specs.Entry.{entryOf}
 use Rattle.slots.proofs.Sounds.{sound-parts}
-use Rattle.slots.proofs.Entries.{numbers-back}
+use Rattle.slots.proofs.Entries.{head-back}
 use Rattle.table.specs.Table.{slots, slotAt, checked}
 use Rattle.table.specs.declared.Checked.the-variants.{Sound}
 use Rattle.table.proofs.Slots.{slot-long}
@@ -44,8 +46,8 @@ unfolding isSome orElse
 seen-time none = refl
 seen-time (some x) = refl
 
-pub line-parts : (e : Entry) → lineOf e ≡ ended (e .address) 32 ++ numbersPart (numbersFor e)
-unfolding lineOf line numbersPart directPart gossipPart ended numbersFor
+pub line-parts : (e : Entry) → lineOf e ≡ ended (e .address) 32 ++ numbersPart (headFor e)
+unfolding lineOf line numbersPart directPart gossipPart ended headFor
 line-parts e =
     rw (
       seen-time (e .lastSeen),
@@ -64,11 +66,11 @@ module _ (t : List ℕ) (i : ℕ) where
   slot-line e = rw (slotText, e)
 
   pub slot-parts : checked t ≡ Sound → i < slots t → marked (slotAt t i) ≡ true
-      → slotText (slotAt t i) ≡ ended (addressOf (slotAt t i)) 32 ++ numbersPart (numbersOf (slotAt t i))
+      → slotText (slotAt t i) ≡ ended (addressOf (slotAt t i)) 32 ++ numbersPart (headOf (slotAt t i))
   unfolding entryOf
   slot-parts s l m =
       let p = sound-parts (slotAt t i) (used-sound t (table-sound t s) i l m .0) in
-      slot-line m ∙ line-parts (entryOf (slotAt t i)) ∙ rw (numbers-back (slotAt t i) (slot-long t i l) p)
+      slot-line m ∙ line-parts (entryOf (slotAt t i)) ∙ rw (head-back (slotAt t i) (slot-long t i l) p)
 
 -- `put_slot`: b is whether the slot is used, a its address and n its numbers
 module _ (t d : List ℕ) (i at : ℕ) (b : Bool) (e : b ≡ marked (slotAt t i))
@@ -80,13 +82,13 @@ module _ (t d : List ℕ) (i at : ℕ) (b : Bool) (e : b ≡ marked (slotAt t i)
       rw z (record { text = done-at [] d d at at h (begin-at [] d at h); place = omega arith })
 
   module _ (f : not b ≡ false) (a : List ℕ) (ea : a ≡ addressOf (slotAt t i)) where
-    parts : (n : Slot) → n ≡ numbersOf (slotAt t i) → slotText (slotAt t i) ≡ ended a 32 ++ numbersPart n
+    parts : (n : Head) → n ≡ headOf (slotAt t i) → slotText (slotAt t i) ≡ ended a 32 ++ numbersPart n
     parts n en = slot-parts t i (c .0) (c .1) (sym e ∙ not-false b f) ∙ rw (ea, en)
 
     pub address-room : Room d at (ended a 32)
-    address-room = room-one (slotText (slotAt t i)) (ended a 32) (numbersPart (numbersOf (slotAt t i))) d at (c .2) (parts _ refl)
+    address-room = room-one (slotText (slotAt t i)) (ended a 32) (numbersPart (headOf (slotAt t i))) d at (c .2) (parts _ refl)
 
-    module _ (n : Slot) (en : n ≡ numbersOf (slotAt t i)) (d₁ : List ℕ) (o₁ : ℕ) (p₁ : Put d d₁ at (ended a 32) o₁) where
+    module _ (n : Head) (en : n ≡ headOf (slotAt t i)) (d₁ : List ℕ) (o₁ : ℕ) (p₁ : Put d d₁ at (ended a 32) o₁) where
       pub numbers-room : Room d₁ o₁ (numbersPart n)
       numbers-room = room-two (slotText (slotAt t i)) (ended a 32) (numbersPart n) d at (c .2) (parts n en) d₁ o₁ p₁
 

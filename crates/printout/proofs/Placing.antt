@@ -20,9 +20,9 @@ use lib.ListN.{length, set, length-append}
 use Rattle.octets.specs.Octets.{ascii}
 use Rattle.octets.specs.Written.{putAt}
 use Rattle.octets.proofs.Writing.{begin-at, put, puts, done-at}
-use Rattle.slots.specs.declared.Slot.{Slot}
-use Rattle.slots.specs.Entry.{present}
-use Rattle.slots.proofs.Parts.{put-more, put-length}
+use Rattle.heads.specs.declared.Head.{Head}
+use Rattle.heads.specs.Entry.{present}
+use Rattle.heads.proofs.Parts.{put-more, put-length}
 use Rattle.printout.specs.Printout.{decimal, timeText, preferenceText}
 use Rattle.printout.specs.Steps.{Room, Put, ended, directPart, gossipPart, numbersPart}
 use Rattle.printout.proofs.Decimal.{decimal-one, decimal-more, ended-long}
@@ -162,7 +162,7 @@ module _ (b : Bool) where
 pub ruleset choosing = (same-room, same-put, time-there, time-absent, is-mutual, is-none, needs)
 
 -- the parts of a line, as they are written
-module _ (n : Slot) where
+module _ (n : Head) where
   pub direct-parts : directPart n
       ≡ ended (timeText (present (n .direct) (n .timestamp))) 32
       ++ (ended (decimal (n .«direct_length»)) 32 ++ ended (preferenceText (n .«mutual»)) 32)
@@ -179,7 +179,7 @@ module _ (n : Slot) where
   numbers-parts = refl
 
 -- room for each part, w being what the code writes next
-module _ (n : Slot) (d : List ℕ) (at : ℕ) (r : Room d at (directPart n)) where
+module _ (n : Head) (d : List ℕ) (at : ℕ) (r : Room d at (directPart n)) where
   pub direct-time : (w : List ℕ) → w ≡ ended (timeText (present (n .direct) (n .timestamp))) 32 → Room d at w
   direct-time w e = rw e (room-one _ _ _ d at r (direct-parts n))
 
@@ -191,7 +191,7 @@ module _ (n : Slot) (d : List ℕ) (at : ℕ) (r : Room d at (directPart n)) whe
       pub direct-preference : (w : List ℕ) → w ≡ ended (preferenceText (n .«mutual»)) 32 → Room d₂ o₂ w
       direct-preference w e = rw e (room-last _ _ _ _ d at r (direct-parts n) d₁ o₁ p₁ d₂ o₂ p₂)
 
-module _ (n : Slot) (d : List ℕ) (at : ℕ) (r : Room d at (gossipPart n)) where
+module _ (n : Head) (d : List ℕ) (at : ℕ) (r : Room d at (gossipPart n)) where
   pub gossip-time : (w : List ℕ) → w ≡ ended (timeText (present (n .gossip) (n .«gossip_timestamp»))) 32 → Room d at w
   gossip-time w e = rw e (room-one _ _ _ d at r (gossip-parts n))
 
@@ -199,7 +199,7 @@ module _ (n : Slot) (d : List ℕ) (at : ℕ) (r : Room d at (gossipPart n)) whe
       → (w : List ℕ) → w ≡ ended (decimal (n .«gossip_length»)) 10 → Room d₁ o₁ w
   gossip-number d₁ o₁ p₁ w e = rw e (room-two _ _ _ d at r (gossip-parts n) d₁ o₁ p₁)
 
-module _ (n : Slot) (d : List ℕ) (at : ℕ) (r : Room d at (numbersPart n)) where
+module _ (n : Head) (d : List ℕ) (at : ℕ) (r : Room d at (numbersPart n)) where
   pub numbers-time : (w : List ℕ) → w ≡ ended (timeText (present (n .seen) (n .«last_seen»))) 32 → Room d at w
   numbers-time w e = rw e (room-one _ _ _ d at r (numbers-parts n))
 

@@ -14,7 +14,7 @@ use borrow.Author.Tests.{le-leb, lt-leb}
 use lib.ListN.{length}
 use Rattle.octets.specs.Octets.{ascii}
 use Rattle.octets.specs.Written.{putAt, onto}
-use Rattle.slots.proofs.Parts.{put-length}
+use Rattle.heads.proofs.Parts.{put-length}
 use Rattle.table.specs.Table.{slots, checked}
 use Rattle.table.specs.declared.Checked.{Checked}
 use Rattle.table.specs.declared.Checked.the-variants.{Sound, Length, Slot}

@@ -11,12 +11,15 @@ use mathlib.Core.List.{List, _++_}
 use native.Mathlib.Omega.{arith}
 use lib.ListN.{length, length-append}
 use Rattle.octets.proofs.Tests.{by-test}
-use Rattle.slots.specs.declared.Slot.{Slot}
-use Rattle.slots.specs.Slot.{slotLength, marked, addressOf, numbersOf}
-use Rattle.slots.specs.Entry.{entryOf, numbersFor, present}
+use Rattle.heads.specs.declared.Head.{Head}
+use Rattle.heads.specs.Head.{headOf}
+use Rattle.slots.specs.Slot.{slotLength, marked, addressOf}
+use Rattle.heads.specs.Entry.{headFor, present}
+use Rattle.slots.specs.Entry.{entryOf}
 use Rattle.slots.specs.Facts.{Sound as SoundSlot}
 use Rattle.slots.proofs.Sounds.{sound-parts}
-use Rattle.slots.proofs.Entries.{canonical-most, numbers-back, direct-key-in, gossip-key-in}
+use Rattle.heads.proofs.Entries.{canonical-most}
+use Rattle.slots.proofs.Entries.{head-back, direct-key-in, gossip-key-in}
 use Rattle.table.specs.Table.{slots, slotAt, checked}
 use Rattle.table.specs.declared.Checked.the-variants.{Sound}
 use Rattle.table.proofs.Slots.{slot-long}
@@ -40,7 +43,7 @@ unfolding preferenceText
 preference-most true = omega arith
 preference-most false = omega arith
 
-numbers-most : (n : Slot) → Small (n .«last_seen») → Small (n .timestamp) → Small (n .«gossip_timestamp») → Small (n .«direct_length»)
+numbers-most : (n : Head) → Small (n .«last_seen») → Small (n .timestamp) → Small (n .«gossip_timestamp») → Small (n .«direct_length»)
     → Small (n .«gossip_length») → length (numbersPart n) ≤ 112
 unfolding numbersPart directPart gossipPart
 numbers-most n s t g d k =
@@ -56,17 +59,17 @@ numbers-most n s t g d k =
     ))
 
 module _ (t : List ℕ) (c : checked t ≡ Sound) where
-  used-most : (i : ℕ) → i < slots t → marked (slotAt t i) ≡ true → length (numbersPart (numbersOf (slotAt t i))) ≤ 112
-  unfolding numbersOf numbersFor
+  used-most : (i : ℕ) → i < slots t → marked (slotAt t i) ≡ true → length (numbersPart (headOf (slotAt t i))) ≤ 112
+  unfolding headOf headFor
   used-most i l m =
       let p : SoundSlot (slotAt t i) = sound-parts (slotAt t i) (used-sound t (table-sound t c) i l m .0) in
-      let back : numbersFor (entryOf (slotAt t i)) ≡ numbersOf (slotAt t i) = numbers-back (slotAt t i) (slot-long t i l) p in
-      numbers-most (numbersOf (slotAt t i))
+      let back : headFor (entryOf (slotAt t i)) ≡ headOf (slotAt t i) = head-back (slotAt t i) (slot-long t i l) p in
+      numbers-most (headOf (slotAt t i))
       (omega (arith, p .seen-range))
       (omega (arith, p .direct-range))
       (omega (arith, p .gossip-range))
-      (omega (arith, direct-key-in (slotAt t i) (slot-long t i l) p, ap (λ (n : Slot). n .«direct_length») back))
-      (omega (arith, gossip-key-in (slotAt t i) (slot-long t i l) p, ap (λ (n : Slot). n .«gossip_length») back))
+      (omega (arith, direct-key-in (slotAt t i) (slot-long t i l) p, ap (λ (n : Head). n .«direct_length») back))
+      (omega (arith, gossip-key-in (slotAt t i) (slot-long t i l) p, ap (λ (n : Head). n .«gossip_length») back))
 
   slot-most : (i : ℕ) → i < slots t → length (slotText (slotAt t i)) ≤ lineRoom
   slot-most i l =

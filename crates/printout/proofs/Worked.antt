@@ -10,8 +10,9 @@ use mathlib.Core.List.{[], _∷_}
 use lib.ListN.{replicate}
 use Rattle.octets.specs.Octets.{ascii, allZero, sameOctets}
 use Rattle.octets.specs.Options.{orElse}
-use Rattle.slots.specs.Slot.{slotLength, timeLimit, free, marked}
-use Rattle.slots.specs.Entry.{Entry}
+use Rattle.heads.specs.Head.{timeLimit}
+use Rattle.slots.specs.Slot.{slotLength, free, marked}
+use Rattle.heads.specs.Entry.{Entry}
 use Rattle.table.specs.Table.{slots, slotAt, right, whole, judged, checked}
 use Rattle.printout.specs.Printout.{lastDigits, decimal, timeText, preferenceText, line, lineOf, slotText, linesFrom, listing, printed}
 

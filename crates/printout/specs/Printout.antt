@@ -15,7 +15,8 @@ use lib.ListN.{length}
 use Rattle.octets.specs.Octets.{ascii, octet}
 use Rattle.octets.specs.Options.{orElse}
 use Rattle.slots.specs.Slot.{slotLength, addressRoom, marked}
-use Rattle.slots.specs.Entry.{Entry, noDirect, noGossip, entryOf}
+use Rattle.heads.specs.Entry.{Entry, noDirect, noGossip}
+use Rattle.slots.specs.Entry.{entryOf}
 use Rattle.table.specs.Table.{slots, slotAt, checked}
 use Rattle.table.specs.declared.Checked.{Checked}
 use Rattle.table.specs.declared.Checked.the-variants.{Sound, Length, Slot}

@@ -11,8 +11,8 @@ use mathlib.Core.List.{List, [], _∷_, _++_}
 use lib.ListN.{length}
 use Rattle.octets.specs.Octets.{octet}
 use Rattle.octets.specs.Written.{putAt}
-use Rattle.slots.specs.declared.Slot.{Slot}
-use Rattle.slots.specs.Entry.{present}
+use Rattle.heads.specs.declared.Head.{Head}
+use Rattle.heads.specs.Entry.{present}
 use Rattle.printout.specs.Printout.{decimal, timeText, preferenceText}
 
 pub record Room (d : List ℕ) (at : ℕ) (w : List ℕ) : Type 0 where
@@ -26,15 +26,15 @@ pub record Put (d out : List ℕ) (at : ℕ) (w : List ℕ) (o : ℕ) : Type 0 w
 unfoldable pub ended : List ℕ → ℕ → List ℕ
 ended f x = f ++ (x ∷ [])
 
-unfoldable pub directPart : Slot → List ℕ
+unfoldable pub directPart : Head → List ℕ
 directPart n =
     ended (timeText (present (n .direct) (n .timestamp))) (octet " ")
     ++ (ended (decimal (n .«direct_length»)) (octet " ") ++ ended (preferenceText (n .«mutual»)) (octet " "))
 
-unfoldable pub gossipPart : Slot → List ℕ
+unfoldable pub gossipPart : Head → List ℕ
 gossipPart n =
     ended (timeText (present (n .gossip) (n .«gossip_timestamp»))) (octet " ") ++ ended (decimal (n .«gossip_length»)) (octet "\n")
 
-unfoldable pub numbersPart : Slot → List ℕ
+unfoldable pub numbersPart : Head → List ℕ
 numbersPart n =
     ended (timeText (present (n .seen) (n .«last_seen»))) (octet " ") ++ (directPart n ++ gossipPart n)

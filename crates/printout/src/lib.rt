@@ -3,11 +3,12 @@ ghost use Prim.Native.Nat.{_<_, _≤_};
 ghost use mathlib.Core.Path.{_≡_};
 ghost use lib.ListN.{length};
 ghost use Rattle.octets.specs.Written.{onto};
-ghost use Rattle.slots.specs.Entry.{present};
+ghost use Rattle.heads.specs.Entry.{present};
 ghost use Rattle.table.specs.Table.{slots as slotsOf, slotAt, checked};
 ghost use Rattle.table.specs.declared.Checked.the-variants.{Sound};
 ghost use Rattle.printout.specs.Printout.{decimal, timeText, preferenceText, slotText, linesFrom, printed};
 ghost use Rattle.printout.specs.Steps.{Room, Put, ended, directPart, gossipPart, numbersPart};
+use heads::Head;
 use slots::Slot;
 use table::Checked;
 
@@ -82,7 +83,7 @@ fn put_preference(out: &mut [u8], at: usize, mutual: bool) -> usize
 }
 
 // Writes what a line says of the direct half.
-fn put_direct(out: &mut [u8], at: usize, n: Slot) -> usize
+fn put_direct(out: &mut [u8], at: usize, n: Head) -> usize
     requires { ⌜ Room (now out) at (directPart n) ⌝ }
     ensures { λ r. ⌜ Put (now (out .entry)) (now (out .exit)) at (directPart n) r ⌝ }
 {
@@ -92,7 +93,7 @@ fn put_direct(out: &mut [u8], at: usize, n: Slot) -> usize
 }
 
 // Writes what it says of the gossip half, which ends it.
-fn put_gossip(out: &mut [u8], at: usize, n: Slot) -> usize
+fn put_gossip(out: &mut [u8], at: usize, n: Head) -> usize
     requires { ⌜ Room (now out) at (gossipPart n) ⌝ }
     ensures { λ r. ⌜ Put (now (out .entry)) (now (out .exit)) at (gossipPart n) r ⌝ }
 {
@@ -101,7 +102,7 @@ fn put_gossip(out: &mut [u8], at: usize, n: Slot) -> usize
 }
 
 // Writes what an entry says behind its address.
-fn put_numbers(out: &mut [u8], at: usize, n: Slot) -> usize
+fn put_numbers(out: &mut [u8], at: usize, n: Head) -> usize
     requires { ⌜ Room (now out) at (numbersPart n) ⌝ }
     ensures { λ r. ⌜ Put (now (out .entry)) (now (out .exit)) at (numbersPart n) r ⌝ }
 {

@@ -26,7 +26,7 @@ use Rattle.refusals.specs.declared.Refusal.{Refusal}
 use Rattle.refusals.specs.declared.Refusal.the-variants.{BrokenSlot, ReceiptTime, OuterBlock, Sender, Report, PayloadBlock, NoFreeSlot}
 use Rattle.refusals.specs.declared.Answer.the-variants.{Done, Refused}
 use Rattle.refusals.proofs.Rows.{by-refusal, first-front, first-rest, none-here, none-rest, none-front, none-behind, front-only, refused-is, done-is, answer-refused, answer-done}
-use Rattle.slots.specs.Slot.{timeLimit}
+use Rattle.heads.specs.Head.{timeLimit}
 use Rattle.table.specs.Table.{checked}
 use Rattle.table.specs.Slotwise.{Broken}
 use Rattle.table.specs.Entries.{entryIn}

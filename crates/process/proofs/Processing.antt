@@ -24,7 +24,7 @@ use Rattle.refusals.specs.declared.Refusal.the-variants.{ReceiptTime, OuterBloc
 use Rattle.refusals.specs.declared.Answer.{Answer}
 use Rattle.refusals.specs.declared.Answer.the-variants.{Done, Refused}
 use Rattle.refusals.proofs.Rows.{first-behind, when-refuses, unless-refuses, unless-passes, told-refuses, denied-refuses, denied-passes, no-row, front-refuses, front-passes}
-use Rattle.slots.specs.Slot.{timeLimit}
+use Rattle.heads.specs.Head.{timeLimit}
 use Rattle.table.specs.Table.{checked}
 use Rattle.table.specs.declared.Checked.the-variants.{Sound}
 use Rattle.inspect.specs.Inspecting.{tableRows}

@@ -15,7 +15,7 @@ use Rattle.refusals.specs.Rows.{Row, _when_, _unless_, firstOf, unlessRefused}
 use Rattle.refusals.specs.declared.Refusal.{Refusal}
 use Rattle.refusals.specs.declared.Refusal.the-variants.{ReceiptTime, OuterBlock, Sender, Report, PayloadBlock, NoFreeSlot}
 use Rattle.header.specs.Header.{FieldText, readable}
-use Rattle.slots.specs.Slot.{timeLimit}
+use Rattle.heads.specs.Head.{timeLimit}
 use Rattle.inspect.specs.Inspecting.{tableRows}
 use Rattle.update.specs.Message.{Message, hasRoom, applied}
 use Rattle.fields.specs.Fields.{fieldsIn}

@@ -15,7 +15,7 @@ use lib.ListN.{length, drop}
 use Rattle.refusals.specs.Rows.{Row, firstOf, answerOf, unlessRefused}
 use Rattle.refusals.specs.declared.Answer.{Answer}
 use Rattle.header.specs.Header.{readable, limit}
-use Rattle.slots.specs.Slot.{timeLimit}
+use Rattle.heads.specs.Head.{timeLimit}
 use Rattle.table.specs.Table.{checked}
 use Rattle.table.specs.declared.Checked.the-variants.{Sound}
 use Rattle.update.specs.Message.{applied}

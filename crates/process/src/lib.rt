@@ -12,6 +12,7 @@ use outer::Sender;
 use refusals::Answer;
 use refusals::Refusal;
 use settings::Gossip;
+use heads::Head;
 use slots::Slot;
 
 // Room for the values of most messages. Room has to be cleared before it is lent, and for the longest values that takes more
@@ -128,7 +129,7 @@ fn process_sound(
     ensures { λ r. ⌜ r ≡ answerFrom 0 (now (table .entry)) receipt (now (outer .entry)) (now (payload .entry)) gossip ⌝ }
     ensures { λ _. ⌜ now (table .exit) ≡ leftFrom 0 (now (table .entry)) receipt (now (outer .entry)) (now (payload .entry)) gossip ⌝ }
 {
-    if Slot::TIME_LIMIT < receipt {
+    if Head::TIME_LIMIT < receipt {
         return Answer::Refused(Refusal::ReceiptTime);
     }
     match fields::walk(outer) {

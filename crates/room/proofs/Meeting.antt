@@ -16,7 +16,7 @@ use lib.ListN.{length, take, drop, length-append}
 use Rattle.octets.specs.Written.{putAt}
 use Rattle.address.specs.Address.{isCanonical}
 use Rattle.addresslist.specs.List.{among}
-use Rattle.slots.proofs.Entries.{canonical-most}
+use Rattle.heads.proofs.Entries.{canonical-most}
 use Rattle.table.specs.Table.{found, freeCount, checked}
 use Rattle.table.specs.declared.Checked.the-variants.{Sound}
 use Rattle.table.specs.declared.Found.{Found}

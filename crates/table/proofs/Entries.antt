@@ -12,7 +12,8 @@ use mathlib.Core.Option.{some, none}
 use native.Mathlib.Omega.{arith}
 use Rattle.octets.specs.Octets.{AllOctets}
 use Rattle.slots.specs.Slot.{sound}
-use Rattle.slots.specs.Entry.{Entry, entryOf, Good}
+use Rattle.heads.specs.Entry.{Entry}
+use Rattle.slots.specs.Entry.{entryOf, Good}
 use Rattle.slots.proofs.Sounds.{sound-parts}
 use Rattle.slots.proofs.Goodness.{good-entry}
 use Rattle.table.specs.Table.{slots, slotAt, found, checked}

@@ -20,7 +20,8 @@ use Rattle.octets.proofs.Comparing.{same-true, same-refl}
 use Rattle.octets.proofs.Lists.{lt-or-le}
 use Rattle.octets.proofs.Tests.{by-test}
 use Rattle.slots.specs.Slot.{slotLength, marked, free, sound, addressOf}
-use Rattle.slots.specs.Entry.{Entry, slotOf, Good}
+use Rattle.heads.specs.Entry.{Entry}
+use Rattle.slots.specs.Entry.{slotOf, Good}
 use Rattle.slots.proofs.Sounds.{marked-not-free, unmarked-not-sound}
 use Rattle.slots.proofs.Made.{slot-long, slot-sound, address-kept}
 use Rattle.table.specs.Table.{slots, slotAt, withSlot, hasAddress, lowest, isAt, inLower, right, whole, judged, checked, found}

@@ -19,8 +19,9 @@ use Rattle.octets.proofs.Comparing.{same-refl}
 use Rattle.octets.proofs.Joined.{put-octets}
 use Rattle.octets.proofs.Tests.{by-test}
 use Rattle.slots.specs.Slot.{slotLength, marked, sound}
-use Rattle.slots.specs.Entry.{Entry, slotOf, Good}
-use Rattle.slots.proofs.Parts.{put-again, put-back}
+use Rattle.heads.specs.Entry.{Entry}
+use Rattle.slots.specs.Entry.{slotOf, Good}
+use Rattle.heads.proofs.Parts.{put-again, put-back}
 use Rattle.slots.proofs.Sounds.{unmarked-not-sound}
 use Rattle.slots.proofs.Made.{slot-long, slot-sound, address-kept, entry-back}
 use Rattle.table.specs.Table.{slots, slotAt, withSlot, unused, hasAddress, found, freeCount}

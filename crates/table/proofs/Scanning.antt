@@ -22,7 +22,8 @@ use Rattle.octets.specs.Octets.{sameOctets}
 use Rattle.octets.proofs.Comparing.{Same, same-begin, same-next, same-stop, same-end, same-long}
 use Rattle.octets.proofs.Lists.{left-one}
 use Rattle.octets.proofs.Tests.{and-left, and-right, by-test}
-use Rattle.slots.specs.Slot.{slotLength, marked, addressOf, addressLength, addressArea}
+use Rattle.heads.specs.Head.{addressLength}
+use Rattle.slots.specs.Slot.{slotLength, marked, addressOf, addressArea}
 use Rattle.table.specs.Table.{slots, slotAt, unused, hasAddress, lowest, howMany, found, lowestFree, freeCount}
 use Rattle.table.specs.declared.Found.{Found}
 use Rattle.table.specs.declared.Found.the-variants.{At, Nothing}

@@ -24,10 +24,12 @@ use lib.Seq.{take-at, drop-at, take-take, drop-drop, length-take-le}
 use Rattle.octets.specs.Octets.{AllOctets}
 use Rattle.octets.specs.Written.{putAt}
 use Rattle.octets.proofs.Lists.{take-octets, drop-octets, lt-or-le}
-use Rattle.slots.specs.declared.Slot.{Slot}
-use Rattle.slots.specs.Slot.{slotLength, addressRoom, keyLimit, numbersOf, marked, addressOf, sound}
-use Rattle.slots.specs.Entry.{entryOf, slotOf, newcomer, seenBy, withDirect, withGossip}
-use Rattle.slots.proofs.Parts.{drop-take, part-back, part-before, part-behind, put-length}
+use Rattle.heads.specs.declared.Head.{Head}
+use Rattle.heads.specs.Head.{headOf}
+use Rattle.slots.specs.Slot.{slotLength, addressRoom, keyLimit, marked, addressOf, sound}
+use Rattle.heads.specs.Entry.{newcomer, seenBy, withDirect, withGossip}
+use Rattle.slots.specs.Entry.{entryOf, slotOf}
+use Rattle.heads.proofs.Parts.{drop-take, part-back, part-before, part-behind, put-length}
 use Rattle.table.specs.Table.{slots, slotAt, withSlot, unused}
 
 module _ (t : List ℕ) (i : ℕ) (h : i < slots t) where
@@ -119,7 +121,7 @@ module _ (t s : List ℕ) (i : ℕ) (e : (s ≡ slotAt t i) × (length s ≡ slo
   unfolding unused
   unused-at b p = rw (p, e .0)
 
-  pub numbers-at : (n : Slot) → n ≡ numbersOf s → n ≡ numbersOf (slotAt t i)
+  pub numbers-at : (n : Head) → n ≡ headOf s → n ≡ headOf (slotAt t i)
   numbers-at n p = p ∙ rw (e .0)
 
   pub address-at : (a : List ℕ) → a ≡ addressOf s → a ≡ addressOf (slotAt t i)

@@ -18,8 +18,10 @@ use Rattle.octets.specs.Tests.{every}
 use Rattle.runs.specs.Runs.{belongs}
 use Rattle.address.specs.Pieces.{onFirst, pieces, before, behind}
 use Rattle.address.specs.Address.{atom, localPart, freeEnds, label, domain, plain, canonical, isCanonical}
-use Rattle.slots.specs.Slot.{slotLength, addressOf, numbersOf, free, marked, canonicalAddress, clear, zeroPast, sound}
-use Rattle.slots.specs.Entry.{numbersFor, bitsOf, opening, times, lengths, head, padded, areas, slotOf}
+use Rattle.heads.specs.Head.{headOf, clear, bitsOf, times, lengths, headOctets}
+use Rattle.slots.specs.Slot.{slotLength, addressOf, free, marked, canonicalAddress, zeroPadding, sound}
+use Rattle.heads.specs.Entry.{headFor}
+use Rattle.slots.specs.Entry.{padded, areas, slotOf}
 use Rattle.table.specs.Table.{slots, slotAt, unused, hasAddress, lowest, howMany, found, lowestFree, freeCount, inLower, right, whole, judged, checked}
 use Rattle.table.specs.declared.Checked.the-variants.{Sound, Length, Slot}
 use Rattle.table.specs.declared.Found.the-variants.{At, Nothing}
@@ -50,27 +52,27 @@ alice =
     })
 
 second-found : found (empty ++ alice) (ascii "alice@a.example") ≡ At 1
-unfolding empty alice slotOf areas padded head opening times lengths digits bitsOf numbersFor found slots lowest hasAddress marked sameOctets addressOf number slotAt orElse isSome
+unfolding empty alice slotOf areas padded headOctets times lengths digits bitsOf headFor found slots lowest hasAddress marked sameOctets addressOf number slotAt orElse isSome
 second-found = refl
 
 not-found : found (empty ++ alice) (ascii "bob@a.example") ≡ Nothing
-unfolding empty alice slotOf areas padded head opening times lengths digits bitsOf numbersFor found slots lowest hasAddress marked sameOctets addressOf number slotAt orElse isSome
+unfolding empty alice slotOf areas padded headOctets times lengths digits bitsOf headFor found slots lowest hasAddress marked sameOctets addressOf number slotAt orElse isSome
 not-found = refl
 
 second-free : lowestFree (alice ++ empty) ≡ At 1
-unfolding empty alice slotOf areas padded head opening times lengths digits bitsOf numbersFor lowestFree unused slots lowest marked sameOctets slotAt orElse
+unfolding empty alice slotOf areas padded headOctets times lengths digits bitsOf headFor lowestFree unused slots lowest marked sameOctets slotAt orElse
 second-free = refl
 
 one-left : freeCount (alice ++ empty) ≡ 1
-unfolding empty alice slotOf areas padded head opening times lengths digits bitsOf numbersFor freeCount howMany unused slots marked sameOctets slotAt orElse
+unfolding empty alice slotOf areas padded headOctets times lengths digits bitsOf headFor freeCount howMany unused slots marked sameOctets slotAt orElse
 one-left = refl
 
 one-used : checked alice ≡ Sound
-unfolding alice slotOf areas padded head opening times lengths digits bitsOf numbersFor checked whole slots judged right free allZero slotAt sound marked sameOctets canonicalAddress addressOf number numbersOf clear zeroPast inLower lowest isCanonical plain localPart domain label atom belongs freeEnds every pieces onFirst before behind canonical lowered lower isSome orElse
+unfolding alice slotOf areas padded headOctets times lengths digits bitsOf headFor checked whole slots judged right free allZero slotAt sound marked sameOctets canonicalAddress addressOf number headOf clear zeroPadding inLower lowest isCanonical plain localPart domain label atom belongs freeEnds every pieces onFirst before behind canonical lowered lower isSome orElse
 one-used = refl
 
 twice : checked (alice ++ alice) ≡ Slot 1
-unfolding alice slotOf areas padded head opening times lengths digits bitsOf numbersFor checked whole slots judged right free allZero slotAt sound marked sameOctets canonicalAddress addressOf number numbersOf clear zeroPast inLower lowest hasAddress isCanonical plain localPart domain label atom belongs freeEnds every pieces onFirst before behind canonical lowered lower isSome orElse
+unfolding alice slotOf areas padded headOctets times lengths digits bitsOf headFor checked whole slots judged right free allZero slotAt sound marked sameOctets canonicalAddress addressOf number headOf clear zeroPadding inLower lowest hasAddress isCanonical plain localPart domain label atom belongs freeEnds every pieces onFirst before behind canonical lowered lower isSome orElse
 twice = refl
 
 stray-octet : checked (replicate 4391 0 ++ (1 ∷ [])) ≡ Slot 0

@@ -5,7 +5,8 @@ use Prim.Native.Nat.{ℕ}
 use mathlib.Core.Path.{_≡_}
 use mathlib.Core.List.{List}
 use mathlib.Core.Option.{Option, some, none}
-use Rattle.slots.specs.Entry.{Entry, entryOf}
+use Rattle.heads.specs.Entry.{Entry}
+use Rattle.slots.specs.Entry.{entryOf}
 use Rattle.table.specs.Table.{slotAt, found}
 use Rattle.table.specs.declared.Found.the-variants.{At, Nothing}
 

@@ -5,10 +5,13 @@ ghost use mathlib.Core.Path.{_≡_};
 ghost use mathlib.Core.Bool.{true, _&&_};
 ghost use lib.Dec.{eqb};
 ghost use lib.ListN.{length, getD};
-ghost use Rattle.slots.specs.Slot.{slotLength, addressRoom, keyLimit, numbersOf, marked, addressOf, sound};
-ghost use Rattle.slots.specs.Entry.{entryOf, slotOf, newcomer, seenBy, withDirect, withGossip};
+ghost use Rattle.heads.specs.Head.{headOf};
+ghost use Rattle.slots.specs.Slot.{slotLength, addressRoom, keyLimit, marked, addressOf, sound};
+ghost use Rattle.heads.specs.Entry.{newcomer, seenBy, withDirect, withGossip};
+ghost use Rattle.slots.specs.Entry.{entryOf, slotOf};
 ghost use Rattle.table.specs.Table.{mostSlots, slots as slotsOf, slotAt, withSlot, unused, hasAddress, lowest, found, lowestFree, freeCount, inLower, right, whole, checked};
 ghost use Rattle.table.specs.Digests.{withOctet, digestOf, inFirst, Digests};
+use heads::Head;
 use slots::Slot;
 
 // Whether a table is one: refusal 1 for its length, 2 with the lowest slot that is neither free nor sound.
@@ -238,11 +241,11 @@ pub fn is_used(table: &[u8], i: usize) -> bool
 }
 
 // The lengths, bits and times of an entry.
-pub fn numbers(table: &[u8], i: usize) -> Slot
+pub fn numbers(table: &[u8], i: usize) -> Head
     requires { ⌜ i < slotsOf (now table) ⌝ }
-    ensures { λ r. ⌜ r ≡ numbersOf (slotAt (now (table .entry)) i) ⌝ }
+    ensures { λ r. ⌜ r ≡ headOf (slotAt (now (table .entry)) i) ⌝ }
 {
-    Slot::read(slot_at(table, i))
+    slots::head_of(slot_at(table, i))
 }
 
 // The address of an entry.

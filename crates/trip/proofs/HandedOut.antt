@@ -14,7 +14,7 @@ use Rattle.address.specs.Address.{plain, canonical}
 use Rattle.addresslist.specs.List.{addresses, among}
 use Rattle.addresslist.proofs.Readable.{plain-alone}
 use Rattle.keyfield.specs.Field.{validFields}
-use Rattle.slots.specs.Entry.{Direct}
+use Rattle.heads.specs.Entry.{Direct}
 use Rattle.table.specs.Table.{checked}
 use Rattle.table.specs.Entries.{entryIn}
 use Rattle.table.specs.declared.Checked.the-variants.{Sound}

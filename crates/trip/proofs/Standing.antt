@@ -14,7 +14,7 @@ use Rattle.octets.specs.Options.{orElse}
 use Rattle.octets.proofs.Comparing.{same-refl}
 use Rattle.octets.specs.Tests.{every}
 use Rattle.octets.proofs.Tests.{and-left, and-right, by-test}
-use Rattle.slots.specs.Entry.{Direct, Entry, newcomer, seenBy, withDirect, withGossip}
+use Rattle.heads.specs.Entry.{Direct, Entry, newcomer, seenBy, withDirect, withGossip}
 use Rattle.update.specs.Update.{younger, withField, updated, youngerGossip, heard}
 use Rattle.update.specs.Message.{Gossiped, Message, gossipAddresses, entryPut, entryHeard, entryAfter}
 use Rattle.update.proofs.Writing.{updated-older, updated-now, heard-older, heard-now}

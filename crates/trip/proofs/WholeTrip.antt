@@ -17,7 +17,7 @@ use Rattle.header.specs.Header.{FieldText, fieldsOf}
 use Rattle.addresslist.specs.List.{among}
 use Rattle.keyfield.specs.Field.{Field, validFor, validFields}
 use Rattle.keyfield.proofs.Counted.{naming-sender, valid-append, valid-next, counted-one}
-use Rattle.slots.specs.Entry.{Entry}
+use Rattle.heads.specs.Entry.{Entry}
 use Rattle.table.specs.Table.{checked}
 use Rattle.table.specs.Entries.{entryIn}
 use Rattle.table.specs.declared.Checked.the-variants.{Sound}

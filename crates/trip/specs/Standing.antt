@@ -10,7 +10,7 @@ use mathlib.Core.List.{List}
 use mathlib.Core.Option.{Option, some, none}
 use Rattle.octets.specs.Octets.{sameOctets}
 use Rattle.octets.specs.Tests.{every}
-use Rattle.slots.specs.Entry.{Direct, Gossip, Entry}
+use Rattle.heads.specs.Entry.{Direct, Gossip, Entry}
 use Rattle.update.specs.Update.{younger, youngerGossip}
 use Rattle.update.specs.Message.{Gossiped, gossipAddresses}
 

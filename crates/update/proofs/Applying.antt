@@ -15,7 +15,7 @@ use lib.ListN.{length}
 use Rattle.octets.specs.Octets.{AllOctets}
 use Rattle.octets.specs.Tests.{every}
 use Rattle.address.specs.Address.{isCanonical}
-use Rattle.slots.specs.Slot.{timeLimit}
+use Rattle.heads.specs.Head.{timeLimit}
 use Rattle.table.specs.Table.{freeCount, checked}
 use Rattle.table.specs.Entries.{entryIn}
 use Rattle.table.specs.declared.Checked.the-variants.{Sound}

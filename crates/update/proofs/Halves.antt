@@ -13,7 +13,7 @@ use mathlib.Core.List.{List}
 use native.Mathlib.Omega.{arith}
 use borrow.Author.Tests.{le-ltb}
 use Rattle.octets.proofs.Tests.{by-test}
-use Rattle.slots.specs.Entry.{Direct, Gossip, Entry, seenBy, withDirect, withGossip}
+use Rattle.heads.specs.Entry.{Direct, Gossip, Entry, seenBy, withDirect, withGossip}
 use Rattle.update.specs.Update.{younger, withField, updated, youngerGossip, heard}
 use Rattle.update.proofs.Writing.{updated-older, updated-now, heard-older, heard-now}
 

@@ -12,8 +12,10 @@ use mir.Val.{Fits}
 use lib.ListN.{length, getD}
 use Rattle.octets.proofs.Lists.{given-octets}
 use Rattle.address.specs.Address.{isCanonical}
-use Rattle.slots.specs.Slot.{timeLimit, keyLimit}
-use Rattle.slots.specs.Entry.{entryOf, slotOf, seenBy, withDirect, withGossip}
+use Rattle.heads.specs.Head.{timeLimit}
+use Rattle.slots.specs.Slot.{keyLimit}
+use Rattle.heads.specs.Entry.{seenBy, withDirect, withGossip}
+use Rattle.slots.specs.Entry.{entryOf, slotOf}
 use Rattle.table.specs.Table.{slotAt, withSlot, found, checked}
 use Rattle.table.specs.declared.Checked.the-variants.{Sound}
 use Rattle.table.specs.declared.Found.{Found}

@@ -18,10 +18,11 @@ use Rattle.octets.specs.Octets.{AllOctets}
 use Rattle.octets.proofs.Lists.{given-octets}
 use Rattle.address.specs.Address.{isCanonical}
 use Rattle.slots.specs.Slot.{addressRoom}
-use Rattle.slots.specs.Entry.{Entry, entryOf, slotOf, newcomer, Good}
-use Rattle.slots.proofs.Entries.{canonical-most}
+use Rattle.heads.specs.Entry.{Entry, newcomer}
+use Rattle.slots.specs.Entry.{entryOf, slotOf, Good}
+use Rattle.heads.proofs.Entries.{canonical-most}
 use Rattle.slots.proofs.Made.{slot-octets}
-use Rattle.slots.proofs.Goodness.{good-newcomer}
+use Rattle.heads.proofs.Goodness.{good-newcomer}
 use Rattle.table.specs.Table.{slots, slotAt, withSlot, found, lowestFree, checked}
 use Rattle.table.specs.declared.Checked.the-variants.{Sound}
 use Rattle.table.specs.declared.Found.{Found}

@@ -20,10 +20,12 @@ use Rattle.octets.specs.Options.{orElse, IfSome}
 use Rattle.octets.proofs.Comparing.{same-true}
 use Rattle.octets.proofs.Tests.{by-test}
 use Rattle.address.specs.Address.{isCanonical}
-use Rattle.slots.specs.Slot.{timeLimit, keyLimit, marked, addressOf}
-use Rattle.slots.specs.Entry.{Direct, Entry, entryOf, slotOf, newcomer, seenBy, withDirect, withGossip, GoodKey, Good}
+use Rattle.heads.specs.Head.{timeLimit}
+use Rattle.slots.specs.Slot.{keyLimit, marked, addressOf}
+use Rattle.heads.specs.Entry.{Direct, Entry, newcomer, seenBy, withDirect, withGossip}
+use Rattle.slots.specs.Entry.{entryOf, slotOf, GoodKey, Good}
 use Rattle.slots.proofs.Made.{slot-octets, slot-long, entry-back}
-use Rattle.slots.proofs.Goodness.{good-newcomer, good-seen-by, good-with-gossip}
+use Rattle.heads.proofs.Goodness.{good-newcomer, good-seen-by, good-with-gossip}
 use Rattle.table.specs.Table.{slots, slotAt, withSlot, found, lowestFree, isAt, checked, hasAddress}
 use Rattle.table.specs.Entries.{entryIn}
 use Rattle.table.specs.declared.Checked.the-variants.{Sound}

@@ -21,8 +21,9 @@ use Rattle.octets.proofs.Tests.{and-left, and-right, by-test}
 use Rattle.address.specs.Address.{canonical, isCanonical}
 use Rattle.address.proofs.Spelling.{canonical-same}
 use Rattle.addresslist.specs.List.{among}
-use Rattle.slots.specs.Entry.{Entry, entryOf, newcomer}
-use Rattle.slots.proofs.Goodness.{good-newcomer}
+use Rattle.heads.specs.Entry.{Entry, newcomer}
+use Rattle.slots.specs.Entry.{entryOf}
+use Rattle.heads.proofs.Goodness.{good-newcomer}
 use Rattle.table.specs.Table.{slotAt, found, lowestFree, freeCount, isAt, checked}
 use Rattle.table.specs.Entries.{entryIn}
 use Rattle.table.specs.declared.Checked.the-variants.{Sound}

@@ -24,13 +24,16 @@ use Rattle.octets.specs.Octets.{AllOctets}
 use Rattle.octets.specs.Options.{orElse, isSome}
 use Rattle.octets.proofs.Lists.{given-octets}
 use Rattle.address.specs.Address.{isCanonical}
-use Rattle.slots.specs.declared.Slot.{Slot}
-use Rattle.slots.specs.Slot.{slotLength, timeLimit, keyLimit, hasDirect, hasGossip, isMutual, timestamp, gossipTimestamp, directKeyOf, gossipKeyOf, numbersOf, sound}
-use Rattle.slots.specs.Entry.{Direct, Gossip, Entry, present, entryOf, slotOf, seenBy, withDirect, withGossip, GoodKey, Good}
+use Rattle.heads.specs.declared.Head.{Head}
+use Rattle.heads.specs.Head.{timeLimit, hasDirect, hasGossip, isMutual, timestamp, gossipTimestamp, headOf}
+use Rattle.slots.specs.Slot.{slotLength, keyLimit, directKeyOf, gossipKeyOf, sound}
+use Rattle.heads.specs.Entry.{Direct, Gossip, Entry, present, seenBy, withDirect, withGossip}
+use Rattle.slots.specs.Entry.{entryOf, slotOf, GoodKey, Good}
 use Rattle.slots.proofs.Sounds.{sound-parts}
 use Rattle.slots.proofs.Entries.{slot-back}
 use Rattle.slots.proofs.Made.{slot-long, slot-sound, entry-back}
-use Rattle.slots.proofs.Goodness.{good-entry, good-seen-by, good-with-direct}
+use Rattle.heads.proofs.Goodness.{good-seen-by, good-with-direct}
+use Rattle.slots.proofs.Goodness.{good-entry}
 use Rattle.table.specs.Table.{slots, slotAt, withSlot, found, checked}
 use Rattle.table.specs.declared.Checked.the-variants.{Sound}
 use Rattle.table.specs.declared.Found.{Found}
@@ -53,13 +56,13 @@ unfolding youngerGossip
 gossip-test date true g = refl
 gossip-test date false g = refl
 
-module _ (s : List ℕ) (n : Slot) (date : ℕ) (e : n ≡ numbersOf s) where
+module _ (s : List ℕ) (n : Head) (date : ℕ) (e : n ≡ headOf s) where
   pub younger-is : (n .direct && ltb date (n .timestamp)) ≡ younger date (entryOf s .direct)
-  unfolding entryOf numbersOf
+  unfolding entryOf headOf
   younger-is = rw e (direct-test date (hasDirect s) (record { timestamp = timestamp s; key = directKeyOf s; «mutual» = isMutual s }))
 
   pub younger-gossip-is : (n .gossip && ltb date (n .«gossip_timestamp»)) ≡ youngerGossip date (entryOf s .gossip)
-  unfolding entryOf numbersOf
+  unfolding entryOf headOf
   younger-gossip-is = rw e (gossip-test date (hasGossip s) (record { timestamp = gossipTimestamp s; key = gossipKeyOf s }))
 
 pub ruleset weighing = (younger-is, younger-gossip-is, needs)

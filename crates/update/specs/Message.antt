@@ -16,8 +16,9 @@ use Rattle.octets.specs.Octets.{sameOctets, AllOctets}
 use Rattle.octets.specs.Options.{orElse, IfSome}
 use Rattle.address.specs.Address.{isCanonical}
 use Rattle.addresslist.specs.List.{among}
-use Rattle.slots.specs.Slot.{timeLimit}
-use Rattle.slots.specs.Entry.{Direct, Entry, newcomer, GoodKey}
+use Rattle.heads.specs.Head.{timeLimit}
+use Rattle.heads.specs.Entry.{Direct, Entry, newcomer}
+use Rattle.slots.specs.Entry.{GoodKey}
 use Rattle.table.specs.Table.{found, isAt, freeCount}
 use Rattle.update.specs.Update.{updated, heard, put}
 

@@ -8,7 +8,8 @@ use mathlib.Core.Bool.{Bool, true, false}
 use mathlib.Core.List.{List}
 use mathlib.Core.Option.{Option, some, none}
 use lib.Dec.{ltb}
-use Rattle.slots.specs.Entry.{Direct, Gossip, Entry, entryOf, slotOf, newcomer, seenBy, withDirect, withGossip}
+use Rattle.heads.specs.Entry.{Direct, Gossip, Entry, newcomer, seenBy, withDirect, withGossip}
+use Rattle.slots.specs.Entry.{entryOf, slotOf}
 use Rattle.table.specs.Table.{slotAt, withSlot, found, lowestFree}
 use Rattle.table.specs.declared.Found.{Found}
 use Rattle.table.specs.declared.Found.the-variants.{At, Nothing}

@@ -6,11 +6,11 @@ use Rattle.table.proofs.numbers.Tie as tie
 slot-at-requires : tie.Need-slot-at-requires
 slot-at-requires c κs = search reaching
 
-read-requires : tie.Need-read-requires
-read-requires c κs = search reaching
+head-of-requires : tie.Need-head-of-requires
+head-of-requires c κs = search reaching
 
 returns : tie.Need-returns
 returns c = search reaching
 
 pub numbers-spec : {M : Type 1} → statement M
-numbers-spec = tie.close (tie.spec slot-at-requires read-requires returns)
+numbers-spec = tie.close (tie.spec slot-at-requires head-of-requires returns)
