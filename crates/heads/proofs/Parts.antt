@@ -2,6 +2,7 @@
 --     take-min, drop-min         a count that is cut off at an area's end
 --     drop-take                  what is left of the first m elements
 --     drop-zeros                 what is left of a run of zeros
+--     part-length                how long a part is
 --     follows                    a part and the part behind it are one part
 --     drop-past                  what is left behind the first of two lists
 --     put-first                  writing at the front
@@ -55,6 +56,9 @@ pub drop-zeros : (n m : ℕ) → drop {A = ℕ} n (replicate m 0) ≡ replicate 
 drop-zeros zero m = let e : m - 0 ≡ m = omega arith in rw e
 drop-zeros (suc n) zero = let e : 0 - suc n ≡ 0 = omega arith in rw e
 drop-zeros (suc n) (suc m) = let e : suc m - suc n ≡ m - n = omega arith in rw e (drop-zeros n m)
+
+pub part-length : (at n : ℕ) (s : List ℕ) → at + n ≤ length s → length (take n (drop at s)) ≡ n
+part-length at n s h = simp (length-take, length-drop) (omega arith)
 
 pub follows : (at n m : ℕ) (s : List ℕ) → take (n + m) (drop at s) ≡ take n (drop at s) ++ take m (drop (at + n) s)
 follows at n m s = take-add n m (drop at s) ∙ rw drop-drop

@@ -14,7 +14,7 @@ use mathlib.Core.List.{List, _∷_, _++_}
 use native.Mathlib.Omega.{arith}
 use borrow.Author.Tests.{eqb-true, eqb-false, eq-eqb, lt-ltb}
 use lib.Dec.{eqb}
-use lib.ListN.{length, take, drop, replicate, length-take, length-drop}
+use lib.ListN.{length, take, drop, replicate}
 use Rattle.octets.specs.Octets.{AllOctets, allZero}
 use Rattle.octets.specs.Numbers.{number, digits}
 use Rattle.octets.proofs.Joined.{append-octets, digits-octets}
@@ -24,7 +24,7 @@ use Rattle.octets.proofs.Tests.{by-test}
 use Rattle.octets.proofs.Zeros.{zero-true}
 use Rattle.heads.specs.declared.Head.{Head}
 use Rattle.heads.specs.Head.{headLength, timeLimit, part, odd, bits, headOf, clear, bitsOf, times, lengths, headOctets}
-use Rattle.heads.proofs.Parts.{follows}
+use Rattle.heads.proofs.Parts.{part-length, follows}
 
 pub record Fit (n : Head) : Type 0 where
   pub address : n .«address_length» < 65536
@@ -166,9 +166,6 @@ sum-back b h =
     let three : b / 8 ≡ b / 4 / 2 = omega arith in
     let top : b / 8 % 2 ≡ b / 8 = omega arith in
     rw (worth 1 b, worth 2 (b / 2), worth 4 (b / 4), worth 8 (b / 8), top) (omega arith)
-
-part-length : (at n : ℕ) (s : List ℕ) → at + n ≤ length s → length (take n (drop at s)) ≡ n
-part-length at n s h = simp (length-take, length-drop) (omega arith)
 
 -- the octets of a part that is a number, or zero
 part-digits : (at n : ℕ) (s : List ℕ) → at + n ≤ length s → AllOctets s → digits n (number (take n (drop at s))) ≡ take n (drop at s)

@@ -1,6 +1,6 @@
 -- What the writers of a head leave.
---     length-times, length-lengths, length-head    how long its parts are
---     times-put .. head-put                        the numbers written
+--     length-times, length-head    how long the times are, and the whole
+--     times-put .. head-put        the numbers written
 -- Assumes nothing.
 use Prim.Native.Nat.{ℕ, _/_}
 use mathlib.Core.Path.{_≡_, refl, ap, _∙_}
@@ -17,13 +17,9 @@ use Rattle.heads.proofs.Parts.{put-length, put-more, put-three}
 use Rattle.heads.proofs.RoundTrip.{bits-low}
 
 module _ (n : Head) where
-  pub length-times : length (times n) ≡ 24
+  length-times : length (times n) ≡ 24
   unfolding times digits
   length-times = refl
-
-  pub length-lengths : length (lengths n) ≡ 8
-  unfolding lengths digits
-  length-lengths = refl
 
   pub length-head : length (headOctets n) ≡ 38
   unfolding headOctets times lengths digits

@@ -8,11 +8,11 @@ ghost use Rattle.process.specs.Processing.{refusedProcessing, leftByProc
 ghost use Rattle.process.specs.Stages.{answerFrom, leftFrom, Opened, Roomy, Sent, Readied, answerWith, leftWith};
 use fields::Survey;
 use fields::Surveyed;
+use heads::Head;
 use outer::Sender;
 use refusals::Answer;
 use refusals::Refusal;
 use settings::Gossip;
-use heads::Head;
 use slots::Slot;
 
 // Room for the values of most messages. Room has to be cleared before it is lent, and for the longest values that takes more

@@ -22,7 +22,7 @@ use Rattle.octets.proofs.Tests.{by-test}
 use Rattle.heads.specs.declared.Head.{Head}
 use Rattle.heads.specs.Head.{addressLength, bits, hasLastSeen, hasDirect, hasGossip, isMutual, lastSeen, timestamp, gossipTimestamp, directLength, gossipLength, headOf, headSeen, headDirect, headGossip, bitsOf, headOctets}
 use Rattle.heads.specs.Entry.{Direct, Gossip, Entry, noDirect, noGossip, headFor, seenBy, withDirect, withGossip}
-use Rattle.heads.proofs.Parts.{follows, put-front, put-over, put-behind}
+use Rattle.heads.proofs.Parts.{part-length, follows, put-front, put-over, put-behind}
 use Rattle.heads.proofs.Writing.{length-head}
 use Rattle.heads.proofs.RoundTrip.{bits-back, octets-back}
 use Rattle.heads.proofs.Entries.{canonical-most, present-is, present-or, changed-seen, changed-direct, changed-gossip}
@@ -33,16 +33,13 @@ use Rattle.slots.proofs.Writing.{front-long, length-padded}
 use Rattle.slots.proofs.Sounds.{sound-parts}
 
 -- an area whose text ends where zeros begin
-pub padded-back : (room n : ℕ) (a : List ℕ) → length a ≡ room → n ≤ room → allZero (drop n a) ≡ true → padded room (take n a) ≡ a
+padded-back : (room n : ℕ) (a : List ℕ) → length a ≡ room → n ≤ room → allZero (drop n a) ≡ true → padded room (take n a) ≡ a
 unfolding padded
 padded-back room n a e l z =
     let k : length (take n a) ≡ n = length-take-le n a (omega arith) in
     let c : length (drop n a) ≡ room - n = length-drop n a ∙ rw e in
     let t : drop n a ≡ replicate (room - n) 0 = zero-true (drop n a) z ∙ rw c in
     rw (k, ← t) (take-append-drop n a)
-
-pub part-length : (at n : ℕ) (s : List ℕ) → at + n ≤ length s → length (take n (drop at s)) ≡ n
-part-length at n s h = simp (length-take, length-drop) (omega arith)
 
 module _ (s : List ℕ) (l : length s ≡ slotLength) (p : Sound s) where
   pub address-long : length (addressOf s) ≡ addressLength s
@@ -106,7 +103,7 @@ module _ (s : List ℕ) (l : length s ≡ slotLength) (p : Sound s) where
         «gossip_length» = (ap length gossip-key ∙ gossip-long) i;
       }
 
-  pub address-in : length (entryOf s .address) ≤ addressRoom
+  address-in : length (entryOf s .address) ≤ addressRoom
   unfolding entryOf
   address-in = omega (arith, canonical-most (addressOf s) (p .canonical))
 
@@ -129,7 +126,7 @@ module _ (s : List ℕ) (l : length s ≡ slotLength) (p : Sound s) where
   unfolding gossipKeyOf
   gossip-area = padded-back 2048 (gossipLength s) (gossipArea s) (part-length 2344 2048 s (omega arith)) gossip-fits (p .past-gossip)
 
-  pub areas-back : areas (entryOf s) ≡ drop 40 s
+  areas-back : areas (entryOf s) ≡ drop 40 s
   unfolding areas
   areas-back =
       rw (address-area, direct-key, direct-area, gossip-key, gossip-area, ← follows 296 2048 2048 s, ← follows 40 256 4096 s)
@@ -149,7 +146,7 @@ module _ (s : List ℕ) (l : length s ≡ slotLength) (p : Sound s) where
         ∙ take-append-drop 40 s)
 
     -- the head of the slot is written over
-    pub head-over : (n : Head) → putAt s 2 (headOctets n) ≡ mark ++ (headOctets n ++ areas (entryOf s))
+    head-over : (n : Head) → putAt s 2 (headOctets n) ≡ mark ++ (headOctets n ++ areas (entryOf s))
     unfolding slotOf
     head-over n =
         let h : List ℕ = headOctets (headFor (entryOf s)) in
