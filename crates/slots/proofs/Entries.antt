@@ -1,91 +1,45 @@
 -- A sound slot is the slot of its entry, so that a writer of slots leaves the slot of the changed entry.
 --     address-long .. gossip-long    the lengths are those of the address and the keys
---     numbers-back, slot-back        from a sound slot to its entry and back
+--     head-back, slot-back           from a sound slot to its entry and back
 --     seen-put, direct-put, gossip-put    what the writers leave
 -- Assumes nothing.
-use Prim.Native.Nat.{ℕ, _+_, _-_, _*_, _/_, _%_, _<_, _≤_, min}
+use Prim.Native.Nat.{ℕ, _+_, _-_, _≤_, min}
 use mathlib.Core.Path.{_≡_, refl, sym, ap, _∙_}
-use mathlib.Core.Bool.{Bool, true, false, cond}
-use mathlib.Core.List.{List, _++_}
+use mathlib.Core.Bool.{Bool, true, false}
+use mathlib.Core.List.{List, _++_, append-assoc}
 use native.Mathlib.Omega.{arith}
-use borrow.Author.Tests.{eqb-true, eqb-false}
 use borrow.Author.Needs.{needs}
 use mir.Syntax.{w8}
 use mir.Val.{Fits}
 use lib.ListN.{length, getD, take, drop, replicate, length-take, length-drop, take-append-drop}
 use lib.Seq.{length-take-le, take-all}
-use Rattle.octets.specs.Octets.{AllOctets, allZero, sameOctets}
-use Rattle.octets.specs.Numbers.{number, digits}
+use Rattle.octets.specs.Octets.{AllOctets, allZero}
 use Rattle.octets.specs.Written.{putAt}
-use Rattle.octets.specs.Options.{orElse, isSome}
-use Rattle.octets.proofs.Lists.{drop-one, given-octets, take-octets, drop-octets}
-use Rattle.octets.proofs.Numerals.{digits-number}
+use Rattle.octets.specs.Options.{orElse}
+use Rattle.octets.proofs.Lists.{given-octets}
 use Rattle.octets.proofs.Zeros.{zero-true}
-use Rattle.octets.proofs.Tests.{and-left, by-test}
-use Rattle.address.specs.Address.{plain, canonical, isCanonical}
-use Rattle.address.proofs.Sides.{plain-most}
-use Rattle.slots.specs.declared.Slot.{Slot}
-use Rattle.slots.specs.Slot.{slotLength, addressRoom, keyLimit, part, odd, addressLength, bits, hasLastSeen, hasDirect, hasGossip, isMutual, lastSeen, timestamp, gossipTimestamp, directLength, gossipLength, addressArea, directArea, gossipArea, addressOf, directKeyOf, gossipKeyOf, numbersOf, sound}
-use Rattle.slots.specs.Entry.{Direct, Gossip, Entry, present, noDirect, noGossip, entryOf, numbersFor, bitsOf, opening, times, lengths, head, padded, areas, slotOf, seenBy, withDirect, withGossip, numbersSeen, numbersDirect, numbersGossip}
-use Rattle.slots.proofs.Parts.{follows, put-front, put-over, put-behind}
-use Rattle.slots.proofs.Heads.{length-head, length-padded}
+use Rattle.octets.proofs.Tests.{by-test}
+use Rattle.heads.specs.declared.Head.{Head}
+use Rattle.heads.specs.Head.{addressLength, bits, hasLastSeen, hasDirect, hasGossip, isMutual, lastSeen, timestamp, gossipTimestamp, directLength, gossipLength, headOf, headSeen, headDirect, headGossip, bitsOf, headOctets}
+use Rattle.heads.specs.Entry.{Direct, Gossip, Entry, noDirect, noGossip, headFor, seenBy, withDirect, withGossip}
+use Rattle.heads.proofs.Parts.{part-length, follows, put-front, put-over, put-behind}
+use Rattle.heads.proofs.Writing.{length-head}
+use Rattle.heads.proofs.RoundTrip.{bits-back, octets-back}
+use Rattle.heads.proofs.Entries.{canonical-most, present-is, present-or, changed-seen, changed-direct, changed-gossip}
+use Rattle.slots.specs.Slot.{slotLength, mark, addressRoom, keyLimit, addressArea, directArea, gossipArea, addressOf, directKeyOf, gossipKeyOf, sound}
+use Rattle.slots.specs.Entry.{entryOf, padded, areas, slotOf}
 use Rattle.slots.specs.Facts.{Sound}
+use Rattle.slots.proofs.Writing.{front-long, length-padded}
 use Rattle.slots.proofs.Sounds.{sound-parts}
 
-pub canonical-most : (a : List ℕ) → isCanonical a ≡ true → length a ≤ 254
-unfolding isCanonical
-canonical-most a h = plain-most a (and-left (plain a) (sameOctets (canonical a) a) h)
-
--- a part that may be absent
-pub present-is : {A : Type 0} (b : Bool) (x : A) → isSome (present b x) ≡ b
-unfolding isSome
-present-is true x = refl
-present-is false x = refl
-
-pub present-or : {A B : Type 0} (f : A → B) (d x : A) (b : Bool) → (b ≡ false → f d ≡ f x) → f (orElse d (present b x)) ≡ f x
-unfolding orElse
-present-or f d x true h = refl
-present-or f d x false h = h refl
-
 -- an area whose text ends where zeros begin
-pub padded-back : (room n : ℕ) (a : List ℕ) → length a ≡ room → n ≤ room → allZero (drop n a) ≡ true → padded room (take n a) ≡ a
+padded-back : (room n : ℕ) (a : List ℕ) → length a ≡ room → n ≤ room → allZero (drop n a) ≡ true → padded room (take n a) ≡ a
 unfolding padded
 padded-back room n a e l z =
     let k : length (take n a) ≡ n = length-take-le n a (omega arith) in
     let c : length (drop n a) ≡ room - n = length-drop n a ∙ rw e in
     let t : drop n a ≡ replicate (room - n) 0 = zero-true (drop n a) z ∙ rw c in
     rw (k, ← t) (take-append-drop n a)
-
-pub part-length : (at n : ℕ) (s : List ℕ) → at + n ≤ length s → length (take n (drop at s)) ≡ n
-part-length at n s h = simp (length-take, length-drop) (omega arith)
-
--- the octets of a part that is a number
-part-digits : (at n : ℕ) (s : List ℕ) → at + n ≤ length s → AllOctets s → digits n (number (take n (drop at s))) ≡ take n (drop at s)
-part-digits at n s h o =
-    let e : digits (length (take n (drop at s))) (number (take n (drop at s))) ≡ take n (drop at s) =
-    digits-number (take n (drop at s)) (take-octets n (drop at s) (drop-octets at s o)) in
-    rw (part-length at n s h) at e
-
-zero-part : (at n : ℕ) (s : List ℕ) → at + n ≤ length s → allZero (take n (drop at s)) ≡ true → replicate n 0 ≡ take n (drop at s)
-zero-part at n s h z = sym (zero-true (take n (drop at s)) z ∙ rw (part-length at n s h))
-
--- a bit has its worth
-worth : (w n : ℕ) → cond (odd n) w 0 ≡ (n % 2) * w
-worth w n =
-    by-test (odd n)
-    (λ t.
-    let e : n % 2 ≡ 1 = eqb-true (n % 2) 1 t in
-    rw (t, e) (omega arith))
-    (λ f.
-    let e : n % 2 ≡ 0 = omega (arith, eqb-false (n % 2) 1 f) in
-    rw (f, e) (omega arith))
-
-bits-back : (b : ℕ) → b < 16 → cond (odd b) 1 0 + cond (odd (b / 2)) 2 0 + cond (odd (b / 4)) 4 0 + cond (odd (b / 8)) 8 0 ≡ b
-bits-back b h =
-    let two : b / 4 ≡ b / 2 / 2 = omega arith in
-    let three : b / 8 ≡ b / 4 / 2 = omega arith in
-    let top : b / 8 % 2 ≡ b / 8 = omega arith in
-    rw (worth 1 b, worth 2 (b / 2), worth 4 (b / 4), worth 8 (b / 8), top) (omega arith)
 
 module _ (s : List ℕ) (l : length s ≡ slotLength) (p : Sound s) where
   pub address-long : length (addressOf s) ≡ addressLength s
@@ -132,9 +86,9 @@ module _ (s : List ℕ) (l : length s ≡ slotLength) (p : Sound s) where
   unfolding gossipKeyOf
   gossip-key = gossip-in (λ (d : Gossip). d .key) (λ f. rw (p .no-gossip f .1))
 
-  pub numbers-back : numbersFor (entryOf s) ≡ numbersOf s
-  unfolding numbersFor entryOf numbersOf
-  numbers-back =
+  pub head-back : headFor (entryOf s) ≡ headOf s
+  unfolding headFor entryOf headOf
+  head-back =
       λ i.
       record {
         «address_length» = address-long i;
@@ -149,7 +103,7 @@ module _ (s : List ℕ) (l : length s ≡ slotLength) (p : Sound s) where
         «gossip_length» = (ap length gossip-key ∙ gossip-long) i;
       }
 
-  pub address-in : length (entryOf s .address) ≤ addressRoom
+  address-in : length (entryOf s .address) ≤ addressRoom
   unfolding entryOf
   address-in = omega (arith, canonical-most (addressOf s) (p .canonical))
 
@@ -172,110 +126,65 @@ module _ (s : List ℕ) (l : length s ≡ slotLength) (p : Sound s) where
   unfolding gossipKeyOf
   gossip-area = padded-back 2048 (gossipLength s) (gossipArea s) (part-length 2344 2048 s (omega arith)) gossip-fits (p .past-gossip)
 
-  pub areas-back : areas (entryOf s) ≡ drop 40 s
+  areas-back : areas (entryOf s) ≡ drop 40 s
   unfolding areas
   areas-back =
       rw (address-area, direct-key, direct-area, gossip-key, gossip-area, ← follows 296 2048 2048 s, ← follows 40 256 4096 s)
       (take-all 4352 (drop 40 s) (simp length-drop (omega arith)))
 
-  pub all-bits : bitsOf (numbersOf s) ≡ bits s
-  unfolding bitsOf numbersOf
-  all-bits = bits-back (bits s) (p .low)
+  pub all-bits : bitsOf (headOf s) ≡ bits s
+  all-bits = bits-back s (p .low)
 
   module _ (o : AllOctets s) where
-    -- octets 0 to 39
-    bit-octet : digits 1 (bits s) ≡ part 4 4 s
-    unfolding digits
-    bit-octet =
-        let m : bits s % 256 ≡ bits s = omega (arith, p .low) in
-        rw (drop-one s 4 (omega arith), m)
-
-    clear-octets : digits 3 0 ≡ part 5 7 s
-    unfolding digits
-    clear-octets = zero-part 5 3 s (omega arith) (p .zeros)
-
-    clear-too : digits 4 0 ≡ part 36 39 s
-    unfolding digits
-    clear-too = zero-part 36 4 s (omega arith) (p .zeros-too)
-
-    length-octets : digits 2 (numbersOf s .«address_length») ≡ part 2 3 s
-    unfolding numbersOf
-    length-octets = part-digits 2 2 s (omega arith) o
-
-    opening-back : opening (numbersOf s) ≡ take 8 s
-    unfolding opening
-    opening-back =
-        rw (all-bits, bit-octet, length-octets, clear-octets, ← follows 4 1 3 s, ← follows 2 2 4 s)
-        (sym (follows 0 2 6 s ∙ ap (λ (t : List ℕ). t ++ take 6 (drop 2 s)) (p .opens)))
-
-    times-back : times (numbersOf s) ≡ take 24 (drop 8 s)
-    unfolding times numbersOf
-    times-back =
-        rw (part-digits 8 8 s (omega arith) o, part-digits 16 8 s (omega arith) o, part-digits 24 8 s (omega arith) o, ← follows 16 8 8 s) (sym (follows 8 8 16 s))
-
-    lengths-back : lengths (numbersOf s) ≡ take 8 (drop 32 s)
-    unfolding lengths numbersOf
-    lengths-back =
-        rw (part-digits 32 2 s (omega arith) o, part-digits 34 2 s (omega arith) o, clear-too, ← follows 34 2 4 s) (sym (follows 32 2 6 s))
-
-    pub head-back : head (numbersOf s) ≡ take 40 s
-    unfolding head
-    head-back = rw (opening-back, times-back, lengths-back, ← follows 8 24 8 s) (sym (follows 0 8 32 s))
-
     pub slot-back : slotOf (entryOf s) ≡ s
     unfolding slotOf
-    slot-back = rw (numbers-back, areas-back, head-back) (take-append-drop 40 s)
+    slot-back =
+        rw (head-back, areas-back, octets-back s (p .low) (p .zeros) (p .zeros-too) (omega arith) o)
+        (ap (λ (t : List ℕ). t ++ (take 38 (drop 2 s) ++ drop 40 s)) (sym (p .opens))
+        ∙ sym (append-assoc (take 2 s) (take 38 (drop 2 s)) (drop 40 s))
+        ∙ ap (λ (t : List ℕ). t ++ drop 40 s) (sym (follows 0 2 38 s))
+        ∙ take-append-drop 40 s)
 
-    -- the numbers of the slot are written over
-    pub numbers-put : (n : Slot) → putAt s 0 (head n) ≡ head n ++ areas (entryOf s)
+    -- the head of the slot is written over
+    head-over : (n : Head) → putAt s 2 (headOctets n) ≡ mark ++ (headOctets n ++ areas (entryOf s))
     unfolding slotOf
-    numbers-put n =
-        let e : putAt (head (numbersFor (entryOf s)) ++ areas (entryOf s)) 0 (head n) ≡ head n ++ areas (entryOf s) =
-        put-front (head (numbersFor (entryOf s))) (areas (entryOf s)) (head n) (length-head (numbersFor (entryOf s)) ∙ sym (length-head n)) in
+    head-over n =
+        let h : List ℕ = headOctets (headFor (entryOf s)) in
+        let e : putAt (mark ++ (h ++ areas (entryOf s))) 2 (headOctets n) ≡ mark ++ (headOctets n ++ areas (entryOf s)) =
+        put-behind mark (h ++ areas (entryOf s)) (headOctets n) 2 0 refl
+        ∙ ap (λ (t : List ℕ). mark ++ t) (put-front h (areas (entryOf s)) (headOctets n) (length-head (headFor (entryOf s)) ∙ sym (length-head n))) in
         rw slot-back at e
 
--- the numbers that a writer changes are those of the changed entry, and the areas that it leaves are the entry's
-changed-seen : (e : Entry) (date : ℕ) → numbersFor (seenBy date e) ≡ numbersSeen date (numbersFor e)
-unfolding numbersFor seenBy isSome orElse
-changed-seen e date = refl
-
-changed-direct : (e : Entry) (d : Direct) → numbersFor (withDirect d e) ≡ numbersDirect (d .timestamp) (length (d .key)) (d .«mutual») (numbersFor e)
-unfolding numbersFor withDirect isSome orElse
-changed-direct e d = refl
-
-changed-gossip : (e : Entry) (g : Gossip) → numbersFor (withGossip g e) ≡ numbersGossip (g .timestamp) (length (g .key)) (numbersFor e)
-unfolding numbersFor withGossip isSome orElse
-changed-gossip e g = refl
-
+-- the areas that a writer leaves are the entry's
 kept-seen : (e : Entry) (date : ℕ) → areas (seenBy date e) ≡ areas e
 unfolding areas seenBy
 kept-seen e date = refl
 
--- octets 296 to 2343, or 2344 to 4391, written over behind the numbers
-areas-direct : (n : Slot) (e : Entry) (d : Direct) → length (e .address) ≤ addressRoom → length (orElse noDirect (e .direct) .key) ≤ keyLimit → length (d .key) ≤ keyLimit
-    → putAt (head n ++ areas e) 296 (padded keyLimit (d .key)) ≡ head n ++ areas (withDirect d e)
+-- octets 296 to 2343, or 2344 to 4391, written over behind mark and head
+areas-direct : (n : Head) (e : Entry) (d : Direct) → length (e .address) ≤ addressRoom → length (orElse noDirect (e .direct) .key) ≤ keyLimit → length (d .key) ≤ keyLimit
+    → putAt (mark ++ (headOctets n ++ areas e)) 296 (padded keyLimit (d .key)) ≡ mark ++ (headOctets n ++ areas (withDirect d e))
 unfolding areas withDirect orElse
 areas-direct n e d a k m =
     let x : List ℕ = padded addressRoom (e .address) in
     let y : List ℕ = padded keyLimit (orElse noDirect (e .direct) .key) in
     let z : List ℕ = padded keyLimit (orElse noGossip (e .gossip) .key) in
-    put-behind (head n) (x ++ (y ++ z)) (padded keyLimit (d .key)) 40 256 (length-head n)
-    ∙ ap (λ (t : List ℕ). head n ++ t)
+    put-behind (mark ++ headOctets n) (x ++ (y ++ z)) (padded keyLimit (d .key)) 40 256 (front-long n)
+    ∙ ap (λ (t : List ℕ). mark ++ (headOctets n ++ t))
     (put-behind x (y ++ z) (padded keyLimit (d .key)) 256 0 (length-padded addressRoom (e .address) a)
     ∙ ap (λ (t : List ℕ). x ++ t)
     (put-front y z (padded keyLimit (d .key)) (length-padded keyLimit (orElse noDirect (e .direct) .key) k ∙ sym (length-padded keyLimit (d .key) m))))
 
-areas-gossip : (n : Slot) (e : Entry) (g : Gossip) → length (e .address) ≤ addressRoom → length (orElse noDirect (e .direct) .key) ≤ keyLimit
+areas-gossip : (n : Head) (e : Entry) (g : Gossip) → length (e .address) ≤ addressRoom → length (orElse noDirect (e .direct) .key) ≤ keyLimit
     → length (orElse noGossip (e .gossip) .key) ≤ keyLimit → length (g .key) ≤ keyLimit
-    → putAt (head n ++ areas e) 2344 (padded keyLimit (g .key)) ≡ head n ++ areas (withGossip g e)
+    → putAt (mark ++ (headOctets n ++ areas e)) 2344 (padded keyLimit (g .key)) ≡ mark ++ (headOctets n ++ areas (withGossip g e))
 unfolding areas withGossip orElse
 areas-gossip n e g a k j m =
     let x : List ℕ = padded addressRoom (e .address) in
     let y : List ℕ = padded keyLimit (orElse noDirect (e .direct) .key) in
     let z : List ℕ = padded keyLimit (orElse noGossip (e .gossip) .key) in
     let w : List ℕ = padded keyLimit (g .key) in
-    put-behind (head n) (x ++ (y ++ z)) w 40 2304 (length-head n)
-    ∙ ap (λ (t : List ℕ). head n ++ t)
+    put-behind (mark ++ headOctets n) (x ++ (y ++ z)) w 40 2304 (front-long n)
+    ∙ ap (λ (t : List ℕ). mark ++ (headOctets n ++ t))
     (put-behind x (y ++ z) w 256 2048 (length-padded addressRoom (e .address) a)
     ∙ ap (λ (t : List ℕ). x ++ t)
     (put-behind y z w 2048 0 (length-padded keyLimit (orElse noDirect (e .direct) .key) k)
@@ -283,38 +192,38 @@ areas-gossip n e g a k j m =
     (put-over z w (length-padded keyLimit (orElse noGossip (e .gossip) .key) j ∙ sym (length-padded keyLimit (g .key) m)))))
 
 module _ (s : List ℕ) (g : (i : ℕ) → Fits w8 (getD s i 0)) where
-  pub seen-put : (n m : Slot) (date : ℕ) (o : List ℕ) → (length s ≡ slotLength) × (sound s ≡ true)
-      → n ≡ numbersOf s → m ≡ numbersSeen date n → o ≡ putAt s 0 (head m) → o ≡ slotOf (seenBy date (entryOf s))
+  pub seen-put : (n m : Head) (date : ℕ) (o : List ℕ) → (length s ≡ slotLength) × (sound s ≡ true)
+      → n ≡ headOf s → m ≡ headSeen date n → o ≡ putAt s 2 (headOctets m) → o ≡ slotOf (seenBy date (entryOf s))
   unfolding slotOf
   seen-put n m date o h en em eo =
       let p : Sound s = sound-parts s (h .1) in
-      let k : numbersFor (seenBy date (entryOf s)) ≡ m = changed-seen (entryOf s) date ∙ ap (numbersSeen date) (numbers-back s (h .0) p ∙ sym en) ∙ sym em in
-      eo ∙ numbers-put s (h .0) p (given-octets s g) m ∙ rw (k, kept-seen (entryOf s) date)
+      let k : headFor (seenBy date (entryOf s)) ≡ m = changed-seen (entryOf s) date ∙ ap (headSeen date) (head-back s (h .0) p ∙ sym en) ∙ sym em in
+      eo ∙ head-over s (h .0) p (given-octets s g) m ∙ rw (k, kept-seen (entryOf s) date)
 
-  pub direct-put : (n m : Slot) (t : ℕ) (key : List ℕ) (mut : Bool) (o₁ o₂ : List ℕ) → (length s ≡ slotLength) × (sound s ≡ true) × (length key ≤ keyLimit)
-      → n ≡ numbersOf s → m ≡ numbersDirect t (length key) mut n → o₁ ≡ putAt s 0 (head m) → o₂ ≡ putAt o₁ 296 (padded keyLimit key)
+  pub direct-put : (n m : Head) (t : ℕ) (key : List ℕ) (mut : Bool) (o₁ o₂ : List ℕ) → (length s ≡ slotLength) × (sound s ≡ true) × (length key ≤ keyLimit)
+      → n ≡ headOf s → m ≡ headDirect t (length key) mut n → o₁ ≡ putAt s 2 (headOctets m) → o₂ ≡ putAt o₁ 296 (padded keyLimit key)
       → o₂ ≡ slotOf (withDirect (record { timestamp = t; key = key; «mutual» = mut }) (entryOf s))
   unfolding slotOf
   direct-put n m t key mut o₁ o₂ h en em e₁ e₂ =
       let p : Sound s = sound-parts s (h .1) in
       let d : Direct = record { timestamp = t; key = key; «mutual» = mut } in
-      let k : numbersFor (withDirect d (entryOf s)) ≡ m =
-      changed-direct (entryOf s) d ∙ ap (numbersDirect t (length key) mut) (numbers-back s (h .0) p ∙ sym en) ∙ sym em in
+      let k : headFor (withDirect d (entryOf s)) ≡ m =
+      changed-direct (entryOf s) d ∙ ap (headDirect t (length key) mut) (head-back s (h .0) p ∙ sym en) ∙ sym em in
       e₂
-      ∙ rw (e₁, numbers-put s (h .0) p (given-octets s g) m, k)
+      ∙ rw (e₁, head-over s (h .0) p (given-octets s g) m, k)
       (areas-direct m (entryOf s) d (address-in s (h .0) p) (direct-key-in s (h .0) p) (h .2))
 
-  pub gossip-put : (n m : Slot) (t : ℕ) (key : List ℕ) (o₁ o₂ : List ℕ) → (length s ≡ slotLength) × (sound s ≡ true) × (length key ≤ keyLimit)
-      → n ≡ numbersOf s → m ≡ numbersGossip t (length key) n → o₁ ≡ putAt s 0 (head m) → o₂ ≡ putAt o₁ 2344 (padded keyLimit key)
+  pub gossip-put : (n m : Head) (t : ℕ) (key : List ℕ) (o₁ o₂ : List ℕ) → (length s ≡ slotLength) × (sound s ≡ true) × (length key ≤ keyLimit)
+      → n ≡ headOf s → m ≡ headGossip t (length key) n → o₁ ≡ putAt s 2 (headOctets m) → o₂ ≡ putAt o₁ 2344 (padded keyLimit key)
       → o₂ ≡ slotOf (withGossip (record { timestamp = t; key = key }) (entryOf s))
   unfolding slotOf
   gossip-put n m t key o₁ o₂ h en em e₁ e₂ =
       let p : Sound s = sound-parts s (h .1) in
       let d : Gossip = record { timestamp = t; key = key } in
-      let k : numbersFor (withGossip d (entryOf s)) ≡ m =
-      changed-gossip (entryOf s) d ∙ ap (numbersGossip t (length key)) (numbers-back s (h .0) p ∙ sym en) ∙ sym em in
+      let k : headFor (withGossip d (entryOf s)) ≡ m =
+      changed-gossip (entryOf s) d ∙ ap (headGossip t (length key)) (head-back s (h .0) p ∙ sym en) ∙ sym em in
       e₂
-      ∙ rw (e₁, numbers-put s (h .0) p (given-octets s g) m, k)
+      ∙ rw (e₁, head-over s (h .0) p (given-octets s g) m, k)
       (areas-gossip m (entryOf s) d (address-in s (h .0) p) (direct-key-in s (h .0) p) (gossip-key-in s (h .0) p) (h .2))
 
 pub ruleset changing = (seen-put, direct-put, gossip-put, needs)

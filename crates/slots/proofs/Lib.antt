@@ -1,6 +1,5 @@
-pub mod Parts
 pub mod Reading
-pub mod Heads
+pub mod Writing
 pub mod Sounds
 pub mod Entries
 pub mod Made

@@ -7,7 +7,8 @@ use mathlib.Core.List.{List}
 use lib.ListN.{drop}
 use Rattle.octets.specs.Octets.{allZero}
 use Rattle.address.specs.Address.{isCanonical}
-use Rattle.slots.specs.Slot.{keyLimit, timeLimit, mark, part, addressLength, bits, hasLastSeen, hasDirect, hasGossip, isMutual, lastSeen, timestamp, gossipTimestamp, directLength, gossipLength, addressArea, directArea, gossipArea, addressOf}
+use Rattle.heads.specs.Head.{timeLimit, part, addressLength, bits, hasLastSeen, hasDirect, hasGossip, isMutual, lastSeen, timestamp, gossipTimestamp, directLength, gossipLength}
+use Rattle.slots.specs.Slot.{keyLimit, mark, addressArea, directArea, gossipArea, addressOf}
 
 pub record Sound (s : List ℕ) : Type 0 where
   pub opens : part 0 1 s ≡ mark

@@ -1,5 +1,5 @@
--- `slots::put_padded` meets its contract: the laws of `Heads` answer every need. Assumes nothing.
-use Rattle.slots.proofs.Heads.{putting}
+-- `slots::put_padded` meets its contract: the laws of `Writing` answer every need. Assumes nothing.
+use Rattle.slots.proofs.Writing.{putting}
 use borrow.Author.Needs.{needs}
 use Rattle.slots.proofs.put_padded.Statement.{statement}
 use Rattle.slots.proofs.put_padded.Tie as tie

@@ -4,14 +4,14 @@ use borrow.Author.Needs.{needs}
 use Rattle.slots.proofs.raise_seen.Statement.{statement}
 use Rattle.slots.proofs.raise_seen.Tie as tie
 
-read-requires : tie.Need-read-requires
-read-requires c κs = search needs
+head-of-requires : tie.Need-head-of-requires
+head-of-requires c κs = search needs
 
 seen-by-requires : tie.Need-seen-by-requires
 seen-by-requires c κs = search needs
 
-put-requires : tie.Need-put-requires
-put-requires c κs = search needs
+put-head-requires : tie.Need-put-head-requires
+put-head-requires c κs = search needs
 
 same-length : tie.Need-same-length
 same-length c = search needs
@@ -21,4 +21,4 @@ returns c = search changing
 
 pub raise-seen-spec : {M : Type 1} → statement M
 raise-seen-spec =
-    tie.close (tie.spec read-requires seen-by-requires put-requires same-length returns)
+    tie.close (tie.spec head-of-requires seen-by-requires put-head-requires same-length returns)
