@@ -1,7 +1,17 @@
--- `table::begin` meets its contract: the laws of `Slots` answer every need. Assumes nothing.
+-- `table::begin` meets its contract: the laws of `Tags` and `Slots` answer every need. Assumes nothing.
 use Rattle.table.proofs.Slots.{lending}
+use Rattle.table.proofs.Tags.{begin-low, begin-room, begin-tagged}
 use Rattle.table.proofs.begin.Statement.{statement}
 use Rattle.table.proofs.begin.Tie as tie
+
+tag-of-requires : tie.Need-tag-of-requires
+tag-of-requires c κs = search lending
+
+mul-tags : tie.Need-mul-tags
+mul-tags c = search lending
+
+element-write-tags : tie.Need-element-write-tags
+element-write-tags c = search (begin-low, lending)
 
 mul-at : tie.Need-mul-at
 mul-at c = search lending
@@ -19,18 +29,21 @@ part-begin-end : tie.Need-part-begin-end
 part-begin-end c = search lending
 
 begin-requires : tie.Need-begin-requires
-begin-requires c κs = search lending
+begin-requires c κs = (search lending, search (begin-room, lending))
 
 same-length : tie.Need-same-length
 same-length c = search lending
 
 returns : tie.Need-returns
-returns c = search lending
+returns c = (search lending, search (begin-tagged, lending))
 
 pub begin-spec : {M : Type 1} → statement M
 begin-spec =
     tie.close
     (tie.spec
+    tag-of-requires
+    mul-tags
+    element-write-tags
     mul-at
     add-begin
     sub-begin

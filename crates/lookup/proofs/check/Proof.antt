@@ -1,15 +1,15 @@
--- `table::check` meets its contract: the laws of `Judging` keep the loop's invariant and answer every need. Assumes nothing.
+-- `lookup::check` meets its contract: the laws of `Checking` keep the loop's invariant and answer every need. Assumes nothing.
 use Prim.Native.Nat.{_-_}
-use Rattle.table.specs.Digests.{Digests}
-use Rattle.table.proofs.Judging.{Judged, judging}
-use Rattle.table.proofs.check.Statement.{statement}
-use Rattle.table.proofs.check.Tie as tie
+use Rattle.table.specs.Tagged.{TaggedTo}
+use Rattle.lookup.proofs.Checking.{Judged, judging}
+use Rattle.lookup.proofs.check.Statement.{statement}
+use Rattle.lookup.proofs.check.Tie as tie
 
 abbrev Inv-loop : tie.InvT-loop
-Inv-loop table n digests₀ i₀ digests i = Judged table n i × Digests table digests i
+Inv-loop table tags₀ n i₀ tags i = Judged table n i × TaggedTo table tags i
 
 abbrev μ-loop : tie.MeasureT-loop
-μ-loop table n digests₀ i₀ digests i = n - i
+μ-loop table tags₀ n i₀ tags i = n - i
 
 is-whole-requires : tie.Need-is-whole-requires Inv-loop μ-loop
 is-whole-requires c κs = search judging
@@ -23,17 +23,17 @@ count-requires c κs = search judging
 loop-holds : tie.Need-loop-holds Inv-loop μ-loop
 loop-holds c = search judging
 
-digest-at-requires : tie.Need-digest-at-requires Inv-loop μ-loop
-digest-at-requires c κs = search judging
+tag-at-requires : tie.Need-tag-at-requires Inv-loop μ-loop
+tag-at-requires c κs = search judging
 
-mul-digests : tie.Need-mul-digests Inv-loop μ-loop
-mul-digests c = search judging
+mul-tags : tie.Need-mul-tags Inv-loop μ-loop
+mul-tags c = search judging
 
-array-write-digests : tie.Need-array-write-digests Inv-loop μ-loop
-array-write-digests c = search judging
+element-write-tags : tie.Need-element-write-tags Inv-loop μ-loop
+element-write-tags c = search judging
 
 is-right-requires : tie.Need-is-right-requires Inv-loop μ-loop
-is-right-requires c κs = (search judging, search judging)
+is-right-requires c κs = search judging
 
 returns-2 : tie.Need-returns-2 Inv-loop μ-loop
 returns-2 c = search judging
@@ -60,9 +60,9 @@ check-spec =
     returns
     count-requires
     loop-holds
-    digest-at-requires
-    mul-digests
-    array-write-digests
+    tag-at-requires
+    mul-tags
+    element-write-tags
     is-right-requires
     returns-2
     add-i

@@ -1,7 +1,7 @@
--- `table::is_right` meets its contract: the laws of `Judging` answer every need. Assumes nothing.
-use Rattle.table.proofs.Judging.{being-right}
-use Rattle.table.proofs.is_right.Statement.{statement}
-use Rattle.table.proofs.is_right.Tie as tie
+-- `lookup::is_right` meets its contract: the laws of `Checking` answer every need. Assumes nothing.
+use Rattle.lookup.proofs.is_right.Statement.{statement}
+use Rattle.lookup.proofs.is_right.Tie as tie
+use Rattle.lookup.proofs.Checking.{being-right}
 
 slot-at-requires : tie.Need-slot-at-requires
 slot-at-requires c κs = search being-right
