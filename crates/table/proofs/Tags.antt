@@ -1,7 +1,8 @@
 -- The tags of a table that is written to.
 --     tagged-new         an entry put in a slot, and its tag beside it
 --     tagged-kept        an entry of the address that the slot had before
---     begin-low          the slot's tag lies in the room for tags
+--     tag-put            a tag that was made, put beside a slot
+--     begin-low          that tag lies in the room for tags
 --     begin-room         the address lies in the room for one
 --     begin-tagged       the tags that `begin` leaves
 -- Assumes nothing.
@@ -73,6 +74,10 @@ module _ (t tags : List ℕ) (h : Tagged t tags) (i : ℕ) (l : i < slots t) (e 
               (λ q. h .each k (rw same-count at b) ∙ sym (tag-there k (eqb-false k i q)));
         }
 
+-- as the code has it
+pub tag-put : (tags a : List ℕ) (i tag : ℕ) → tag ≡ tagOf a → set tags i tag ≡ set tags i (tagOf a)
+tag-put tags a i tag e = rw e
+
 -- what `begin` asks, and what it leaves: w stands in the slot that was lent on
 module _ (t tags a : List ℕ) (i : ℕ) (b : Begins t tags i a) where
   pub begin-low : i < 256
@@ -81,10 +86,10 @@ module _ (t tags a : List ℕ) (i : ℕ) (b : Begins t tags i a) where
   pub begin-room : length a ≤ addressRoom
   begin-room = omega (arith, canonical-most a (b .canonical))
 
-  pub begin-tagged : (w : List ℕ) (tag : ℕ) → ((j : ℕ) → Fits w8 (getD a j 0)) → tag ≡ tagOf a
+  pub begin-tagged : (tags₂ w : List ℕ) → tags₂ ≡ set tags i (tagOf a) → ((j : ℕ) → Fits w8 (getD a j 0))
       → length w ≡ length (take (i * 4392 + 4392 - i * 4392) (drop (i * 4392) t)) → w ≡ slotOf (newcomer a)
-      → Tagged (take (i * 4392) t ++ (w ++ drop (i * 4392 + 4392 - i * 4392) (drop (i * 4392) t))) (set tags i tag)
+      → Tagged (take (i * 4392) t ++ (w ++ drop (i * 4392 + 4392 - i * 4392) (drop (i * 4392) t))) tags₂
   unfolding newcomer
-  begin-tagged w tag o p k e =
+  begin-tagged tags₂ w p o k e =
       rw (put-slot t i (b .within) w k, e, p)
       (tagged-new t tags (b .tagged) i (b .within) (newcomer a) (good-newcomer a (b .canonical) (given-octets a o)))

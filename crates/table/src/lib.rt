@@ -3,10 +3,11 @@
 ghost use Prim.Native.Nat.{_<_, _≤_};
 ghost use mathlib.Core.Path.{_≡_};
 ghost use mathlib.Core.Bool.{true};
-ghost use lib.ListN.{length};
+ghost use lib.ListN.{length, set};
 ghost use Rattle.slots.specs.Slot.{slotLength, keyLimit, numbersOf, marked, addressOf, sound};
 ghost use Rattle.slots.specs.Entry.{entryOf, slotOf, newcomer, seenBy, withDirect, withGossip};
-ghost use Rattle.table.specs.Table.{slots as slotsOf, slotAt, withSlot, unused, lowestFree, freeCount};
+ghost use Rattle.tags.specs.Tags.{tagOf};
+ghost use Rattle.table.specs.Table.{mostSlots, slots as slotsOf, slotAt, withSlot, unused, lowestFree, freeCount};
 ghost use Rattle.table.specs.Tagged.{Tagged, Begins};
 use slots::Slot;
 
@@ -104,13 +105,21 @@ pub fn address(table: &[u8], i: usize) -> &[u8]
     slots::address_of(slot_at(table, i))
 }
 
+// Puts the tag of an address beside a slot.
+fn put_tag(tags: &mut [u32; Slot::MOST], i: usize, address: &[u8])
+    requires { ⌜ i < mostSlots ⌝ }
+    ensures { λ _. ⌜ now (tags .exit) ≡ set (now (tags .entry)) i (tagOf (now (address .entry))) ⌝ }
+{
+    tags[i] = tags::tag_of(address);
+}
+
 // Begins the entry of an address in a slot, and keeps the tags true.
 pub fn begin(table: &mut [u8], tags: &mut [u32; Slot::MOST], i: usize, address: &[u8])
     requires { ⌜ Begins (now table) (now tags) i (now address) ⌝ }
     ensures { λ _. ⌜ now (table .exit) ≡ withSlot (now (table .entry)) i (slotOf (newcomer (now (address .entry)))) ⌝ }
     ensures { λ _. ⌜ Tagged (now (table .exit)) (now (tags .exit)) ⌝ }
 {
-    tags[i] = tags::tag_of(address);
+    put_tag(tags, i, address);
     let at = i * Slot::LEN;
     slots::begin(&mut table[at..at + Slot::LEN], address);
 }

@@ -4,14 +4,8 @@ use Rattle.table.proofs.Tags.{begin-low, begin-room, begin-tagged}
 use Rattle.table.proofs.begin.Statement.{statement}
 use Rattle.table.proofs.begin.Tie as tie
 
-tag-of-requires : tie.Need-tag-of-requires
-tag-of-requires c κs = search lending
-
-mul-tags : tie.Need-mul-tags
-mul-tags c = search lending
-
-element-write-tags : tie.Need-element-write-tags
-element-write-tags c = search (begin-low, lending)
+put-tag-requires : tie.Need-put-tag-requires
+put-tag-requires c κs = search (begin-low, lending)
 
 mul-at : tie.Need-mul-at
 mul-at c = search lending
@@ -41,9 +35,7 @@ pub begin-spec : {M : Type 1} → statement M
 begin-spec =
     tie.close
     (tie.spec
-    tag-of-requires
-    mul-tags
-    element-write-tags
+    put-tag-requires
     mul-at
     add-begin
     sub-begin
