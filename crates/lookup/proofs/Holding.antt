@@ -93,13 +93,13 @@ module _ (t a : List ℕ) (s : checked t ≡ Sound) (i : ℕ) (e : found t a ≡
         is-sound = entry-sound t a s i e;
         numbers = refl;
         direct-lies = λ b. (
-            area-octets t i 296 2048 (numbersOf (slotAt t i) .«direct_length») (omega arith) (parts .direct-length b .1),
-            omega (arith, parts .direct-length b .1, ends),
-          );
+          area-octets t i 296 2048 (numbersOf (slotAt t i) .«direct_length») (omega arith) (parts .direct-length b .1),
+          omega (arith, parts .direct-length b .1, ends),
+        );
         gossip-lies = λ b. (
-            area-octets t i 2344 2048 (numbersOf (slotAt t i) .«gossip_length») (omega arith) (parts .gossip-length b .1),
-            omega (arith, parts .gossip-length b .1, ends),
-          );
+          area-octets t i 2344 2048 (numbersOf (slotAt t i) .«gossip_length») (omega arith) (parts .gossip-length b .1),
+          omega (arith, parts .gossip-length b .1, ends),
+        );
       }
 
 module _ (t a : List ℕ) where
