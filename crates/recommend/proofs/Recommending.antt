@@ -34,14 +34,14 @@ use Rattle.addresslist.proofs.Readable.{counted-some, counted-none}
 use Rattle.table.specs.Table.{checked}
 use Rattle.table.specs.Slotwise.{Broken}
 use Rattle.table.specs.declared.Checked.the-variants.{Sound}
-use Rattle.inspect.specs.Inspecting.{tableRows}
+use Rattle.inspect.specs.Inspecting.{tableRows, Opens}
 use Rattle.inspect.proofs.Tables.{rows-sound, lowest-broken}
 use Rattle.advice.specs.Advice.{overall, advised}
 use Rattle.advice.specs.Places.{noPart, targetAt, octetsAt, Within}
 use Rattle.advice.specs.declared.Advice.{Advice}
 use Rattle.advice.specs.declared.Part.{Part}
 use Rattle.advice.proofs.Keys.{place-within, place-octets}
-use Rattle.recommend.specs.Recommending.{recipientList, recommendingRows, refusedRecommending, recommendedOf, targetPartOf, targetKeyOf}
+use Rattle.recommend.specs.Recommending.{recipientList, recommendingRows, refusedRecommending, Admits, recommendedOf, targetPartOf, targetKeyOf}
 use Rattle.recommend.specs.declared.Recommended.{Recommended}
 use Rattle.recommend.specs.declared.Recommended.the-variants.{Done, Refused}
 
@@ -59,6 +59,17 @@ module _ (o : Option (List (List ℕ))) (k : Counted) (e : k ≡ countedOf o) wh
   list-counted n q = let c = counted-some o n (sym q ∙ e) in list-of o (c .0) n (c .1 .0) (c .1 .1)
 
 pub ruleset counting = (list-none, list-counted, needs)
+
+-- what `admit` answers: k is the answer on the table
+module _ (t tags s : List ℕ) (k : Answer) (h : Opens t tags k) where
+  pub admits-refused : (r : Refusal) → k ≡ NotAdmitted r → NotAdmitted r ≡ answerOf (refusedRecommending t s) → Admits t tags s (NotAdmitted r)
+  admits-refused r q e = record { answer = e; opens = λ z. let n : _≡_ {A = ℕ} 0 1 = cc in absurd (omega arith) }
+
+  pub admits-list : NotAdmitted Recipients ≡ answerOf (refusedRecommending t s) → Admits t tags s (NotAdmitted Recipients)
+  admits-list e = record { answer = e; opens = λ z. let n : _≡_ {A = ℕ} 0 1 = cc in absurd (omega arith) }
+
+  pub admits-both : k ≡ Admitted → Admitted ≡ answerOf (refusedRecommending t s) → Admits t tags s Admitted
+  admits-both q e = record { answer = e; opens = λ _. h .opens q }
 
 pub ruleset admitting = (rows)
 
