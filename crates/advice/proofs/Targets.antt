@@ -5,7 +5,7 @@
 --     reaches-begin .. reaches-unread     its steps
 --     the rulesets                  keeping, for `key_part`; targeting, for `target`; reaching, for `target_at`
 -- Assumes nothing.
-use Prim.Native.Nat.{ℕ, suc, _+_, _-_, _*_}
+use Prim.Native.Nat.{ℕ, suc, _+_, _-_}
 use mathlib.Core.Path.{_≡_, sym, ap, _∙_}
 use mathlib.Core.Bool.{true, false}
 use mathlib.Core.List.{List, []}
@@ -15,47 +15,45 @@ use borrow.Author.Needs.{needs}
 use Rattle.octets.specs.Options.{orElse, isSome}
 use Rattle.address.specs.Address.{canonical}
 use Rattle.heads.specs.declared.Head.{Head}
-use Rattle.heads.specs.Head.{headOf}
 use Rattle.addresslist.specs.List.{addresses}
 use Rattle.addresslist.specs.Answers.{between, beginning, left, Hands}
 use Rattle.addresslist.specs.declared.ListCursor.{ListCursor}
 use Rattle.addresslist.specs.declared.NextAddress.{NextAddress}
 use Rattle.addresslist.specs.declared.NextAddress.the-variants.{Address, End, Unreadable}
 use Rattle.addresslist.proofs.Handing.{left-beginning, hand-plain, hand-from, hand-upto, hand-less}
-use Rattle.table.specs.Table.{slotAt, found}
-use Rattle.table.specs.declared.Found.{Found}
-use Rattle.table.specs.declared.Found.the-variants.{At, Nothing}
+use Rattle.lookup.specs.Held.{heldOf}
+use Rattle.lookup.specs.declared.Held.{Held}
+use Rattle.lookup.specs.declared.Held.the-variants.{Entry, NoEntry}
 use Rattle.advice.specs.Places.{noPart, keyPart, partIn, targetPart, targetAt}
 use Rattle.advice.specs.declared.Part.{Part}
-use Rattle.advice.proofs.Locating.{located-in, located-low}
 use Rattle.advice.proofs.Overall.{handed-rest, handed-given, handed-end, handed-unread}
 
-module _ (i : ℕ) (n : Head) where
-  pub key-direct : n .direct ≡ true → _≡_ {A = Part} (record { start = i * 4392 + 296; length = n .«direct_length» }) (keyPart i n)
+module _ (n : Head) (direct gossip : ℕ) where
+  pub key-direct : n .direct ≡ true → _≡_ {A = Part} (record { start = direct; length = n .«direct_length» }) (keyPart n direct gossip)
   unfolding keyPart
   key-direct d = rw (keyPart, d)
 
   module _ (d : n .direct ≡ false) where
-    pub key-gossip : n .gossip ≡ true → _≡_ {A = Part} (record { start = i * 4392 + 2344; length = n .«gossip_length» }) (keyPart i n)
+    pub key-gossip : n .gossip ≡ true → _≡_ {A = Part} (record { start = gossip; length = n .«gossip_length» }) (keyPart n direct gossip)
     unfolding keyPart
     key-gossip g = rw (keyPart, d, g)
 
-    pub key-none : n .gossip ≡ false → noPart ≡ keyPart i n
+    pub key-none : n .gossip ≡ false → noPart ≡ keyPart n direct gossip
     unfolding keyPart
     key-none g = rw (keyPart, d, g)
 
 pub ruleset keeping = (key-direct, key-gossip, key-none, needs)
 
-module _ (t a : List ℕ) (g : Found) (e : g ≡ found t (canonical a)) where
-  pub target-nothing : g ≡ Nothing → noPart ≡ targetPart t a
+module _ (t a : List ℕ) (h : Held) (e : h ≡ heldOf t (canonical a)) where
+  pub target-nothing : h ≡ NoEntry → noPart ≡ targetPart t a
   unfolding targetPart partIn
   target-nothing q = rw (targetPart, sym e ∙ q)
 
-  pub target-there : (i : ℕ) → g ≡ At i → (n : Head) → n ≡ headOf (slotAt t i) → (r : Part) → r ≡ keyPart i n → r ≡ targetPart t a
+  pub target-there : (n : Head) (d g : ℕ) → h ≡ Entry n d g → (r : Part) → r ≡ keyPart n d g → r ≡ targetPart t a
   unfolding targetPart partIn
-  target-there i q n p r h = rw (targetPart, sym e ∙ q) (h ∙ rw p)
+  target-there n d g q r p = rw (targetPart, sym e ∙ q) p
 
-pub ruleset targeting = (target-nothing, target-there, located-in, located-low, needs)
+pub ruleset targeting = (target-nothing, target-there, needs)
 
 -- The loop: the place in the whole list is the place that is left in the rest of it.
 pub record Reaches (t s : List ℕ) (place rest : ℕ) (here : ListCursor) : Type 0 where

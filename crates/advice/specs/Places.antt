@@ -1,28 +1,26 @@
--- From entries to what the code reads and hands out: numbers of a slot, and parts of the table.
---     ratedAs               the advice by the numbers of a slot
+-- From entries to what the code reads and hands out: numbers of an entry, and parts of the table.
+--     ratedAs               the advice by the numbers of an entry
 --     lowerOf               the lower of two
 --     noPart                the empty part
---     keyPart, targetPart   where the key to encrypt to lies in the table: for a slot, and for an address
+--     keyPart, targetPart   where the key to encrypt to lies in the table: for an entry, and for an address
 --     targetAt              where that of the address at a place of a list lies
 --     octetsAt              the octets of a part
 --     Within                a part ends within the table
-use Prim.Native.Nat.{ℕ, zero, suc, _+_, _*_, _≤_}
+use Prim.Native.Nat.{ℕ, zero, suc, _+_, _≤_}
 use mathlib.Core.Bool.{true, false}
 use mathlib.Core.List.{List, [], _∷_}
 use lib.ListN.{length, take, drop}
 use Rattle.heads.specs.declared.Head.{Head}
-use Rattle.heads.specs.Head.{headOf}
-use Rattle.slots.specs.Slot.{slotLength, directAt, gossipAt}
 use Rattle.address.specs.Address.{canonical}
-use Rattle.table.specs.Table.{slotAt, found}
-use Rattle.table.specs.declared.Found.{Found}
-use Rattle.table.specs.declared.Found.the-variants.{At, Nothing}
+use Rattle.lookup.specs.Held.{heldOf}
+use Rattle.lookup.specs.declared.Held.{Held}
+use Rattle.lookup.specs.declared.Held.the-variants.{Entry, NoEntry}
 use Rattle.advice.specs.Advice.{stale}
 use Rattle.advice.specs.declared.Advice.{Advice}
 use Rattle.advice.specs.declared.Advice.the-variants.{Disable, Discourage, Available, Encrypt}
 use Rattle.advice.specs.declared.Part.{Part}
 
--- `rated` of Advice.antt, by the numbers of the entry's slot
+-- `rated` of Advice.antt, by the entry's numbers
 unfoldable pub ratedAs : Head → Advice
 ratedAs n =
     elim (n .direct) [
@@ -47,24 +45,21 @@ lowerOf Encrypt b = b
 abbrev pub noPart : Part
 noPart = record { start = 0; length = 0 }
 
--- "296-2343 direct key", "2344-4391 gossip key": the key to encrypt to, in slot i with these numbers
-unfoldable pub keyPart : ℕ → Head → Part
-keyPart i n =
+-- the key to encrypt to, of an entry with these numbers, whose keys begin there
+unfoldable pub keyPart : Head → ℕ → ℕ → Part
+keyPart n direct gossip =
     elim (n .direct) [
-      | true ↦ record { start = i * slotLength + directAt; length = n .«direct_length» }
-      | false ↦ elim (n .gossip) [
-        | true ↦ record { start = i * slotLength + gossipAt; length = n .«gossip_length» }
-        | false ↦ noPart
-      ]
+      | true ↦ record { start = direct; length = n .«direct_length» }
+      | false ↦ elim (n .gossip) [ true ↦ record { start = gossip; length = n .«gossip_length» } | false ↦ noPart ]
     ]
 
-unfoldable pub partIn : List ℕ → Found → Part
-partIn t (At i) = keyPart i (headOf (slotAt t i))
-partIn t Nothing = noPart
+unfoldable pub partIn : Held → Part
+partIn (Entry n direct gossip) = keyPart n direct gossip
+partIn NoEntry = noPart
 
 -- the key to encrypt to for an address as it stands in a list
 unfoldable pub targetPart : List ℕ → List ℕ → Part
-targetPart t a = partIn t (found t (canonical a))
+targetPart t a = partIn (heldOf t (canonical a))
 
 -- "a list place from 0 .. an empty part without one, past the list"
 unfoldable pub targetAt : List ℕ → List (List ℕ) → ℕ → Part

@@ -1,6 +1,6 @@
 // Recommending: what is advised for one recipient and for a whole list, and where the key to encrypt to lies in the
-// table. What is right is said by specs/Advice.antt, over entries; specs/Places.antt leads from there to slots.
-ghost use Prim.Native.Nat.{_≤_, _<_};
+// table. What is right is said by specs/Advice.antt, over entries; specs/Places.antt leads from there to the table.
+ghost use Prim.Native.Nat.{_≤_};
 ghost use mathlib.Core.Path.{_≡_};
 ghost use mathlib.Core.Bool.{true};
 ghost use mathlib.Core.List.{[]};
@@ -8,14 +8,14 @@ ghost use Rattle.octets.specs.Options.{orElse, isSome};
 ghost use Rattle.address.specs.Address.{plain, canonical as canonicalOf};
 ghost use Rattle.addresslist.specs.List.{addresses};
 ghost use Rattle.heads.specs.Head.{timeLimit};
-ghost use Rattle.table.specs.Table.{checked, found};
-ghost use Rattle.table.specs.declared.Checked.the-variants.{Sound};
+ghost use Rattle.table.specs.Tagged.{Open};
+ghost use Rattle.lookup.specs.Held.{heldOf};
 ghost use Rattle.advice.specs.Advice.{raised, adviceIn, overall, advised};
 ghost use Rattle.advice.specs.Places.{ratedAs, lowerOf, keyPart, targetPart, targetAt};
 use addresslist::NextAddress;
 use heads::Head;
+use lookup::Held;
 use slots::Slot;
-use table::Found;
 
 // "discourage if last seen exceeds the timestamp by more than 3,024,000 (35 days)"
 const PATIENCE: u64 = 3024000;
@@ -95,36 +95,51 @@ fn lower(a: Advice, b: Advice) -> Advice
     }
 }
 
-// Where an address stands in the table: its canonical form is looked for.
-fn locate(table: &[u8], address: &[u8]) -> Found
-    requires { ⌜ plain (now address) ≡ true ⌝ }
-    ensures { λ r. ⌜ r ≡ found (now (table .entry)) (canonicalOf (now (address .entry))) ⌝ }
+// What the table has of an address: its canonical form is looked for.
+fn locate(table: &[u8], tags: &[u32; Slot::MOST], address: &[u8]) -> Held
+    requires { ⌜ Open (now table) (now tags) × (plain (now address) ≡ true) ⌝ }
+    ensures { λ r. ⌜ r ≡ heldOf (now (table .entry)) (canonicalOf (now (address .entry))) ⌝ }
 {
     let mut form = [0u8; Slot::ADDRESS_ROOM];
     match address::canonical(address, &mut form) {
-        address::Fitted::Length(n) => table::find(table, &form[0..n]),
-        address::Fitted::NoRoom => Found::Nothing,
+        address::Fitted::Length(n) => lookup::entry_of(table, tags, &form[0..n]),
+        address::Fitted::NoRoom => Held::NoEntry,
     }
 }
 
 // What is advised for one recipient.
-fn advise(table: &[u8], address: &[u8], mutual: bool, reply: bool) -> Advice
-    requires { ⌜ (checked (now table) ≡ Sound) × (plain (now address) ≡ true) ⌝ }
+fn advise(
+    table: &[u8],
+    tags: &[u32; Slot::MOST],
+    address: &[u8],
+    mutual: bool,
+    reply: bool,
+) -> Advice
+    requires { ⌜ Open (now table) (now tags) × (plain (now address) ≡ true) ⌝ }
     ensures { λ r. ⌜ r ≡ adviceIn (now (table .entry)) «mutual» reply (now (address .entry)) ⌝ }
 {
-    match locate(table, address) {
-        Found::At(i) => {
-            let entry = table::numbers(table, i);
-            let both = mutual & entry.mutual;
-            raise(rate(entry), reply, both)
+    match locate(table, tags, address) {
+        Held::Entry {
+            numbers,
+            direct: _,
+            gossip: _,
+        } => {
+            let both = mutual & numbers.mutual;
+            raise(rate(numbers), reply, both)
         }
-        Found::Nothing => Advice::Disable,
+        Held::NoEntry => Advice::Disable,
     }
 }
 
 // What is advised for a whole list, which has to be readable.
-pub fn overall_advice(table: &[u8], recipients: &[u8], mutual: bool, reply: bool) -> Advice
-    requires { ⌜ (checked (now table) ≡ Sound) × (isSome (addresses (now recipients)) ≡ true) ⌝ }
+pub fn overall_advice(
+    table: &[u8],
+    tags: &[u32; Slot::MOST],
+    recipients: &[u8],
+    mutual: bool,
+    reply: bool,
+) -> Advice
+    requires { ⌜ Open (now table) (now tags) × (isSome (addresses (now recipients)) ≡ true) ⌝ }
     ensures { λ r. ⌜ r ≡ overall (advised (now (table .entry)) «mutual» reply (orElse [] (addresses (now (recipients .entry))))) ⌝ }
 {
     let mut least = Advice::Encrypt;
@@ -132,7 +147,7 @@ pub fn overall_advice(table: &[u8], recipients: &[u8], mutual: bool, reply: bool
     loop {
         match addresslist::next_address(recipients, here) {
             NextAddress::Address { from, to, next } => {
-                let one = advise(table, &recipients[from..to], mutual, reply);
+                let one = advise(table, tags, &recipients[from..to], mutual, reply);
                 least = lower(least, one);
                 here = next;
             }
@@ -142,22 +157,20 @@ pub fn overall_advice(table: &[u8], recipients: &[u8], mutual: bool, reply: bool
     }
 }
 
-// Where the key to encrypt to lies: in the slot i, whose numbers are given.
-fn key_part(i: usize, entry: Head) -> Part
-    requires { ⌜ i < 256 ⌝ }
-    ensures { λ r. ⌜ r ≡ keyPart i entry ⌝ }
+// Where the key to encrypt to lies, of the entry with these numbers, whose keys begin there.
+fn key_part(numbers: Head, direct: usize, gossip: usize) -> Part
+    ensures { λ r. ⌜ r ≡ keyPart numbers direct gossip ⌝ }
 {
-    let at = i * Slot::LEN;
-    if entry.direct {
+    if numbers.direct {
         return Part {
-            start: at + Slot::DIRECT_AT,
-            length: entry.direct_length,
+            start: direct,
+            length: numbers.direct_length,
         };
     }
-    if entry.gossip {
+    if numbers.gossip {
         return Part {
-            start: at + Slot::GOSSIP_AT,
-            length: entry.gossip_length,
+            start: gossip,
+            length: numbers.gossip_length,
         };
     }
     Part {
@@ -167,13 +180,17 @@ fn key_part(i: usize, entry: Head) -> Part
 }
 
 // Where the key of one recipient lies.
-fn target(table: &[u8], address: &[u8]) -> Part
-    requires { ⌜ (checked (now table) ≡ Sound) × (plain (now address) ≡ true) ⌝ }
+fn target(table: &[u8], tags: &[u32; Slot::MOST], address: &[u8]) -> Part
+    requires { ⌜ Open (now table) (now tags) × (plain (now address) ≡ true) ⌝ }
     ensures { λ r. ⌜ r ≡ targetPart (now (table .entry)) (now (address .entry)) ⌝ }
 {
-    match locate(table, address) {
-        Found::At(i) => key_part(i, table::numbers(table, i)),
-        Found::Nothing => Part {
+    match locate(table, tags, address) {
+        Held::Entry {
+            numbers,
+            direct,
+            gossip,
+        } => key_part(numbers, direct, gossip),
+        Held::NoEntry => Part {
             start: 0,
             length: 0,
         },
@@ -181,8 +198,8 @@ fn target(table: &[u8], address: &[u8]) -> Part
 }
 
 // Where the key of the recipient at a place of the list lies, the first being at 0.
-pub fn target_at(table: &[u8], recipients: &[u8], place: usize) -> Part
-    requires { ⌜ (checked (now table) ≡ Sound) × (isSome (addresses (now recipients)) ≡ true) ⌝ }
+pub fn target_at(table: &[u8], tags: &[u32; Slot::MOST], recipients: &[u8], place: usize) -> Part
+    requires { ⌜ Open (now table) (now tags) × (isSome (addresses (now recipients)) ≡ true) ⌝ }
     ensures { λ r. ⌜ r ≡ targetAt (now (table .entry)) (orElse [] (addresses (now (recipients .entry)))) place ⌝ }
 {
     let mut left = place;
@@ -191,7 +208,7 @@ pub fn target_at(table: &[u8], recipients: &[u8], place: usize) -> Part
         match addresslist::next_address(recipients, here) {
             NextAddress::Address { from, to, next } => {
                 if left == 0 {
-                    return target(table, &recipients[from..to]);
+                    return target(table, tags, &recipients[from..to]);
                 }
                 left -= 1;
                 here = next;

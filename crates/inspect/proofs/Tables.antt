@@ -3,7 +3,8 @@
 --     sound-rows, length-rows, slot-rows    the rows, by the answer of the check
 --     rows-sound, checked-sound          neither row holds only where the check finds nothing
 --     lowest-broken, broken-refused      2 is given exactly with the index of the lowest slot that is neither free nor sound
---     the ruleset                        checking, for `check`
+--     opens-sound .. opens-slot          the answer that `open_table` gives, with the tags
+--     the ruleset                        opening, for `open_table`
 -- Assumes nothing.
 use Prim.Native.Nat.{ℕ, _%_}
 use mathlib.Core.Path.{_≡_, sym, ap, _∙_}
@@ -27,9 +28,10 @@ use Rattle.table.specs.Table.{slots, whole, checked}
 use Rattle.table.specs.Slotwise.{Broken}
 use Rattle.table.specs.declared.Checked.{Checked}
 use Rattle.table.specs.declared.Checked.the-variants.{Sound, Length, Slot}
+use Rattle.lookup.specs.Looking.{Checks}
 use Rattle.table.proofs.Judging.{checked-length}
 use Rattle.table.proofs.Broken.{by-check, checked-broken, broken-checked, checked-out}
-use Rattle.inspect.specs.Inspecting.{isSound, brokenSlot, tableRows}
+use Rattle.inspect.specs.Inspecting.{isSound, brokenSlot, tableRows, Opens}
 
 module _ (t : List ℕ) where
   -- the check answers the length exactly where there are no whole slots
@@ -86,19 +88,30 @@ module _ (t : List ℕ) where
         let b : Broken t i = checked-broken t i (sym e ∙ q) in
         omega (arith, b .within, leb-true (slots t) 256 (and-right (eqb (length t % 4392) 0 && leb 1 (slots t)) (leb (slots t) 256) (b .whole-slots)))
 
-    pub as-sound : r ≡ Sound → Done ≡ answerOf (firstOf (tableRows t))
+    as-sound : r ≡ Sound → Done ≡ answerOf (firstOf (tableRows t))
     unfolding answeredBy
     as-sound q = rw (sound-rows (sym e ∙ q))
 
-    pub as-length : r ≡ Length → Refused TableLength ≡ answerOf (firstOf (tableRows t))
+    as-length : r ≡ Length → Refused TableLength ≡ answerOf (firstOf (tableRows t))
     unfolding answeredBy
     as-length q = rw (length-rows (sym e ∙ q))
 
-    pub as-slot : (i : ℕ) → r ≡ Slot i → Refused (BrokenSlot i) ≡ answerOf (firstOf (tableRows t))
+    as-slot : (i : ℕ) → r ≡ Slot i → Refused (BrokenSlot i) ≡ answerOf (firstOf (tableRows t))
     unfolding answeredBy
     as-slot i q = rw (slot-rows i (sym e ∙ q))
+
+    -- the code hands out the tags that came with the answer
+    module _ (tags : List ℕ) (h : Checks t tags r) where
+      pub opens-sound : r ≡ Sound → Opens t tags Done
+      opens-sound q = record { answer = as-sound q; opens = λ _. h .opens q }
+
+      pub opens-length : r ≡ Length → Opens t tags (Refused TableLength)
+      opens-length q = record { answer = as-length q; opens = λ z. let n : _≡_ {A = ℕ} 0 1 = cc in absurd (omega arith) }
+
+      pub opens-slot : (i : ℕ) → r ≡ Slot i → Opens t tags (Refused (BrokenSlot i))
+      opens-slot i q = record { answer = as-slot i q; opens = λ z. let n : _≡_ {A = ℕ} 0 1 = cc in absurd (omega arith) }
 
   pub checked-sound : (k : Answer) → k ≡ answerOf (firstOf (tableRows t)) → k ≡ Done → checked t ≡ Sound
   checked-sound k e q = rows-sound (answer-done (firstOf (tableRows t)) (sym e ∙ q))
 
-pub ruleset checking = (slot-fits, as-sound, as-length, as-slot, needs)
+pub ruleset opening = (slot-fits, opens-sound, opens-length, opens-slot, needs)

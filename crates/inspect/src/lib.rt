@@ -2,19 +2,30 @@
 ghost use mathlib.Core.Path.{_≡_};
 ghost use lib.ListN.{length};
 ghost use Rattle.refusals.specs.Rows.{firstOf, answerOf};
-ghost use Rattle.inspect.specs.Inspecting.{tableRows, refusedShowing, leftByShowing};
+ghost use Rattle.table.specs.Table.{mostSlots};
+ghost use Rattle.inspect.specs.Inspecting.{tableRows, Opens, refusedShowing, leftByShowing};
 use refusals::Answer;
 use refusals::Refusal;
+use slots::Slot;
 
-// Is this a table that the calls take?
-pub fn check(table: &[u8]) -> Answer
-    ensures { λ r. ⌜ r ≡ answerOf (firstOf (tableRows (now (table .entry)))) ⌝ }
+// Is this a table that the calls take? The tags of its slots come with the answer.
+pub fn open_table(table: &[u8], tags: &mut [u32; Slot::MOST]) -> Answer
+    requires { ⌜ length (now tags) ≡ mostSlots ⌝ }
+    ensures { λ r. ⌜ Opens (now (table .entry)) (now (tags .exit)) r ⌝ }
 {
-    match table::check(table) {
+    match lookup::check(table, tags) {
         table::Checked::Sound => Answer::Done,
         table::Checked::Length => Answer::Refused(Refusal::TableLength),
         table::Checked::Slot(i) => Answer::Refused(Refusal::BrokenSlot(i as u32)),
     }
+}
+
+// The same, for callers that need no tags.
+pub fn check(table: &[u8]) -> Answer
+    ensures { λ r. ⌜ r ≡ answerOf (firstOf (tableRows (now (table .entry)))) ⌝ }
+{
+    let mut tags = [0u32; Slot::MOST];
+    open_table(table, &mut tags)
 }
 
 // Tells one entry by its slot, in eleven numbers, which open the lent ones: used or not, the bits, last seen, both

@@ -1,6 +1,8 @@
 -- Recommending: what the code finds out, and what it answers by it.
 --     list-none, list-counted           "1 to 100 addresses", as the code counts them
+--     admits-not, admits-both           what `admit` answers, with the tags of the table
 --     admitted-sound, admitted-list     where no row holds the table is sound, and the list is readable
+--     table-taken                       and open with its tags
 --     refused-advice .. part-given      the answers of both calls, by what `admit` answers
 --     part-end .. part-is-key           the part lies within the table, and its octets are the entry's key
 --     done-advised, index-lowest        what comes with the first call's answer
@@ -33,15 +35,16 @@ use Rattle.addresslist.specs.declared.Counted.the-variants.{Count, Unreadable}
 use Rattle.addresslist.proofs.Readable.{counted-some, counted-none}
 use Rattle.table.specs.Table.{checked}
 use Rattle.table.specs.Slotwise.{Broken}
+use Rattle.table.specs.Tagged.{Open}
 use Rattle.table.specs.declared.Checked.the-variants.{Sound}
-use Rattle.inspect.specs.Inspecting.{tableRows}
+use Rattle.inspect.specs.Inspecting.{tableRows, Opens}
 use Rattle.inspect.proofs.Tables.{rows-sound, lowest-broken}
 use Rattle.advice.specs.Advice.{overall, advised}
 use Rattle.advice.specs.Places.{noPart, targetAt, octetsAt, Within}
 use Rattle.advice.specs.declared.Advice.{Advice}
 use Rattle.advice.specs.declared.Part.{Part}
 use Rattle.advice.proofs.Keys.{place-within, place-octets}
-use Rattle.recommend.specs.Recommending.{recipientList, recommendingRows, refusedRecommending, recommendedOf, targetPartOf, targetKeyOf}
+use Rattle.recommend.specs.Recommending.{recipientList, recommendingRows, refusedRecommending, Admits, recommendedOf, targetPartOf, targetKeyOf}
 use Rattle.recommend.specs.declared.Recommended.{Recommended}
 use Rattle.recommend.specs.declared.Recommended.the-variants.{Done, Refused}
 
@@ -60,7 +63,15 @@ module _ (o : Option (List (List ℕ))) (k : Counted) (e : k ≡ countedOf o) wh
 
 pub ruleset counting = (list-none, list-counted, needs)
 
-pub ruleset admitting = (rows)
+-- what `admit` answers: k is the answer on the table
+module _ (t tags s : List ℕ) where
+  pub admits-not : (r : Refusal) → NotAdmitted r ≡ answerOf (refusedRecommending t s) → Admits t tags s (NotAdmitted r)
+  admits-not r e = record { answer = e; opens = λ z. let n : _≡_ {A = ℕ} 0 1 = cc in absurd (omega arith) }
+
+  pub admits-both : (k : Answer) → k ≡ Admitted → Opens t tags k → Admitted ≡ answerOf (refusedRecommending t s) → Admits t tags s Admitted
+  admits-both k q h e = record { answer = e; opens = λ _. h .opens q }
+
+pub ruleset admitting = (admits-not, admits-both, rows)
 
 list-readable : (o : Option (List (List ℕ))) → recipientList o ≡ true → isSome o ≡ true
 unfolding recipientList isSome
@@ -83,6 +94,9 @@ module _ (t s : List ℕ) (e : refusedRecommending t s ≡ none) where
       (not-false (recipientList (addresses s)) (none-here Recipients _ [] (none-behind (tableRows t) last e)))
 
 -- by what `admit` answers
+pub table-taken : (t tags s : List ℕ) (k : Answer) → k ≡ Admitted → Admits t tags s k → Open t tags
+table-taken t tags s k q h = h .opens q
+
 module _ (t s : List ℕ) (k : Answer) (e : k ≡ answerOf (refusedRecommending t s)) where
   module _ (r : Refusal) (q : k ≡ NotAdmitted r) where
     out : refusedRecommending t s ≡ some r
@@ -99,9 +113,6 @@ module _ (t s : List ℕ) (k : Answer) (e : k ≡ answerOf (refusedRecommending 
   module _ (q : k ≡ Admitted) where
     in-order : refusedRecommending t s ≡ none
     in-order = answer-done (refusedRecommending t s) (sym e ∙ q)
-
-    pub table-taken : checked t ≡ Sound
-    table-taken = admitted-sound t s in-order
 
     pub list-given : isSome (addresses s) ≡ true
     list-given = admitted-list t s in-order

@@ -2,19 +2,24 @@
 -- which key is a recipient's target key is said by the crate `advice`.
 --     mostRecipients, recipientList             "1 to 100 addresses"
 --     recommendingRows, refusedRecommending     rows 1, 2 and 10
+--     Admits                                    the answer on them, with the tags of the table where none holds
 --     recommendedOf                             the answer
 --     targetPartOf, targetKeyOf                 the part of the table that is handed back, and the key that it is
 use Prim.Native.Nat.{ℕ}
+use mathlib.Core.Path.{_≡_}
 use mathlib.Core.Bool.{Bool, false}
 use mathlib.Core.List.{List, [], _∷_, _++_}
 use mathlib.Core.Option.{Option, some, none}
 use lib.ListN.{length, getD}
 use Rattle.octets.specs.Tests.{oneTo}
 use Rattle.octets.specs.Options.{orElse}
-use Rattle.refusals.specs.Rows.{Row, _unless_, firstOf, answeredBy, unlessRefused}
+use Rattle.refusals.specs.Rows.{Row, _unless_, firstOf, answeredBy, answerOf, unlessRefused}
 use Rattle.refusals.specs.declared.Refusal.{Refusal}
 use Rattle.refusals.specs.declared.Refusal.the-variants.{Recipients}
+use Rattle.refusals.specs.declared.Answer.{Answer}
+use Rattle.refusals.specs.declared.Answer.the-variants.{Done as Admitted}
 use Rattle.addresslist.specs.List.{addresses}
+use Rattle.table.specs.Tagged.{Open}
 use Rattle.inspect.specs.Inspecting.{tableRows}
 use Rattle.advice.specs.Advice.{overall, advised, targets}
 use Rattle.advice.specs.Places.{noPart, targetAt}
@@ -36,6 +41,11 @@ recommendingRows table recipients = tableRows table ++ ((Recipients unless recip
 
 unfoldable pub refusedRecommending : List ℕ → List ℕ → Option Refusal
 refusedRecommending table recipients = firstOf (recommendingRows table recipients)
+
+-- the tags are handed on where there is nothing to refuse
+pub record Admits (table tags recipients : List ℕ) (r : Answer) : Type 0 where
+  pub answer : r ≡ answerOf (refusedRecommending table recipients)
+  pub opens : r ≡ Admitted → Open table tags
 
 -- what the first call answers
 unfoldable pub recommendedOf : List ℕ → List ℕ → Bool → Bool → Recommended

@@ -1,15 +1,17 @@
 // Recommending: what is advised for a mail to a list of recipients, and the key to encrypt to for each of them, handed
 // back as a part of the lent table.
 ghost use mathlib.Core.Path.{_≡_};
+ghost use lib.ListN.{length};
 ghost use Rattle.addresslist.specs.List.{addresses};
 ghost use Rattle.advice.specs.Places.{octetsAt};
-ghost use Rattle.refusals.specs.Rows.{answerOf};
-ghost use Rattle.recommend.specs.Recommending.{recipientList, refusedRecommending, recommendedOf, targetPartOf, targetKeyOf};
+ghost use Rattle.table.specs.Table.{mostSlots};
+ghost use Rattle.recommend.specs.Recommending.{recipientList, Admits, recommendedOf, targetPartOf, targetKeyOf};
 use addresslist::Counted;
 use advice::Advice;
 use advice::Part;
 use refusals::Answer;
 use refusals::Refusal;
+use slots::Slot;
 
 // What is advised for all recipients of a mail; or recommending is refused.
 pub enum Recommended {
@@ -30,11 +32,12 @@ fn is_recipient_list(list: &[u8]) -> bool
     }
 }
 
-// Are the table and the list such that a recommendation can be given?
-fn admit(table: &[u8], recipients: &[u8]) -> Answer
-    ensures { λ r. ⌜ r ≡ answerOf (refusedRecommending (now (table .entry)) (now (recipients .entry))) ⌝ }
+// Are the table and the list such that a recommendation can be given? The tags of the table come with the answer.
+fn admit(table: &[u8], tags: &mut [u32; Slot::MOST], recipients: &[u8]) -> Answer
+    requires { ⌜ length (now tags) ≡ mostSlots ⌝ }
+    ensures { λ r. ⌜ Admits (now (table .entry)) (now (tags .exit)) (now (recipients .entry)) r ⌝ }
 {
-    match inspect::check(table) {
+    match inspect::open_table(table, tags) {
         Answer::Done => {
             if !is_recipient_list(recipients) {
                 return Answer::Refused(Refusal::Recipients);
@@ -50,8 +53,15 @@ fn admit(table: &[u8], recipients: &[u8]) -> Answer
 pub fn recommend(table: &[u8], recipients: &[u8], mutual: bool, reply: bool) -> Recommended
     ensures { λ r. ⌜ r ≡ recommendedOf (now (table .entry)) (now (recipients .entry)) «mutual» reply ⌝ }
 {
-    match admit(table, recipients) {
-        Answer::Done => Recommended::Done(advice::overall_advice(table, recipients, mutual, reply)),
+    let mut tags = [0u32; Slot::MOST];
+    match admit(table, &mut tags, recipients) {
+        Answer::Done => Recommended::Done(advice::overall_advice(
+            table,
+            &tags,
+            recipients,
+            mutual,
+            reply,
+        )),
         Answer::Refused(refusal) => Recommended::Refused(refusal),
     }
 }
@@ -61,8 +71,9 @@ pub fn recommend(table: &[u8], recipients: &[u8], mutual: bool, reply: bool) -> 
 pub fn target_part(table: &[u8], recipients: &[u8], mutual: bool, reply: bool, place: usize) -> Part
     ensures { λ r. ⌜ r ≡ targetPartOf (now (table .entry)) (now (recipients .entry)) place ⌝ }
 {
-    match admit(table, recipients) {
-        Answer::Done => advice::target_at(table, recipients, place),
+    let mut tags = [0u32; Slot::MOST];
+    match admit(table, &mut tags, recipients) {
+        Answer::Done => advice::target_at(table, &tags, recipients, place),
         Answer::Refused(_) => Part {
             start: 0,
             length: 0,

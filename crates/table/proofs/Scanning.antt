@@ -2,30 +2,18 @@
 --     lowest-here .. many-same    one slot of a scan
 --     Scan test t n i             the lowest of n slots that passes the test is the lowest of those from i on
 --     scan-begin .. scan-end      the loop's steps
---     Seek t a n i f              no slot before i holds the address, and f says so
---     searching                   the scan for it, with the comparison of octets inside
 --     Tally t n many i            of n slots so many before i are free
 --     finding-free, tallying      the scans for free slots
 -- Assumes nothing.
 use Prim.Native.Nat.{ℕ, suc, _+_, _-_, _<_, _≤_}
-use mathlib.Core.Path.{_≡_, refl, sym, _∙_}
-use mathlib.Core.Bool.{Bool, true, false, not, _&&_, and-false}
+use mathlib.Core.Path.{_≡_, sym, _∙_}
+use mathlib.Core.Bool.{Bool, true, false}
 use mathlib.Core.List.{List}
 use native.Mathlib.Nat.{sub-zero}
 use native.Mathlib.Omega.{arith}
-use borrow.Author.Tests.{eqb-true, eqb-false, not-true, not-false}
 use borrow.Author.Needs.{needs}
-use lib.Dec.{eqb}
-use lib.ListN.{length, getD, take, drop, length-take}
-use lib.Seq.{getD-take, getD-drop}
-use Rattle.octets.specs.Octets.{sameOctets}
-use Rattle.octets.proofs.Comparing.{Same, same-begin, same-next, same-stop, same-end, same-long}
 use Rattle.octets.proofs.Lists.{left-one}
-use Rattle.octets.proofs.Tests.{and-left, and-right, by-test}
-use Rattle.heads.specs.Head.{addressLength}
-use Rattle.slots.specs.Slot.{slotLength, marked, addressOf, addressArea}
-use Rattle.table.specs.Table.{slots, slotAt, unused, hasAddress, lowest, howMany, found, lowestFree, freeCount}
-use Rattle.table.specs.declared.Found.{Found}
+use Rattle.table.specs.Table.{slots, slotAt, unused, lowest, howMany, lowestFree, freeCount}
 use Rattle.table.specs.declared.Found.the-variants.{At, Nothing}
 
 -- one slot
@@ -66,83 +54,6 @@ module _ (test : List ℕ → Bool) (t : List ℕ) (n : ℕ) where
     scan-end l =
         let z : n - i ≡ 0 = omega arith in
         sym (h .so-far ∙ rw z)
-
--- the octets of a slot's address
-pub address-octet : (s : List ℕ) (k : ℕ) → k < length (addressOf s) → (k < 256) × (getD (addressOf s) k 0 ≡ getD s (40 + k) 0)
-unfolding addressOf
-address-octet s k l =
-    let m : length (take (addressLength s) (addressArea s)) ≤ addressLength s = simp length-take (omega arith) in
-    let r : length (take (addressLength s) (addressArea s)) ≤ 256 = simp length-take (omega arith) in (
-      omega arith,
-      getD-take (addressLength s) (addressArea s) k 0 (omega arith) ∙ getD-take 256 (drop 40 s) k 0 (omega arith) ∙ getD-drop 40 s k 0,
-    )
-
-module _ (t a : List ℕ) (n i : ℕ) (h : Scan (hasAddress a) t n i) where
-  module _ (l : i < n) (s : List ℕ) (e : (s ≡ slotAt t i) × (length s ≡ slotLength)) where
-    pub pass-by : (b : Bool) → b ≡ (marked s && eqb (length (addressOf s)) (length a)) → not b ≡ true → Scan (hasAddress a) t n (i + 1)
-    unfolding hasAddress
-    pass-by b p q = scan-no (hasAddress a) t n i h l (rw (← e .0) (not-held (sym p ∙ not-true b q)))
-      where
-        not-held : (marked s && eqb (length (addressOf s)) (length a)) ≡ false → (marked s && sameOctets (addressOf s) a) ≡ false
-        not-held f =
-            by-test (marked s)
-            (λ m.
-            let g : eqb (length (addressOf s)) (length a) ≡ false = rw m at f in
-            rw m (sym (same-long (addressOf s) a (eqb-false (length (addressOf s)) (length a) g))))
-            (λ m. rw m)
-
-    pub differs : (k : ℕ) → Same (addressOf s) a k → k < length a → (getD s (40 + k) 0 ≡ getD a k 0 → ⊥) → Scan (hasAddress a) t n (i + 1)
-    unfolding hasAddress
-    differs k p q d =
-        let w : k < length (addressOf s) = omega (arith, p .long) in
-        let f : sameOctets (addressOf s) a ≡ false = sym (same-stop (addressOf s) a k p w (λ r. d (sym (address-octet s k w .1) ∙ r))) in
-        scan-no (hasAddress a) t n i h l (rw (← e .0, f) (and-false (marked s)))
-
-    pub stands : (b : Bool) (k : ℕ) → b ≡ (marked s && eqb (length (addressOf s)) (length a)) → not b ≡ false → Same (addressOf s) a k → length a ≤ k
-        → At (i + 1 - 1) ≡ lowest (hasAddress a) t 0 n
-    unfolding hasAddress
-    stands b k p q r m =
-        let u : marked s ≡ true = and-left (marked s) (eqb (length (addressOf s)) (length a)) (sym p ∙ not-false b q) in
-        let f : sameOctets (addressOf s) a ≡ true = sym (same-end (addressOf s) a k r (omega (arith, r .long))) in
-        let g : i + 1 - 1 ≡ i = omega arith in
-        rw g (scan-yes (hasAddress a) t n i h l (rw (← e .0, u, f)))
-
-  pub nowhere : (f : Found) → f ≡ Nothing → n ≤ i → f ≡ lowest (hasAddress a) t 0 n
-  nowhere f e l = e ∙ scan-end (hasAddress a) t n i h l
-
-module _ (s a : List ℕ) where
-  pub long-enough : (b : Bool) → b ≡ (marked s && eqb (length (addressOf s)) (length a)) → not b ≡ false → Same (addressOf s) a 0
-  long-enough b p q =
-      same-begin (addressOf s) a (eqb-true (length (addressOf s)) (length a) (and-right (marked s) (eqb (length (addressOf s)) (length a)) (sym p ∙ not-false b q)))
-
-  module _ (k : ℕ) (h : Same (addressOf s) a k) (l : k < length a) where
-    pub within-slot : length s ≡ slotLength → 40 + k < length s
-    within-slot e = omega (arith, address-octet s k (omega (arith, h .long)) .0)
-
-    pub agrees : getD s (40 + k) 0 ≡ getD a k 0 → Same (addressOf s) a (k + 1)
-    agrees e =
-        let w : k < length (addressOf s) = omega (arith, h .long) in
-        same-next (addressOf s) a k h w (address-octet s k w .1 ∙ e)
-
-pub within-slots : (t : List ℕ) (n i : ℕ) → n ≤ slots t → i < n → i < slots t
-within-slots t n i h l = omega arith
-
-pub record Seek (t a : List ℕ) (n i : ℕ) (f : Found) : Type 0 where
-  pub scan : Scan (hasAddress a) t n i
-  pub unfound : f ≡ Nothing
-
-pub seek-begin : (t a : List ℕ) (n : ℕ) → Seek t a n 0 Nothing
-seek-begin t a n = record { scan = scan-begin (hasAddress a) t n; unfound = refl }
-
-pub seek-on : (t a : List ℕ) (n i : ℕ) (f : Found) → f ≡ Nothing → Scan (hasAddress a) t n i → Seek t a n i f
-seek-on t a n i f e h = record { scan = h; unfound = e }
-
-pub ruleset searching = (within-slots, seek-begin, seek-on, pass-by, differs, stands, nowhere, long-enough, within-slot, agrees, needs)
-
--- the whole table
-pub found-is : (t a : List ℕ) (n : ℕ) (f : Found) → n ≡ slots t → f ≡ lowest (hasAddress a) t 0 n → f ≡ found t a
-unfolding found
-found-is t a n f e p = p ∙ rw e
 
 -- the slots without the mark
 module _ (t : List ℕ) (n i : ℕ) (e : n ≡ slots t) where
@@ -194,7 +105,5 @@ module _ (t : List ℕ) (n many i : ℕ) (h : Tally t n many i) where
       let z : n - i ≡ 0 = omega arith in
       let w : howMany unused t 0 n ≡ many + 0 = h .so-far ∙ rw z in
       rw (← e) (omega (arith, w))
-
-pub ruleset finding = (found-is, needs)
 
 pub ruleset tallying = (within-table, tally-begin, tally-one, tally-none, tally-end, needs)

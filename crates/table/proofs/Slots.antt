@@ -12,13 +12,12 @@
 use Prim.Native.Nat.{ℕ, _+_, _-_, _*_, _/_, _^_, _<_, _≤_}
 use mathlib.Core.Path.{_≡_, refl, _∙_}
 use mathlib.Core.Logic.{⊎-elim}
-use mathlib.Core.Bool.{Bool, true, not, _&&_}
+use mathlib.Core.Bool.{Bool, true, not}
 use mathlib.Core.List.{List, _++_}
 use native.Mathlib.Omega.{arith}
 use borrow.Author.Needs.{needs}
 use mir.Syntax.{w64}
 use mir.Val.{Fits}
-use lib.Dec.{eqb}
 use lib.ListN.{length, take, drop, length-take, length-drop}
 use lib.Seq.{take-at, drop-at, take-take, drop-drop, length-take-le}
 use Rattle.octets.specs.Octets.{AllOctets}
@@ -26,7 +25,7 @@ use Rattle.octets.specs.Written.{putAt}
 use Rattle.octets.proofs.Lists.{take-octets, drop-octets, lt-or-le}
 use Rattle.heads.specs.declared.Head.{Head}
 use Rattle.heads.specs.Head.{headOf}
-use Rattle.slots.specs.Slot.{slotLength, addressRoom, keyLimit, marked, addressOf, sound}
+use Rattle.slots.specs.Slot.{slotLength, keyLimit, marked, addressOf, sound}
 use Rattle.heads.specs.Entry.{newcomer, seenBy, withDirect, withGossip}
 use Rattle.slots.specs.Entry.{entryOf, slotOf}
 use Rattle.heads.proofs.Parts.{drop-take, part-back, part-before, part-behind, put-length}
@@ -131,16 +130,13 @@ pub count-is : (t : List ℕ) → length t / 4392 ≡ slots t
 unfolding slots
 count-is t = refl
 
-pub could-is : (s a : List ℕ) (n : ℕ) (b : Bool) → b ≡ marked s → a ≡ addressOf s → (b && eqb (length a) n) ≡ (marked s && eqb (length (addressOf s)) n)
-could-is s a n b p q = rw (p, q)
-
-pub ruleset reaching = (room, place-fits, end-fits, part-is, part-long, used-at, unused-at, numbers-at, address-at, count-is, could-is, needs)
+pub ruleset reaching = (room, place-fits, end-fits, part-is, part-long, used-at, unused-at, numbers-at, address-at, count-is, needs)
 
 -- lending one slot on: w is what the writer left there
 module _ (t w : List ℕ) (i : ℕ) (k : length w ≡ length (take (i * 4392 + 4392 - i * 4392) (drop (i * 4392) t))) where
-  pub begun-at : (a : List ℕ) → (i < slots t) × (length a ≤ addressRoom) → w ≡ slotOf (newcomer a)
+  pub begun-at : (a : List ℕ) → i < slots t → w ≡ slotOf (newcomer a)
       → take (i * 4392) t ++ (w ++ drop (i * 4392 + 4392 - i * 4392) (drop (i * 4392) t)) ≡ withSlot t i (slotOf (newcomer a))
-  begun-at a h e = put-slot t i (h .0) w k ∙ rw e
+  begun-at a h e = put-slot t i h w k ∙ rw e
 
   pub seen-at : (date : ℕ) → (i < slots t) × (sound (slotAt t i) ≡ true) → w ≡ slotOf (seenBy date (entryOf (take (i * 4392 + 4392 - i * 4392) (drop (i * 4392) t))))
       → take (i * 4392) t ++ (w ++ drop (i * 4392 + 4392 - i * 4392) (drop (i * 4392) t)) ≡ withSlot t i (slotOf (seenBy date (entryOf (slotAt t i))))

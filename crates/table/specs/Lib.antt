@@ -1,4 +1,4 @@
 pub mod Table
 pub mod Entries
 pub mod Slotwise
-pub mod Digests
+pub mod Tagged

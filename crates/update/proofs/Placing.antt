@@ -5,25 +5,23 @@
 --     put-at, put-nothing                 the table with the entry changed, and where there was no slot
 --     placing                             what `place` asks
 -- Assumes nothing.
-use Prim.Native.Nat.{ℕ, _<_, _≤_}
+use Prim.Native.Nat.{ℕ}
 use mathlib.Core.Path.{_≡_, sym, _∙_}
 use mathlib.Core.Bool.{true}
 use mathlib.Core.List.{List}
-use native.Mathlib.Omega.{arith}
 use borrow.Author.Needs.{needs}
 use mir.Syntax.{w8}
 use mir.Val.{Fits}
-use lib.ListN.{length, getD}
+use lib.ListN.{getD}
 use Rattle.octets.specs.Octets.{AllOctets}
 use Rattle.octets.proofs.Lists.{given-octets}
 use Rattle.address.specs.Address.{isCanonical}
-use Rattle.slots.specs.Slot.{addressRoom}
 use Rattle.heads.specs.Entry.{Entry, newcomer}
 use Rattle.slots.specs.Entry.{entryOf, slotOf, Good}
-use Rattle.heads.proofs.Entries.{canonical-most}
 use Rattle.slots.proofs.Made.{slot-octets}
 use Rattle.heads.proofs.Goodness.{good-newcomer}
-use Rattle.table.specs.Table.{slots, slotAt, withSlot, found, lowestFree, checked}
+use Rattle.table.specs.Table.{slotAt, withSlot, found, lowestFree, checked}
+use Rattle.table.specs.Tagged.{Tagged, Open, Begins}
 use Rattle.table.specs.declared.Checked.the-variants.{Sound}
 use Rattle.table.specs.declared.Found.{Found}
 use Rattle.table.specs.declared.Found.the-variants.{At, Nothing}
@@ -97,6 +95,11 @@ module _ (t a : List ℕ) (f : Found) (ef : f ≡ found t a) where
       pub new-table : (u : List ℕ) → u ≡ withSlot t i (slotOf (newcomer a)) → u ≡ begun t a
       new-table u e = e ∙ sym (begun-new t a (sym ef ∙ en) i (sym eg ∙ ei))
 
+      pub new-open : (u tags tags₂ : List ℕ) → u ≡ withSlot t i (slotOf (newcomer a)) → Tagged u tags₂ → Open t tags → isCanonical a ≡ true
+          → ((j : ℕ) → Fits w8 (getD a j 0)) → Open u tags₂
+      new-open u tags tags₂ e h s c o =
+          record { sound = rw (new-table u e) (begun-sound t a c (given-octets a o) (s .sound)); tagged = h }
+
     module _ (ei : g ≡ Nothing) where
       pub full-place : Nothing ≡ found (begun t a) a
       full-place = rw (begun-full t a (sym ef ∙ en) (sym eg ∙ ei)) (sym en ∙ ef)
@@ -104,10 +107,8 @@ module _ (t a : List ℕ) (f : Found) (ef : f ≡ found t a) where
       pub full-table : t ≡ begun t a
       full-table = sym (begun-full t a (sym ef ∙ en) (sym eg ∙ ei))
 
-pub free-within : (t : List ℕ) (i : ℕ) (g : Found) → g ≡ lowestFree t → g ≡ At i → i < slots t
-free-within t i g eg ei = free-at t i (sym eg ∙ ei) .0
+-- what `begin` asks for, and the table that it leaves
+pub begin-asks : (t tags a : List ℕ) (i : ℕ) (g : Found) → g ≡ lowestFree t → g ≡ At i → Open t tags → isCanonical a ≡ true → Begins t tags i a
+begin-asks t tags a i g eg ei o c = record { within = free-at t i (sym eg ∙ ei) .0; canonical = c; tagged = o .tagged }
 
-pub address-fits : (a : List ℕ) → isCanonical a ≡ true → length a ≤ addressRoom
-address-fits a c = omega (arith, canonical-most a c)
-
-pub ruleset placing = (own-place, own-table, new-place, new-table, full-place, full-table, free-within, address-fits, needs)
+pub ruleset placing = (own-place, own-table, new-place, new-table, new-open, full-place, full-table, begin-asks, needs)

@@ -4,9 +4,10 @@
 --     hasPlace                       an entry of its own, or a free slot
 --     begun-entry, begun-other       the entries once that of the address is begun
 --     put-sound, put-octets          the table stays sound, and its octets octets
+--     put-open                       and the tags that it was begun with its tags
 --     put-own, put-other             the entry of the address, and any other
 --     put-entry                      both in one
---     keyless-sound .. heard-sound   sound behind each of the three writers
+--     keyless-open .. heard-open     sound behind each of the three writers, with its tags
 -- Assumes nothing.
 use Prim.Native.Nat.{ℕ, _<_, _≤_}
 use mathlib.Core.Path.{_≡_, refl, sym, ap, _∙_}
@@ -28,14 +29,16 @@ use Rattle.slots.proofs.Made.{slot-octets, slot-long, entry-back}
 use Rattle.heads.proofs.Goodness.{good-newcomer, good-seen-by, good-with-gossip}
 use Rattle.table.specs.Table.{slots, slotAt, withSlot, found, lowestFree, isAt, checked, hasAddress}
 use Rattle.table.specs.Entries.{entryIn}
+use Rattle.table.specs.Tagged.{Open}
 use Rattle.table.specs.declared.Checked.the-variants.{Sound}
 use Rattle.table.specs.declared.Found.the-variants.{At}
 use Rattle.table.proofs.Slots.{slot-same}
-use Rattle.table.proofs.Finding.{found-at, found-address, free-at}
+use Rattle.table.proofs.Finding.{found-at, found-used, found-address, free-at}
 use Rattle.table.proofs.Keeping.{table-sound, others-not, write-own}
 use Rattle.table.proofs.Replaced.{written-octets, entry-written, entry-kept}
 use Rattle.table.proofs.Entries.{entry-at, entry-nothing, found-good}
 use Rattle.table.proofs.Lowest.{by-found}
+use Rattle.table.proofs.Tags.{tagged-kept}
 use Rattle.update.specs.Update.{younger, withField, updated, youngerGossip, heard, begun, put}
 use Rattle.update.specs.Message.{entryPut, GoodBrought}
 use Rattle.update.proofs.Placing.{begun-own, begun-new, begun-full, begun-found, begun-sound, begun-octets, put-at, put-nothing}
@@ -154,6 +157,20 @@ module _ (t a : List ℕ) (c : isCanonical a ≡ true) (p : AllOctets a) where
         (write-own (begun t a) (table-sound (begun t a) begun-is-sound) (change (entryOf (slotAt (begun t a) i))) (changed-good i f) i (rw (changed-address i f) f)))
         (λ f. rw (put-nothing t a change f) begun-is-sound)
 
+    pub put-open : (tags : List ℕ) → Open (begun t a) tags → Open (put t a change) tags
+    put-open tags h =
+        record {
+          sound = put-sound;
+          tagged =
+              by-found (found (begun t a) a)
+              (λ i f.
+              rw (put-at t a change i f)
+              (tagged-kept (begun t a) tags (h .tagged) i (found-at (begun t a) a i f .0) (change (entryOf (slotAt (begun t a) i))) (changed-good i f)
+              (found-used (begun t a) a i f)
+              (found-address (begun t a) a i f ∙ sym (changed-address i f))))
+              (λ f. rw (put-nothing t a change f) (h .tagged));
+        }
+
     pub put-octets : AllOctets (put t a change)
     put-octets =
         by-found (found (begun t a) a)
@@ -198,9 +215,10 @@ module _ (t a : List ℕ) (c : isCanonical a ≡ true) (p : AllOctets a) where
         (λ q. rw (entryPut, q) (put-other b q))
 
 -- the changes of the three writers
-module _ (t a : List ℕ) (c : isCanonical a ≡ true) (p : AllOctets a) (s : checked t ≡ Sound) (o : AllOctets t) (date : ℕ) (h : date ≤ timeLimit) where
-  pub keyless-sound : checked (put t a (updated date none)) ≡ Sound
-  keyless-sound = put-sound t a c p (updated date none) (keeps-updated date h none tt) s o
+module _ (t a : List ℕ) (c : isCanonical a ≡ true) (p : AllOctets a) (s : checked t ≡ Sound) (o : AllOctets t) (date : ℕ) (h : date ≤ timeLimit)
+    (tags : List ℕ) (w : Open (begun t a) tags) where
+  pub keyless-open : Open (put t a (updated date none)) tags
+  keyless-open = put-open t a c p (updated date none) (keeps-updated date h none tt) s o tags w
 
   module _ (key : List ℕ) (k₁ : 1 ≤ length key) (k₂ : length key ≤ keyLimit) (k₃ : AllOctets key) where
     good-key : GoodKey key
@@ -209,8 +227,8 @@ module _ (t a : List ℕ) (c : isCanonical a ≡ true) (p : AllOctets a) (s : ch
     keeps-keyed : (m : Bool) → Keeps (updated date (some (record { timestamp = date; key = key; «mutual» = m })))
     keeps-keyed m = keeps-updated date h (some (record { timestamp = date; key = key; «mutual» = m })) (record { dated = refl; key = good-key })
 
-    pub keyed-sound : (m : Bool) → checked (put t a (updated date (some (record { timestamp = date; key = key; «mutual» = m })))) ≡ Sound
-    keyed-sound m = put-sound t a c p (updated date (some (record { timestamp = date; key = key; «mutual» = m }))) (keeps-keyed m) s o
+    pub keyed-open : (m : Bool) → Open (put t a (updated date (some (record { timestamp = date; key = key; «mutual» = m })))) tags
+    keyed-open m = put-open t a c p (updated date (some (record { timestamp = date; key = key; «mutual» = m }))) (keeps-keyed m) s o tags w
 
-    pub heard-sound : checked (put t a (heard date key)) ≡ Sound
-    heard-sound = put-sound t a c p (heard date key) (keeps-heard date h key good-key) s o
+    pub heard-open : Open (put t a (heard date key)) tags
+    heard-open = put-open t a c p (heard date key) (keeps-heard date h key good-key) s o tags w

@@ -1,5 +1,5 @@
 // Where a message is put: the sender's entry and those of the addresses that it has gossip about, each in its own slot
-// or in the lowest free one. What is right is said by specs/Update.antt.
+// or in the lowest free one. What is right is said by specs/Update.antt. The tags that the table was opened with stay its tags.
 ghost use Prim.Native.Nat.{_≤_, _<_};
 ghost use mathlib.Core.Path.{_≡_};
 ghost use mathlib.Core.Bool.{true};
@@ -10,22 +10,24 @@ ghost use Rattle.heads.specs.Head.{timeLimit};
 ghost use Rattle.slots.specs.Slot.{keyLimit, sound};
 ghost use Rattle.heads.specs.Entry.{seenBy, withDirect};
 ghost use Rattle.slots.specs.Entry.{entryOf, slotOf};
-ghost use Rattle.table.specs.Table.{slots, slotAt, withSlot, checked, found};
-ghost use Rattle.table.specs.declared.Checked.the-variants.{Sound};
+ghost use Rattle.table.specs.Table.{slots, slotAt, withSlot, found};
+ghost use Rattle.table.specs.Tagged.{Open};
 ghost use Rattle.update.specs.Update.{younger, updated, youngerGossip, heard, begun, put};
+use slots::Slot;
 use table::Found;
 
 // The slot of an address, begun in the lowest free one where it has none.
-fn place(table: &mut [u8], address: &[u8]) -> Found
-    requires { ⌜ (checked (now table) ≡ Sound) × (isCanonical (now address) ≡ true) ⌝ }
+fn place(table: &mut [u8], tags: &mut [u32; Slot::MOST], address: &[u8]) -> Found
+    requires { ⌜ Open (now table) (now tags) × (isCanonical (now address) ≡ true) ⌝ }
     ensures { λ r. ⌜ r ≡ found (begun (now (table .entry)) (now (address .entry))) (now (address .entry)) ⌝ }
     ensures { λ _. ⌜ now (table .exit) ≡ begun (now (table .entry)) (now (address .entry)) ⌝ }
+    ensures { λ _. ⌜ Open (now (table .exit)) (now (tags .exit)) ⌝ }
 {
-    match table::find(table, address) {
+    match lookup::find(table, tags, address) {
         Found::At(i) => Found::At(i),
         Found::Nothing => match table::lowest_free(table) {
             Found::At(i) => {
-                table::begin(table, i, address);
+                table::begin(table, tags, i, address);
                 Found::At(i)
             }
             Found::Nothing => Found::Nothing,
@@ -52,12 +54,12 @@ fn has_younger_gossip(table: &[u8], i: usize, date: u64) -> bool
 }
 
 // A message of the sender without a field that counts: it only raises last seen.
-pub fn update_keyless(table: &mut [u8], sender: &[u8], date: u64)
-    requires { ⌜ (checked (now table) ≡ Sound) × (isCanonical (now sender) ≡ true) × (date ≤ timeLimit) ⌝ }
+pub fn update_keyless(table: &mut [u8], tags: &mut [u32; Slot::MOST], sender: &[u8], date: u64)
+    requires { ⌜ Open (now table) (now tags) × (isCanonical (now sender) ≡ true) × (date ≤ timeLimit) ⌝ }
     ensures { λ _. ⌜ now (table .exit) ≡ put (now (table .entry)) (now (sender .entry)) (updated date none) ⌝ }
-    ensures { λ _. ⌜ checked (now (table .exit)) ≡ Sound ⌝ }
+    ensures { λ _. ⌜ Open (now (table .exit)) (now (tags .exit)) ⌝ }
 {
-    match place(table, sender) {
+    match place(table, tags, sender) {
         Found::At(i) => {
             if !has_younger(table, i, date) {
                 table::raise_seen(table, i, date);
@@ -79,14 +81,21 @@ fn set_field(table: &mut [u8], i: usize, date: u64, key: &[u8], mutual: bool)
 }
 
 // A message of the sender with a field that counts.
-pub fn update_with_key(table: &mut [u8], sender: &[u8], date: u64, key: &[u8], mutual: bool)
-    requires { ⌜ (checked (now table) ≡ Sound) × (isCanonical (now sender) ≡ true) × (date ≤ timeLimit)
+pub fn update_with_key(
+    table: &mut [u8],
+    tags: &mut [u32; Slot::MOST],
+    sender: &[u8],
+    date: u64,
+    key: &[u8],
+    mutual: bool,
+)
+    requires { ⌜ Open (now table) (now tags) × (isCanonical (now sender) ≡ true) × (date ≤ timeLimit)
         × (1 ≤ length (now key)) × (length (now key) ≤ keyLimit) ⌝ }
     ensures { λ _. ⌜ now (table .exit) ≡ put (now (table .entry)) (now (sender .entry))
         (updated date (some (record { timestamp = date; key = now (key .entry); «mutual» = «mutual» }))) ⌝ }
-    ensures { λ _. ⌜ checked (now (table .exit)) ≡ Sound ⌝ }
+    ensures { λ _. ⌜ Open (now (table .exit)) (now (tags .exit)) ⌝ }
 {
-    match place(table, sender) {
+    match place(table, tags, sender) {
         Found::At(i) => {
             if !has_younger(table, i, date) {
                 set_field(table, i, date, key, mutual);
@@ -97,13 +106,13 @@ pub fn update_with_key(table: &mut [u8], sender: &[u8], date: u64, key: &[u8], m
 }
 
 // Gossip about an address.
-pub fn hear(table: &mut [u8], address: &[u8], date: u64, key: &[u8])
-    requires { ⌜ (checked (now table) ≡ Sound) × (isCanonical (now address) ≡ true) × (date ≤ timeLimit)
+pub fn hear(table: &mut [u8], tags: &mut [u32; Slot::MOST], address: &[u8], date: u64, key: &[u8])
+    requires { ⌜ Open (now table) (now tags) × (isCanonical (now address) ≡ true) × (date ≤ timeLimit)
         × (1 ≤ length (now key)) × (length (now key) ≤ keyLimit) ⌝ }
     ensures { λ _. ⌜ now (table .exit) ≡ put (now (table .entry)) (now (address .entry)) (heard date (now (key .entry))) ⌝ }
-    ensures { λ _. ⌜ checked (now (table .exit)) ≡ Sound ⌝ }
+    ensures { λ _. ⌜ Open (now (table .exit)) (now (tags .exit)) ⌝ }
 {
-    match place(table, address) {
+    match place(table, tags, address) {
         Found::At(i) => {
             if !has_younger_gossip(table, i, date) {
                 table::set_gossip(table, i, date, key);

@@ -6,11 +6,8 @@ use Rattle.advice.proofs.Advising.{advising}
 locate-requires : tie.Need-locate-requires
 locate-requires c κs = search advising
 
-enum-known-i : tie.Need-enum-known-i
-enum-known-i c = search advising
-
-numbers-requires : tie.Need-numbers-requires
-numbers-requires c κs = search advising
+enum-known-numbers : tie.Need-enum-known-numbers
+enum-known-numbers c = search advising
 
 rate-requires : tie.Need-rate-requires
 rate-requires c κs = search advising
@@ -32,8 +29,7 @@ advise-spec =
     tie.close
     (tie.spec
     locate-requires
-    enum-known-i
-    numbers-requires
+    enum-known-numbers
     rate-requires
     raise-requires
     enum-told

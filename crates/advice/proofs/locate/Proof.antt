@@ -12,17 +12,17 @@ canonical-requires c κs = search locating
 enum-known-n : tie.Need-enum-known-n
 enum-known-n c = search locating
 
-sub-find : tie.Need-sub-find
-sub-find c = search locating
+sub-entry-of : tie.Need-sub-entry-of
+sub-entry-of c = search locating
 
-part-find-start : tie.Need-part-find-start
-part-find-start c = search locating
+part-entry-of-start : tie.Need-part-entry-of-start
+part-entry-of-start c = search locating
 
-part-find-end : tie.Need-part-find-end
-part-find-end c = search locating
+part-entry-of-end : tie.Need-part-entry-of-end
+part-entry-of-end c = search locating
 
-find-requires : tie.Need-find-requires
-find-requires c κs = search locating
+entry-of-requires : tie.Need-entry-of-requires
+entry-of-requires c κs = search locating
 
 enum-told : tie.Need-enum-told
 enum-told c = search locating
@@ -40,10 +40,10 @@ locate-spec =
     slice-aggregate-canonical
     canonical-requires
     enum-known-n
-    sub-find
-    part-find-start
-    part-find-end
-    find-requires
+    sub-entry-of
+    part-entry-of-start
+    part-entry-of-end
+    entry-of-requires
     enum-told
     returns
     returns-2)

@@ -6,10 +6,10 @@ use Rattle.advice.proofs.overall_advice.Tie as tie
 use Rattle.advice.proofs.Overall.{Lowest, lowering}
 
 abbrev Inv-loop : tie.InvT-loop
-Inv-loop table recipients «mutual» reply least₀ here₀ least here = Lowest table recipients «mutual» reply least here
+Inv-loop table tags recipients «mutual» reply least₀ here₀ least here = Lowest table recipients «mutual» reply least here
 
 abbrev μ-loop : tie.MeasureT-loop
-μ-loop table recipients «mutual» reply least₀ here₀ least here = length recipients - here .at
+μ-loop table tags recipients «mutual» reply least₀ here₀ least here = length recipients - here .at
 
 start-requires : tie.Need-start-requires Inv-loop μ-loop
 start-requires c κs = search lowering

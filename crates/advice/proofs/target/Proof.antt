@@ -6,11 +6,8 @@ use Rattle.advice.proofs.Targets.{targeting}
 locate-requires : tie.Need-locate-requires
 locate-requires c κs = search targeting
 
-enum-known-i : tie.Need-enum-known-i
-enum-known-i c = search targeting
-
-numbers-requires : tie.Need-numbers-requires
-numbers-requires c κs = search targeting
+enum-known-numbers : tie.Need-enum-known-numbers
+enum-known-numbers c = search targeting
 
 key-part-requires : tie.Need-key-part-requires
 key-part-requires c κs = search targeting
@@ -27,11 +24,4 @@ returns-2 c = search targeting
 pub target-spec : {M : Type 1} → statement M
 target-spec =
     tie.close
-    (tie.spec
-    locate-requires
-    enum-known-i
-    numbers-requires
-    key-part-requires
-    enum-told
-    returns
-    returns-2)
+    (tie.spec locate-requires enum-known-numbers key-part-requires enum-told returns returns-2)

@@ -6,10 +6,10 @@ use Rattle.advice.proofs.target_at.Tie as tie
 use Rattle.advice.proofs.Targets.{Reaches, reaching}
 
 abbrev Inv-loop : tie.InvT-loop
-Inv-loop table recipients place left₀ here₀ left here = Reaches table recipients place left here
+Inv-loop table tags recipients place left₀ here₀ left here = Reaches table recipients place left here
 
 abbrev μ-loop : tie.MeasureT-loop
-μ-loop table recipients place left₀ here₀ left here = length recipients - here .at
+μ-loop table tags recipients place left₀ here₀ left here = length recipients - here .at
 
 start-requires : tie.Need-start-requires Inv-loop μ-loop
 start-requires c κs = search reaching

@@ -4,8 +4,8 @@ use Rattle.recommend.proofs.admit.Statement.{statement}
 use Rattle.recommend.proofs.admit.Tie as tie
 use Rattle.recommend.proofs.Recommending.{admitting}
 
-check-requires : tie.Need-check-requires
-check-requires c κs = search admitting
+open-table-requires : tie.Need-open-table-requires
+open-table-requires c κs = search admitting
 
 enum-told : tie.Need-enum-told
 enum-told c = search admitting
@@ -32,7 +32,7 @@ pub admit-spec : {M : Type 1} → statement M
 admit-spec =
     tie.close
     (tie.spec
-    check-requires
+    open-table-requires
     enum-told
     is-recipient-list-requires
     returns

@@ -1,7 +1,11 @@
--- `table::begin` meets its contract: the laws of `Slots` answer every need. Assumes nothing.
+-- `table::begin` meets its contract: the laws of `Tags` and `Slots` answer every need. Assumes nothing.
 use Rattle.table.proofs.Slots.{lending}
+use Rattle.table.proofs.Tags.{begin-low, begin-room, begin-tagged}
 use Rattle.table.proofs.begin.Statement.{statement}
 use Rattle.table.proofs.begin.Tie as tie
+
+put-tag-requires : tie.Need-put-tag-requires
+put-tag-requires c κs = search (begin-low, lending)
 
 mul-at : tie.Need-mul-at
 mul-at c = search lending
@@ -19,18 +23,19 @@ part-begin-end : tie.Need-part-begin-end
 part-begin-end c = search lending
 
 begin-requires : tie.Need-begin-requires
-begin-requires c κs = search lending
+begin-requires c κs = (search lending, search (begin-room, lending))
 
 same-length : tie.Need-same-length
 same-length c = search lending
 
 returns : tie.Need-returns
-returns c = search lending
+returns c = (search lending, search (begin-tagged, lending))
 
 pub begin-spec : {M : Type 1} → statement M
 begin-spec =
     tie.close
     (tie.spec
+    put-tag-requires
     mul-at
     add-begin
     sub-begin

@@ -1,8 +1,8 @@
--- `update::hear` meets its contract: the laws of `Writing` answer every need. Assumes nothing.
+-- `update::hear` meets its contract: the laws of `Kept` and `Writing` answer every need. Assumes nothing.
 use Rattle.update.proofs.hear.Statement.{statement}
 use Rattle.update.proofs.hear.Tie as tie
-use Rattle.update.proofs.Writing.{hearing}
 use Rattle.update.proofs.Kept.{keeping}
+use Rattle.update.proofs.Writing.{hearing}
 
 place-requires : tie.Need-place-requires
 place-requires c κs = search hearing

@@ -28,19 +28,19 @@ same-length : tie.Need-same-length
 same-length c = search placing
 
 returns : tie.Need-returns
-returns c = search placing
+returns c = (search placing, (search placing, search placing))
 
 same-length-2 : tie.Need-same-length-2
 same-length-2 c = search placing
 
 returns-2 : tie.Need-returns-2
-returns-2 c = search placing
+returns-2 c = (search placing, (search placing, search placing))
 
 same-length-3 : tie.Need-same-length-3
 same-length-3 c = search placing
 
 returns-3 : tie.Need-returns-3
-returns-3 c = search placing
+returns-3 c = (search placing, (search placing, search placing))
 
 pub place-spec : {M : Type 1} → statement M
 place-spec =

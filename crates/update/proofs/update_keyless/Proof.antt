@@ -1,8 +1,8 @@
--- `update::update_keyless` meets its contract: the laws of `Writing` answer every need. Assumes nothing.
+-- `update::update_keyless` meets its contract: the laws of `Kept` and `Writing` answer every need. Assumes nothing.
 use Rattle.update.proofs.update_keyless.Statement.{statement}
 use Rattle.update.proofs.update_keyless.Tie as tie
-use Rattle.update.proofs.Writing.{seeing}
 use Rattle.update.proofs.Kept.{keeping}
+use Rattle.update.proofs.Writing.{seeing}
 
 place-requires : tie.Need-place-requires
 place-requires c κs = search seeing

@@ -1,8 +1,8 @@
--- `update::update_with_key` meets its contract: the laws of `Writing` answer every need. Assumes nothing.
+-- `update::update_with_key` meets its contract: the laws of `Kept` and `Writing` answer every need. Assumes nothing.
 use Rattle.update.proofs.update_with_key.Statement.{statement}
 use Rattle.update.proofs.update_with_key.Tie as tie
-use Rattle.update.proofs.Writing.{keying}
 use Rattle.update.proofs.Kept.{keeping}
+use Rattle.update.proofs.Writing.{keying}
 
 place-requires : tie.Need-place-requires
 place-requires c κs = search keying
