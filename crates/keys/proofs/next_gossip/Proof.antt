@@ -63,7 +63,7 @@ loop-less : tie.Need-loop-less Inv-loop μ-loop
 loop-less c = search hearing
 
 loop-again : tie.Need-loop-again Inv-loop μ-loop
-loop-again c = search hearing
+loop-again c = (search hearing, search hearing, search hearing, search hearing)
 
 enum-told-2 : tie.Need-enum-told-2 Inv-loop μ-loop
 enum-told-2 c = search hearing

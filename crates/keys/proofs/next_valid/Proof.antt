@@ -56,7 +56,7 @@ loop-less : tie.Need-loop-less Inv-loop μ-loop
 loop-less c = search trying
 
 loop-again : tie.Need-loop-again Inv-loop μ-loop
-loop-again c = search trying
+loop-again c = (search trying, search trying, search trying)
 
 enum-told-2 : tie.Need-enum-told-2 Inv-loop μ-loop
 enum-told-2 c = search trying
