@@ -15,7 +15,7 @@ use mathlib.Core.Option.{Option, some, none}
 use lib.ListN.{length, take, drop}
 use Rattle.address.specs.Address.{plain, canonical}
 use Rattle.attributes.specs.Answers.{part, Within}
-use Rattle.keyfield.specs.Field.{Step, on, last, spoils, Said, Field, mutualBy, saidOf, keyOf, fieldOf}
+use Rattle.keyfield.specs.Field.{Step, on, last, spoils, Said, mutualBy, saidOf, keyOf, fieldOf}
 use Rattle.keyfield.specs.declared.AddressAt.{AddressAt}
 use Rattle.keyfield.specs.declared.AddressAt.the-variants.{Unseen, At}
 use Rattle.keyfield.specs.declared.Preference.{Preference}

@@ -24,7 +24,7 @@ use Rattle.address.proofs.Spelling.{canonical-most, plain-is-canonical}
 use Rattle.addresslist.specs.List.{among}
 use Rattle.slots.specs.Slot.{addressRoom}
 use Rattle.attributes.specs.Answers.{part}
-use Rattle.keyfield.specs.Field.{Field, fieldOf}
+use Rattle.keyfield.specs.Field.{Field}
 use Rattle.keyfield.specs.Answers.{ReadAt, ReadAs}
 use Rattle.keyfield.specs.declared.Read.{Read}
 use Rattle.keyfield.specs.declared.Read.the-variants.{Valid, Spoiled}

@@ -2,7 +2,7 @@
 --     try-begin .. try-found       the loop's steps
 --     valid-at, valid-none         what a caller asks of the answer
 -- Assumes nothing.
-use Prim.Native.Nat.{ℕ, _-_, _≤_}
+use Prim.Native.Nat.{ℕ, _-_}
 use mathlib.Core.Path.{_≡_}
 use mathlib.Core.Bool.{Bool}
 use mathlib.Core.List.{List, []}
