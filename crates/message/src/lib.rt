@@ -44,7 +44,8 @@ pub enum Judged {
 fn judge_payload(payload: &[u8], settings: Settings) -> Judged
     ensures { λ r. ⌜ JudgedAs false (now (payload .entry)) (settings .gossip) r ⌝ }
 {
-    if !settings::is_taken(settings.gossip) {
+    let gossip = settings.gossip;
+    if !settings::is_taken(gossip) {
         return Judged::Passed;
     }
     if payload.len() == 0 {
@@ -94,6 +95,31 @@ fn bring(
     }
 }
 
+// Refusals 6 and 7, with the sender known, and what his message brings.
+fn read_sent(
+    receipt: u64,
+    outer: &[u8],
+    survey: Survey,
+    payload: &[u8],
+    settings: Settings,
+    text: &mut [u8],
+    sender: &[u8],
+    key: &mut [u8],
+) -> Reading
+    requires { ⌜ Sent receipt (now outer) survey (now text) (now sender) (now key) ⌝ }
+    ensures { λ r. ⌜ ReadAs receipt (now (outer .entry)) (now (payload .entry)) (settings .gossip) (now (sender .entry)) (now (key .exit)) r ⌝ }
+{
+    match judge(outer, survey, payload, settings, text) {
+        Judged::Report => Reading::Refused(Refusal::Report),
+        Judged::Unreadable => Reading::Refused(Refusal::PayloadBlock),
+        Judged::Passed => Reading::Alone(bring(receipt, outer, survey, text, sender, key)),
+        Judged::Searched => Reading::Carrying(
+            bring(receipt, outer, survey, text, sender, key),
+            survey,
+        ),
+    }
+}
+
 // Refusals 5 to 7, with the outer block walked over.
 fn read_on(
     receipt: u64,
@@ -109,17 +135,16 @@ fn read_on(
     ensures { λ r. ⌜ ReadAs receipt (now (outer .entry)) (now (payload .entry)) (settings .gossip) (now (sender .exit)) (now (key .exit)) r ⌝ }
 {
     match outer::sender_of(outer, survey, text, sender) {
-        Sender::Address(n) => match judge(outer, survey, payload, settings, text) {
-            Judged::Report => Reading::Refused(Refusal::Report),
-            Judged::Unreadable => Reading::Refused(Refusal::PayloadBlock),
-            Judged::Passed => Reading::Alone(
-                bring(receipt, outer, survey, text, &sender[0..n], key),
-            ),
-            Judged::Searched => Reading::Carrying(
-                bring(receipt, outer, survey, text, &sender[0..n], key),
-                survey,
-            ),
-        },
+        Sender::Address(n) => read_sent(
+            receipt,
+            outer,
+            survey,
+            payload,
+            settings,
+            text,
+            &sender[0..n],
+            key,
+        ),
         Sender::NotOne => Reading::Refused(Refusal::Sender),
     }
 }
