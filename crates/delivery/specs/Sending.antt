@@ -1,5 +1,5 @@
 -- What the writing of a message asks for.
---     Spreads     a table, a date, and a payload with a text for its values
+--     Listens     a table, a date, and a payload with a text for its values
 --     Sends       a table, and what a message brings to it
 --     Carries     .. and a payload with a text for its values
 use Prim.Native.Nat.{ℕ, _≤_}
@@ -12,7 +12,7 @@ use Rattle.message.specs.Answers.{Ready}
 use Rattle.message.specs.declared.Brought.{Brought}
 use Rattle.room.specs.Counting.{Reads}
 
-pub record Spreads (t : List ℕ) (date : ℕ) (payload text : List ℕ) : Type 0 where
+pub record Listens (t : List ℕ) (date : ℕ) (payload text : List ℕ) : Type 0 where
   pub sound : checked t ≡ Sound
   pub in-range : date ≤ timeLimit
   pub reads : Reads payload text

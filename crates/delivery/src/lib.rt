@@ -10,7 +10,7 @@ ghost use Rattle.update.specs.Message.{heardAll, applied};
 ghost use Rattle.keys.specs.Answers.{gossipOf};
 ghost use Rattle.message.specs.Answers.{directFrom, mailOf};
 ghost use Rattle.delivery.specs.Delivery.{roomRows, delivered};
-ghost use Rattle.delivery.specs.Sending.{Spreads, Sends, Carries};
+ghost use Rattle.delivery.specs.Sending.{Listens, Sends, Carries};
 use keyowner::Own;
 use keys::Heard;
 use message::Brought;
@@ -20,7 +20,7 @@ use slots::Slot;
 
 // Puts the gossip of the payload into the table, field by field.
 fn hear_all(table: &mut [u8], date: u64, payload: &[u8], recipients: &[u8], text: &mut [u8])
-    requires { ⌜ Spreads (now table) date (now payload) (now text) ⌝ }
+    requires { ⌜ Listens (now table) date (now payload) (now text) ⌝ }
     ensures { λ _. ⌜ now (table .exit) ≡ heardAll date (gossipOf (now (recipients .entry)) (now (payload .entry))) (now (table .entry)) ⌝ }
 {
     let mut address = [0u8; Slot::ADDRESS_ROOM];
