@@ -47,7 +47,7 @@ slice-aggregate-deliver-carrying : tie.Need-slice-aggregate-deliver-carrying
 slice-aggregate-deliver-carrying c = search telling
 
 deliver-carrying-requires : tie.Need-deliver-carrying-requires
-deliver-carrying-requires c κs = search reading-carrying
+deliver-carrying-requires c κs = search (reading-carrying, c .before .before .before .before .before .before .before .before .before .before .before .before .before .before .before .before .before .before .before .before .pre)
 
 enum-known-refusal : tie.Need-enum-known-refusal
 enum-known-refusal c = search telling
@@ -68,7 +68,7 @@ same-length-4 : tie.Need-same-length-4
 same-length-4 c = search telling
 
 returns-2 : tie.Need-returns-2
-returns-2 c = (search reading-carrying, search reading-carrying)
+returns-2 c = (search (reading-carrying, c .before .before .before .before .before .before .before .before .before .before .before .before .before .before .before .before .before .before .before .before .before .before .before .before .before .pre), search (reading-carrying, c .before .before .before .before .before .before .before .before .before .before .before .before .before .before .before .before .before .before .before .before .before .before .before .before .before .pre))
 
 same-length-5 : tie.Need-same-length-5
 same-length-5 c = search telling
