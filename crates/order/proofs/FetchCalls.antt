@@ -26,8 +26,10 @@ use Rattle.inspect.specs.Inspecting.{tableRows}
 use Rattle.inspect.proofs.Tables.{rows-sound}
 use Rattle.update.specs.Message.{Message, GoodMessage, hasRoom}
 use Rattle.delivery.specs.Delivery.{delivered}
-use Rattle.process.specs.Processing.{messageRows, messageOf, refusedProcessing}
-use Rattle.process.proofs.Outcomes.{in-order, message-good, unsound-first, message-refused, message-fits, message-full, refused-left, done-left}
+use Rattle.message.specs.Message.{messageRows, messageOf}
+use Rattle.message.proofs.InOrder.{in-order, message-good}
+use Rattle.process.specs.Processing.{refusedProcessing}
+use Rattle.process.proofs.Outcomes.{unsound-first, message-refused, message-fits, message-full, refused-left, done-left}
 use Rattle.order.specs.Fetching.{after, fetched, fits, allFit, Agree, Agreeing, SayTheSame}
 use Rattle.order.specs.Calls.{Call, answerTo, leftBy, tableAfter, answers, messageIn, OctetCall}
 use Rattle.order.proofs.Permuting.{permuted-stands}

@@ -57,7 +57,15 @@ fn process_with(
 {
     let mut sender = [0u8; Slot::ADDRESS_ROOM];
     let mut key = [0u8; Slot::KEY_LIMIT];
-    match message::read(receipt, outer, payload, settings, text, &mut sender, &mut key) {
+    match message::read(
+        receipt,
+        outer,
+        payload,
+        settings,
+        text,
+        &mut sender,
+        &mut key,
+    ) {
         Reading::Alone(brought) => {
             let n = brought.sender;
             delivery::deliver_alone(table, brought, &sender[0..n], &key)
