@@ -2,4 +2,3 @@ pub mod Fronts
 pub mod Spreading
 pub mod Updating
 pub mod Delivering
-pub mod Good

@@ -25,7 +25,7 @@ use Rattle.keys.specs.Answers.{gossipFrom, gossipOf, HeardAs}
 use Rattle.keys.specs.declared.Heard.{Heard}
 use Rattle.keys.specs.declared.Heard.the-variants.{Next, Over}
 use Rattle.keys.proofs.GossipFields.{gossip-all, heard-first, heard-canonical, heard-address-within, heard-some-octet, heard-most, heard-within, heard-readable, heard-less, heard-over}
-use Rattle.room.specs.Counting.{Reads}
+use Rattle.delivery.specs.Sending.{Listens}
 use Rattle.delivery.proofs.Fronts.{front-length}
 
 pub record Spreads (date : ℕ) (recipients payload t₀ t : List ℕ) (at : ℕ) : Type 0 where
@@ -34,14 +34,13 @@ pub record Spreads (date : ℕ) (recipients payload t₀ t : List ℕ) (at : ℕ
   pub in-range : date ≤ timeLimit
   pub clear : isSome (fieldsFrom payload at) ≡ true
 
-pub spread-begin :
-    (date : ℕ) (recipients payload text t : List ℕ) → checked t ≡ Sound → date ≤ timeLimit → Reads payload text → Spreads date recipients payload t t 0
-spread-begin date recipients payload text t s h r =
+pub spread-begin : (date : ℕ) (recipients payload text t : List ℕ) → Listens t date payload text → Spreads date recipients payload t t 0
+spread-begin date recipients payload text t h =
     record {
-      so-far = ap (λ (gs : List Gossiped). heardAll date gs t) (sym (gossip-all (unrolled recipients) payload (r .readably)));
-      sound = s;
-      in-range = h;
-      clear = block-begin payload (r .readably);
+      so-far = ap (λ (gs : List Gossiped). heardAll date gs t) (sym (gossip-all (unrolled recipients) payload (h .reads .readably)));
+      sound = h .sound;
+      in-range = h .in-range;
+      clear = block-begin payload (h .reads .readably);
     }
 
 module _ (date : ℕ) (recipients payload t₀ t : List ℕ) (at : ℕ) (h : Spreads date recipients payload t₀ t at) where
@@ -93,5 +92,6 @@ module _ (date : ℕ) (recipients payload t₀ t : List ℕ) (at : ℕ) (h : Spr
             clear = heard-readable (unrolled recipients) payload at address key r p e n k q;
           }
 
-pub ruleset spreading =
-    (spread-begin, spread-sound, spread-date, spread-clear, spread-end, spread-canonical, spread-address, spread-key, spread-some, spread-most, spread-less, spread-on, needs)
+pub ruleset spreading = (spread-begin, spread-clear, spread-address, spread-key, spread-less, needs)
+
+pub ruleset hearing = (spread-sound, spread-date, spread-canonical, spread-some, spread-most, needs)

@@ -23,8 +23,10 @@ use Rattle.inspect.specs.Inspecting.{tableRows}
 use Rattle.inspect.proofs.Tables.{rows-sound}
 use Rattle.update.specs.Message.{Message, GoodMessage, hasRoom}
 use Rattle.delivery.specs.Delivery.{delivered}
-use Rattle.process.specs.Processing.{messageRows, messageOf, refusedProcessing}
-use Rattle.process.proofs.Outcomes.{in-order, message-good, unsound-first, message-refused, message-fits, message-full, refused-left, done-left}
+use Rattle.message.specs.Message.{messageRows, messageOf}
+use Rattle.message.proofs.InOrder.{in-order, message-good}
+use Rattle.process.specs.Processing.{refusedProcessing}
+use Rattle.process.proofs.Outcomes.{unsound-first, message-refused, message-fits, message-full, refused-left, done-left}
 use Rattle.order.specs.Fetching.{slotForm, after, fits, Agree, SayTheSame}
 use Rattle.order.specs.Calls.{Call, OctetCall, leftByAll, answerTo, leftBy, messageIn, slotCalling, tableAfter, answers}
 use Rattle.order.proofs.Forms.{slots-lawful}

@@ -14,7 +14,8 @@ use Rattle.octets.specs.Octets.{AllOctets}
 use Rattle.refusals.specs.Rows.{firstOf, answerOf, unlessRefused}
 use Rattle.refusals.specs.declared.Answer.{Answer}
 use Rattle.update.specs.Message.{Message}
-use Rattle.process.specs.Processing.{messageRows, messageOf, refusedProcessing, leftByProcessing}
+use Rattle.message.specs.Message.{messageRows, messageOf}
+use Rattle.process.specs.Processing.{refusedProcessing, leftByProcessing}
 use Rattle.settings.specs.declared.Gossip.{Gossip}
 
 -- "each with its own receipt time and gossip setting"

@@ -1,2 +1,2 @@
-pub mod Processing
 pub mod Outcomes
+pub mod Processing

@@ -1,32 +1,26 @@
 -- What comes with each answer of processing.
---     InOrder, in-order                  rows 3 to 7 do not hold: what that says of the blocks
---     payload-octets, message-good       the message that is then brought is good
 --     sound-first, unsound-first         with a sound table rows 3 to 8 decide, with another one 1 and 2
 --     message-refused, message-fits, message-full     a sound table: which of 3 to 8 it is, or none
+--     room-first, room-left              .. by row 8 alone, where 3 to 7 do not hold
 --     refused-untouched, done-left       a refusal leaves the table as it was; success leaves the one to which the message was applied
 --     done-sound, done-in-order, done-room     success: the table was sound, no row held, and there was room
 --     index-lowest                       the index with 2 is that of the lowest slot that is neither free nor sound
 --     processed-keeps, processed-octets  a sound table stays sound, whatever the message
 --     done-entry                         success: what the entry of any address is afterwards
 -- Assumes nothing.
-use Prim.Native.Nat.{ℕ, _≤_}
+use Prim.Native.Nat.{ℕ}
 use mathlib.Core.Path.{_≡_, refl, sym, ap, subst, _∙_}
-use mathlib.Core.Bool.{Bool, true, false, not, _&&_}
+use mathlib.Core.Bool.{true, false}
 use mathlib.Core.List.{List, [], _++_}
 use mathlib.Core.Option.{Option, some, none}
-use borrow.Author.Tests.{leb-true, not-false}
-use lib.Dec.{leb}
+use borrow.Author.Tests.{not-false}
 use Rattle.octets.specs.Octets.{AllOctets}
-use Rattle.octets.specs.Options.{Each, isSome, orElse}
 use Rattle.octets.proofs.Tests.{by-test}
-use Rattle.header.specs.Header.{readable}
-use Rattle.header.proofs.Values.{ValuesOctets, block-octets}
 use Rattle.refusals.specs.Rows.{firstOf, answerOf, mentions}
 use Rattle.refusals.specs.declared.Refusal.{Refusal}
-use Rattle.refusals.specs.declared.Refusal.the-variants.{BrokenSlot, ReceiptTime, OuterBlock, Sender, Report, PayloadBlock, NoFreeSlot}
+use Rattle.refusals.specs.declared.Refusal.the-variants.{BrokenSlot, NoFreeSlot}
 use Rattle.refusals.specs.declared.Answer.the-variants.{Done, Refused}
-use Rattle.refusals.proofs.Rows.{by-refusal, first-front, first-rest, none-here, none-rest, none-front, none-behind, front-only, refused-is, done-is, answer-refused, answer-done}
-use Rattle.heads.specs.Head.{timeLimit}
+use Rattle.refusals.proofs.Rows.{by-refusal, first-front, first-rest, none-here, none-front, none-behind, front-only, refused-is, done-is, answer-refused, answer-done}
 use Rattle.table.specs.Table.{checked}
 use Rattle.table.specs.Slotwise.{Broken}
 use Rattle.table.specs.Entries.{entryIn}
@@ -35,59 +29,11 @@ use Rattle.inspect.specs.Inspecting.{tableRows}
 use Rattle.inspect.proofs.Tables.{sound-rows, rows-sound, lowest-broken}
 use Rattle.update.specs.Message.{Message, GoodMessage, hasRoom, applied, entryAfter}
 use Rattle.update.proofs.Applying.{applied-sound, applied-octets, applied-entry}
-use Rattle.fields.specs.Fields.{fieldsIn}
-use Rattle.fields.proofs.Values.{fields-read}
-use Rattle.outer.specs.Outer.{senderIn, isReported}
-use Rattle.delivery.proofs.Good.{message-good as by-blocks}
-use Rattle.settings.specs.Settings.{taken}
-use Rattle.process.specs.Processing.{payloadIn, messageRows, messageOf, roomRows, processingRows, refusedProcessing, leftByProcessing}
 use Rattle.settings.specs.declared.Gossip.{Gossip}
-
--- there is a sender
-sender-there : (o : Option (List ℕ)) → isSome o ≡ true → o ≡ some (orElse [] o)
-unfolding isSome orElse
-sender-there none e = cc
-sender-there (some a) e = refl
-
-pub record InOrder (receipt : ℕ) (outer payload : List ℕ) (g : Gossip) : Type 0 where
-  pub in-time : receipt ≤ timeLimit
-  pub outer-read : readable outer ≡ true
-  pub sent : senderIn (fieldsIn outer) ≡ some (orElse [] (senderIn (fieldsIn outer)))
-  pub no-report : isReported (fieldsIn outer) ≡ false
-  pub payload-read : (taken g && not (readable payload)) ≡ false
-
-module _ (receipt : ℕ) (outer payload : List ℕ) (g : Gossip) where
-  pub in-order : firstOf (messageRows receipt outer payload g) ≡ none → InOrder receipt outer payload g
-  unfolding messageRows
-  in-order e =
-      let behind-three = none-rest ReceiptTime _ _ e in
-      let behind-four = none-rest OuterBlock _ _ behind-three in
-      let behind-five = none-rest Sender _ _ behind-four in
-      let behind-six = none-rest Report _ _ behind-five in
-      record {
-        in-time = leb-true receipt timeLimit (not-false (leb receipt timeLimit) (none-here ReceiptTime _ _ e));
-        outer-read = not-false (readable outer) (none-here OuterBlock _ _ behind-three);
-        sent = sender-there (senderIn (fieldsIn outer)) (not-false (isSome (senderIn (fieldsIn outer))) (none-here Sender _ _ behind-four));
-        no-report = none-here Report _ _ behind-five;
-        payload-read = none-here PayloadBlock _ _ behind-six;
-      }
-
-  module _ (h : InOrder receipt outer payload g) where
-    -- gossip is taken of a readable payload, or of none
-    pub payload-octets : AllOctets payload → ValuesOctets (payloadIn g payload)
-    unfolding payloadIn Each
-    payload-octets v = by-test (taken g) (λ k. rw (payloadIn, k) (taking k)) (λ k. rw (payloadIn, k) tt)
-      where
-        taking : taken g ≡ true → ValuesOctets (fieldsIn payload)
-        taking k =
-            let r : readable payload ≡ true = not-false (readable payload) (subst (λ (x : Bool). (x && not (readable payload)) ≡ false) k (h .payload-read)) in
-            block-octets payload v (fieldsIn payload) (fields-read payload r)
-
-    pub message-good : AllOctets outer → AllOctets payload → GoodMessage (messageOf receipt outer payload g)
-    unfolding messageOf
-    message-good u v =
-        by-blocks receipt (h .in-time) outer u (fieldsIn outer) (fields-read outer (h .outer-read)) (orElse [] (senderIn (fieldsIn outer))) (h .sent)
-        (payloadIn g payload) (payload-octets v)
+use Rattle.message.specs.Message.{messageRows, messageOf}
+use Rattle.message.proofs.InOrder.{InOrder, in-order, message-good}
+use Rattle.delivery.specs.Delivery.{roomRows, delivered}
+use Rattle.process.specs.Processing.{processingRows, refusedProcessing, leftByProcessing}
 
 module _ (t : List ℕ) (receipt : ℕ) (outer payload : List ℕ) (g : Gossip) where
   abbrev refusal : Option Refusal
@@ -104,13 +50,21 @@ module _ (t : List ℕ) (receipt : ℕ) (outer payload : List ℕ) (g : Gossip) 
   unfolding refusedProcessing processingRows
   unsound-first r e = first-front (tableRows t) _ r e
 
+  pub refused-left : (r : Refusal) → refusal ≡ some r → leftByProcessing t receipt outer payload g ≡ t
+  unfolding leftByProcessing
+  refused-left r e = refused-is (λ (x : Refusal). t) (applied t message) refusal r e
+
+  pub done-left : refusal ≡ none → leftByProcessing t receipt outer payload g ≡ applied t message
+  unfolding leftByProcessing
+  done-left e = done-is (λ (x : Refusal). t) (applied t message) refusal e
+
   -- a sound table, by the rows behind
   module _ (s : checked t ≡ Sound) where
     pub message-refused : (r : Refusal) → firstOf (messageRows receipt outer payload g) ≡ some r → refusal ≡ some r
     message-refused r e = sound-first s ∙ first-front (messageRows receipt outer payload g) (roomRows t message) r e
 
     module _ (e : firstOf (messageRows receipt outer payload g) ≡ none) where
-      room-first : refusal ≡ firstOf (roomRows t message)
+      pub room-first : refusal ≡ firstOf (roomRows t message)
       room-first = sound-first s ∙ first-rest (messageRows receipt outer payload g) (roomRows t message) e
 
       pub message-fits : hasRoom t message ≡ true → refusal ≡ none
@@ -120,6 +74,13 @@ module _ (t : List ℕ) (receipt : ℕ) (outer payload : List ℕ) (g : Gossip) 
       pub message-full : hasRoom t message ≡ false → refusal ≡ some NoFreeSlot
       unfolding roomRows firstOf
       message-full h = room-first ∙ rw h
+
+      pub room-left : delivered t message ≡ leftByProcessing t receipt outer payload g
+      unfolding delivered
+      room-left =
+          by-test (hasRoom t message)
+          (λ h. rw (delivered, h) (sym (done-left (message-fits h))))
+          (λ h. rw (delivered, h) (sym (refused-left NoFreeSlot (message-full h))))
 
   -- no row holds
   module _ (e : refusal ≡ none) where
@@ -136,14 +97,6 @@ module _ (t : List ℕ) (receipt : ℕ) (outer payload : List ℕ) (g : Gossip) 
     pub done-room : hasRoom t message ≡ true
     unfolding roomRows
     done-room = not-false (hasRoom t message) (none-here NoFreeSlot _ [] (none-behind (messageRows receipt outer payload g) (roomRows t message) behind-table))
-
-    pub done-left : leftByProcessing t receipt outer payload g ≡ applied t message
-    unfolding leftByProcessing
-    done-left = done-is (λ (x : Refusal). t) (applied t message) refusal e
-
-  pub refused-left : (r : Refusal) → refusal ≡ some r → leftByProcessing t receipt outer payload g ≡ t
-  unfolding leftByProcessing
-  refused-left r e = refused-is (λ (x : Refusal). t) (applied t message) refusal r e
 
   pub refused-untouched : (r : Refusal) → answerOf refusal ≡ Refused r → leftByProcessing t receipt outer payload g ≡ t
   refused-untouched r a = refused-left r (answer-refused refusal r a)

@@ -1,143 +1,110 @@
-// Processing a message: eight tests, one after the other, and then the writing. Each function below makes the tests of its
-// stage and hands on what it found out; what is left to be answered and written is said by specs/Stages.antt.
+// Processing a message: the table is checked, the message is read, and then it is delivered. Each function below answers what is
+// left to be answered and written of the whole call, which is said by specs/Processing.antt.
 ghost use mathlib.Core.Path.{_≡_};
-ghost use Rattle.refusals.specs.Rows.{answerOf};
+ghost use Rattle.refusals.specs.Rows.{firstOf, answerOf};
 ghost use Rattle.table.specs.Table.{checked};
 ghost use Rattle.table.specs.declared.Checked.the-variants.{Sound};
+ghost use Rattle.message.specs.Answers.{mailOf, heardIn};
+ghost use Rattle.delivery.specs.Delivery.{roomRows, delivered};
 ghost use Rattle.process.specs.Processing.{refusedProcessing, leftByProcessing};
-ghost use Rattle.process.specs.Stages.{answerFrom, leftFrom, Opened, Roomy, Sent, Readied, answerWith, leftWith};
+ghost use Rattle.process.specs.Stages.{Roomy, Readied};
 use fields::Survey;
-use fields::Surveyed;
-use heads::Head;
-use outer::Sender;
+use message::Brought;
+use message::Reading;
 use refusals::Answer;
-use refusals::Refusal;
 use settings::Gossip;
+use settings::Settings;
 use slots::Slot;
 
 // Room for the values of most messages. Room has to be cleared before it is lent, and for the longest values that takes more
 // than half as long as all else of a short mail.
 const SHORT: usize = 8192;
 
-// Refusal 8, with the blocks read: the last test of all, before anything is written.
-fn deliver(
+// Refusal 8 for a message with a payload: gossip counts that is about its recipients.
+fn deliver_carrying(
     table: &mut [u8],
-    receipt: u64,
+    brought: Brought,
+    sender: &[u8],
+    key: &[u8],
     outer: &[u8],
     survey: Survey,
     payload: &[u8],
-    sender: &[u8],
     text: &mut [u8],
 ) -> Answer
-    requires { ⌜ Readied (now table) receipt (now outer) survey (now payload) (now text) (now sender) ⌝ }
-    ensures { λ r. ⌜ r ≡ answerWith (now (table .entry)) receipt (now (sender .entry)) (now (outer .entry)) (now (payload .entry)) ⌝ }
-    ensures { λ _. ⌜ now (table .exit) ≡ leftWith (now (table .entry)) receipt (now (sender .entry)) (now (outer .entry)) (now (payload .entry)) ⌝ }
+    requires { ⌜ Readied (now table) brought (now sender) (now key) (now outer) survey (now payload) (now text) ⌝ }
+    ensures { λ r. ⌜ r ≡ answerOf (firstOf (roomRows (now (table .entry))
+        (mailOf (now (sender .entry)) (now (key .entry)) brought (heardIn (now (outer .entry)) (now (payload .entry)))))) ⌝ }
+    ensures { λ _. ⌜ now (table .exit)
+        ≡ delivered (now (table .entry)) (mailOf (now (sender .entry)) (now (key .entry)) brought (heardIn (now (outer .entry)) (now (payload .entry)))) ⌝ }
 {
-    if !delivery::deliver(table, receipt, outer, survey, payload, sender, text) {
-        return Answer::Refused(Refusal::NoFreeSlot);
-    }
-    Answer::Done
+    let mut roll = [0u8; header::LIMIT];
+    let filled = outer::recipients(outer, survey, text, &mut roll);
+    delivery::deliver(table, brought, sender, key, payload, &roll[0..filled], text)
 }
 
-// Refusals 6 and 7, with the sender known. Where gossip is not taken an empty block stands for the payload.
-fn process_from(
-    table: &mut [u8],
-    receipt: u64,
-    outer: &[u8],
-    survey: Survey,
-    payload: &[u8],
-    gossip: Gossip,
-    sender: &[u8],
-    text: &mut [u8],
-) -> Answer
-    requires { ⌜ Sent (now table) receipt (now outer) survey (now payload) (now text) (now sender) ⌝ }
-    ensures { λ r. ⌜ r ≡ answerFrom 3 (now (table .entry)) receipt (now (outer .entry)) (now (payload .entry)) gossip ⌝ }
-    ensures { λ _. ⌜ now (table .exit) ≡ leftFrom 3 (now (table .entry)) receipt (now (outer .entry)) (now (payload .entry)) gossip ⌝ }
-{
-    if outer::is_report(outer, survey, text) {
-        return Answer::Refused(Refusal::Report);
-    }
-    if !settings::is_taken(gossip) {
-        return deliver(table, receipt, outer, survey, &payload[0..0], sender, text);
-    }
-    if !header::readable(payload) {
-        return Answer::Refused(Refusal::PayloadBlock);
-    }
-    deliver(table, receipt, outer, survey, payload, sender, text)
-}
-
-// Refusals 5 to 8, with room for the values of both blocks.
+// Refusals 3 to 8, with room for the values of both blocks.
 fn process_with(
     table: &mut [u8],
     receipt: u64,
     outer: &[u8],
-    survey: Survey,
     payload: &[u8],
-    gossip: Gossip,
+    settings: Settings,
     text: &mut [u8],
 ) -> Answer
-    requires { ⌜ Roomy (now table) receipt (now outer) survey (now payload) (now text) ⌝ }
-    ensures { λ r. ⌜ r ≡ answerFrom 2 (now (table .entry)) receipt (now (outer .entry)) (now (payload .entry)) gossip ⌝ }
-    ensures { λ _. ⌜ now (table .exit) ≡ leftFrom 2 (now (table .entry)) receipt (now (outer .entry)) (now (payload .entry)) gossip ⌝ }
+    requires { ⌜ Roomy (now table) (now outer) (now payload) (now text) ⌝ }
+    ensures { λ r. ⌜ r ≡ answerOf (refusedProcessing (now (table .entry)) receipt (now (outer .entry)) (now (payload .entry)) (settings .gossip)) ⌝ }
+    ensures { λ _. ⌜ now (table .exit) ≡ leftByProcessing (now (table .entry)) receipt (now (outer .entry)) (now (payload .entry)) (settings .gossip) ⌝ }
 {
     let mut sender = [0u8; Slot::ADDRESS_ROOM];
-    match outer::sender_of(outer, survey, text, &mut sender) {
-        Sender::Address(n) => process_from(
-            table,
-            receipt,
-            outer,
-            survey,
-            payload,
-            gossip,
-            &sender[0..n],
-            text,
-        ),
-        Sender::NotOne => Answer::Refused(Refusal::Sender),
+    let mut key = [0u8; Slot::KEY_LIMIT];
+    match message::read(
+        receipt,
+        outer,
+        payload,
+        settings,
+        text,
+        &mut sender,
+        &mut key,
+    ) {
+        Reading::Alone(brought) => {
+            let n = brought.sender;
+            delivery::deliver_alone(table, brought, &sender[0..n], &key)
+        }
+        Reading::Carrying(brought, survey) => {
+            let n = brought.sender;
+            deliver_carrying(
+                table,
+                brought,
+                &sender[0..n],
+                &key,
+                outer,
+                survey,
+                payload,
+                text,
+            )
+        }
+        Reading::Refused(refusal) => Answer::Refused(refusal),
     }
 }
 
-// Refusals 5 to 8, with as much room for values as the blocks need.
-fn process_read(
-    table: &mut [u8],
-    receipt: u64,
-    outer: &[u8],
-    survey: Survey,
-    payload: &[u8],
-    gossip: Gossip,
-) -> Answer
-    requires { ⌜ Opened (now table) receipt (now outer) survey ⌝ }
-    ensures { λ r. ⌜ r ≡ answerFrom 2 (now (table .entry)) receipt (now (outer .entry)) (now (payload .entry)) gossip ⌝ }
-    ensures { λ _. ⌜ now (table .exit) ≡ leftFrom 2 (now (table .entry)) receipt (now (outer .entry)) (now (payload .entry)) gossip ⌝ }
-{
-    if (outer.len() <= SHORT) & (payload.len() <= SHORT) {
-        let mut text = [0u8; SHORT];
-        return process_with(table, receipt, outer, survey, payload, gossip, &mut text);
-    }
-    let mut text = [0u8; header::LIMIT];
-    process_with(table, receipt, outer, survey, payload, gossip, &mut text)
-}
-
-// Refusals 3 and 4, with the table checked.
+// Refusals 3 to 8, with the table checked, and as much room for values as the blocks need.
 fn process_sound(
     table: &mut [u8],
     receipt: u64,
     outer: &[u8],
     payload: &[u8],
-    gossip: Gossip,
+    settings: Settings,
 ) -> Answer
     requires { ⌜ checked (now table) ≡ Sound ⌝ }
-    ensures { λ r. ⌜ r ≡ answerFrom 0 (now (table .entry)) receipt (now (outer .entry)) (now (payload .entry)) gossip ⌝ }
-    ensures { λ _. ⌜ now (table .exit) ≡ leftFrom 0 (now (table .entry)) receipt (now (outer .entry)) (now (payload .entry)) gossip ⌝ }
+    ensures { λ r. ⌜ r ≡ answerOf (refusedProcessing (now (table .entry)) receipt (now (outer .entry)) (now (payload .entry)) (settings .gossip)) ⌝ }
+    ensures { λ _. ⌜ now (table .exit) ≡ leftByProcessing (now (table .entry)) receipt (now (outer .entry)) (now (payload .entry)) (settings .gossip) ⌝ }
 {
-    if Head::TIME_LIMIT < receipt {
-        return Answer::Refused(Refusal::ReceiptTime);
+    if (outer.len() <= SHORT) & (payload.len() <= SHORT) {
+        let mut text = [0u8; SHORT];
+        return process_with(table, receipt, outer, payload, settings, &mut text);
     }
-    match fields::walk(outer) {
-        Surveyed::Readable(survey) => {
-            process_read(table, receipt, outer, survey, payload, gossip)
-        }
-        Surveyed::Unreadable => Answer::Refused(Refusal::OuterBlock),
-    }
+    let mut text = [0u8; header::LIMIT];
+    process_with(table, receipt, outer, payload, settings, &mut text)
 }
 
 // Processes a message: its outer header block, and the header block of its decrypted payload, empty where there is none.
@@ -152,7 +119,7 @@ pub fn process(
     ensures { λ _. ⌜ now (table .exit) ≡ leftByProcessing (now (table .entry)) receipt (now (outer .entry)) (now (payload .entry)) gossip ⌝ }
 {
     match inspect::check(table) {
-        Answer::Done => process_sound(table, receipt, outer, payload, gossip),
+        Answer::Done => process_sound(table, receipt, outer, payload, Settings { gossip }),
         Answer::Refused(refusal) => Answer::Refused(refusal),
     }
 }

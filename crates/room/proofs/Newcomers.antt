@@ -1,6 +1,6 @@
 -- The count of the addresses that are new with a message.
 --     Counts, count-begin .. count-over   the loop over the gossip
---     first-rolls .. first-added          the sender first
+--     first-meets .. first-added          the sender first
 --     alone-own, alone-free               the sender and no other
 -- Assumes nothing.
 use Prim.Native.Nat.{ℕ, _+_, _-_, _^_, _<_, _≤_}
@@ -28,44 +28,41 @@ use Rattle.keys.specs.declared.Heard.{Heard}
 use Rattle.keys.specs.declared.Heard.the-variants.{Next, Over}
 use Rattle.keys.proofs.GossipFields.{gossip-all, heard-first, heard-canonical, heard-address-within, heard-readable, heard-less, heard-over}
 use Rattle.room.specs.Room.{inRoll, gossipedIn, roomBeside}
-use Rattle.room.specs.Counting.{Reads, Rolls, MetAs}
+use Rattle.room.specs.Counting.{Rolls, Meets, MetAs, Seats, Seeks}
 use Rattle.room.specs.declared.Met.{Met}
 use Rattle.room.specs.declared.Met.the-variants.{Known, New, Full}
 use Rattle.room.proofs.Beside.{beside-over, beside-known, beside-new, beside-full}
-use Rattle.room.proofs.Meeting.{told-found, told-held, rolls-begin, met-known, met-full, met-added, met-same, met-rolls}
+use Rattle.room.proofs.Meeting.{told-found, told-held, rolls-begin, met-known, met-full, met-added, met-same, met-left, met-rolls}
 
 -- the addresses of the gossip from a place of the payload on
 unfoldable pub gossipedFrom : List ℕ → List ℕ → ℕ → List (List ℕ)
 gossipedFrom recipients payload at = gossipAddresses (gossipFrom (unrolled recipients) payload at)
 
 -- The gossip up to the place `at` is counted: there is room if there is room for the rest, beside those that are known now.
-pub record Counts (t recipients payload known₀ : List ℕ) (filled₀ : ℕ) (known : List ℕ) (filled many at : ℕ) : Type 0 where
+pub record Counts (t recipients payload known₀ : List ℕ) (filled₀ left : ℕ) (known : List ℕ) (filled at : ℕ) : Type 0 where
   pub so-far :
       roomBeside t (inRoll filled₀ known₀) (gossipedIn recipients payload)
       ≡ roomBeside t (inRoll filled known) (gossipedFrom recipients payload at)
-  pub rolls : Rolls t known filled many
+  pub rolls : Rolls t left known filled
   pub clear : isSome (fieldsFrom payload at) ≡ true
 
 pub count-begin :
-    (t recipients payload text known : List ℕ) (filled many : ℕ) → Rolls t known filled many → Reads payload text
-    → Counts t recipients payload known filled known filled many 0
+    (t recipients : List ℕ) (left : ℕ) (payload text known : List ℕ) (filled : ℕ) → Seats t left payload text known filled
+    → Counts t recipients payload known filled left known filled 0
 unfolding gossipedIn gossipedFrom
-count-begin t recipients payload text known filled many k r =
+count-begin t recipients left payload text known filled h =
     record {
       so-far =
           ap (λ (gs : List Gossiped). roomBeside t (inRoll filled known) (gossipAddresses gs))
-          (sym (gossip-all (unrolled recipients) payload (r .readably)));
-      rolls = k;
-      clear = block-begin payload (r .readably);
+          (sym (gossip-all (unrolled recipients) payload (h .reads .readably)));
+      rolls = h .rolls;
+      clear = block-begin payload (h .reads .readably);
     }
 
-module _ (t recipients payload known₀ : List ℕ) (filled₀ : ℕ) (known : List ℕ) (filled many at : ℕ)
-    (h : Counts t recipients payload known₀ filled₀ known filled many at) where
+module _ (t recipients payload known₀ : List ℕ) (filled₀ left : ℕ) (known : List ℕ) (filled at : ℕ)
+    (h : Counts t recipients payload known₀ filled₀ left known filled at) where
   pub count-clear : isSome (fieldsFrom payload at) ≡ true
   count-clear = h .clear
-
-  pub count-rolls : Rolls t known filled many
-  count-rolls = h .rolls
 
   module _ (address key : List ℕ) (r : Heard) (p : HeardAs (unrolled recipients) payload at address key r) where
     pub count-over : r ≡ Over → true ≡ roomBeside t (inRoll filled₀ known₀) (gossipedIn recipients payload)
@@ -75,7 +72,7 @@ module _ (t recipients payload known₀ : List ℕ) (filled₀ : ℕ) (known : L
         (h .so-far
         ∙ ap (λ (gs : List Gossiped). roomBeside t (inRoll filled known) (gossipAddresses gs))
         (heard-over (unrolled recipients) payload at address key r p q)
-        ∙ beside-over t (inRoll filled known) (omega (arith, h .rolls .long, h .rolls .enough)))
+        ∙ beside-over t (inRoll filled known) (omega (arith, h .rolls .shared)))
 
     module _ (next n k : ℕ) (q : r ≡ Next next n k) where
       pub count-within : n ≤ length address
@@ -84,11 +81,15 @@ module _ (t recipients payload known₀ : List ℕ) (filled₀ : ℕ) (known : L
       pub count-less : length payload - next < length payload - at
       count-less = heard-less (unrolled recipients) payload at address key r p next n k q
 
-      pub count-canonical : isCanonical (take (n - 0) (drop 0 address)) ≡ true
-      count-canonical = rw sub-zero (heard-canonical (unrolled recipients) payload at address key r p next n k q)
-
       abbrev a : List ℕ
       a = take (n - 0) (drop 0 address)
+
+      pub count-meets : Meets t left known filled (take (n - 0) (drop 0 address))
+      count-meets =
+          record {
+            rolls = h .rolls;
+            canonical = rw sub-zero (heard-canonical (unrolled recipients) payload at address key r p next n k q);
+          }
 
       abbrev rest : List (List ℕ)
       rest = gossipedFrom recipients payload next
@@ -102,58 +103,71 @@ module _ (t recipients payload known₀ : List ℕ) (filled₀ : ℕ) (known : L
           (heard-first (unrolled recipients) payload at address key r p next n k q)
           ∙ rw sub-zero
 
-      module _ (out : List ℕ) (m : Met) (met : MetAs t known filled many a out m) where
-        pub count-known : m ≡ Known → Counts t recipients payload known₀ filled₀ out filled many next
+      module _ (out : List ℕ) (m : Met) (met : MetAs t left known filled a out m) where
+        pub count-known : m ≡ Known → Counts t recipients payload known₀ filled₀ left out filled next
         count-known y =
-            let o = met-known t known filled many a out m met y in
+            let o = met-known t left known filled a out m met y in
             record {
               so-far = stands ∙ beside-known t (inRoll filled known) a rest (o .known) ∙ rw (o .same);
-              rolls = met-same t known filled many a out m met y (h .rolls);
+              rolls = met-same t left known filled a out m met y (h .rolls);
               clear = heard-readable (unrolled recipients) payload at address key r p next n k q;
             }
 
         pub count-full : m ≡ Full → false ≡ roomBeside t (inRoll filled₀ known₀) (gossipedIn recipients payload)
         count-full y =
-            let o = met-full t known filled many a out m met y in
-            sym (stands ∙ beside-full t (inRoll filled known) a rest (o .new) (h .rolls .long ∙ o .full))
+            let o = met-full t left known filled a out m met y in
+            sym (stands ∙ beside-full t (inRoll filled known) a rest (o .new) (omega (arith, h .rolls .shared, o .full)))
 
-        module _ (end : ℕ) (y : m ≡ New end) where
-          pub count-fits : many + 1 < 2 ^ 64
-          count-fits = let o = met-rolls t known filled many a out m met end y in omega (arith, o .enough, o .few)
+        pub count-new : (end : ℕ) → m ≡ New end → Counts t recipients payload known₀ filled₀ (left - 1) out end next
+        count-new end y =
+            let o = met-added t left known filled a out m met end y in
+            record {
+              so-far = stands ∙ beside-new t (inRoll filled known) a rest (o .new) ∙ rw (o .added);
+              rolls = o .rolls;
+              clear = heard-readable (unrolled recipients) payload at address key r p next n k q;
+            }
 
-          pub count-new : Counts t recipients payload known₀ filled₀ out end (many + 1) next
-          count-new =
-              let o = met-added t known filled many a out m met end y in
-              record {
-                so-far = stands ∙ beside-new t (inRoll filled known) a rest (o .new) ∙ rw (o .added);
-                rolls = o .rolls;
-                clear = heard-readable (unrolled recipients) payload at address key r p next n k q;
-              }
+-- a ruleset for each kind of need
+pub ruleset counting = (count-begin, count-clear, count-within, count-less, needs)
 
-pub ruleset counting = (count-begin, count-clear, count-rolls, count-over, count-within, count-less, count-canonical, count-known, count-full, count-fits, count-new, needs)
+pub ruleset meeting-gossip = (count-meets, met-left, needs)
+
+pub ruleset ending = (count-over, count-full, needs)
 
 -- the sender first
-pub first-rolls : (t known sender out : List ℕ) (m : Met) → MetAs t known 0 0 sender out m → (end : ℕ) → m ≡ New end → Rolls t out end 1
-first-rolls t known sender out m met end q = met-rolls t known 0 0 sender out m met end q
+pub first-meets : (t sender payload text roll : List ℕ) (free : ℕ) → Seeks t sender payload text → free ≡ freeCount t → length roll ≡ 65536
+    → Meets t free roll 0 sender
+first-meets t sender payload text roll free h f l =
+    record { rolls = rolls-begin t roll free f (h .sound) l; canonical = h .canonical }
 
-module _ (t known sender out : List ℕ) (m : Met) (met : MetAs t known 0 0 sender out m) (gossiped : List (List ℕ)) where
-  pub first-full : m ≡ Full → false ≡ roomBeside t [] (sender ∷ gossiped)
-  first-full q =
-      let o = met-full t known 0 0 sender out m met q in
-      sym (beside-full t [] sender gossiped (rw unrolled-none at (o .new)) (o .full))
+module _ (t : List ℕ) (free : ℕ) (known sender out : List ℕ) (m : Met) (met : MetAs t free known 0 sender out m) where
+  module _ (payload text : List ℕ) (h : Seeks t sender payload text) where
+    pub first-same : m ≡ Known → free ≡ freeCount t → length known ≡ 65536 → Seats t free payload text out 0
+    first-same q f l = record { rolls = met-same t free known 0 sender out m met q (rolls-begin t known free f (h .sound) l); reads = h .reads }
 
-  pub first-known : m ≡ Known → (b : Bool) → b ≡ roomBeside t (inRoll 0 out) gossiped → b ≡ roomBeside t [] (sender ∷ gossiped)
-  first-known q b e =
-      let o = met-known t known 0 0 sender out m met q in
-      e ∙ rw unrolled-none (sym (beside-known t [] sender gossiped (rw unrolled-none at (o .known))))
+    pub first-one : (end : ℕ) → m ≡ New end → Seats t (free - 1) payload text out end
+    first-one end q = record { rolls = met-rolls t free known 0 sender out m met end q; reads = h .reads }
 
-  pub first-added :
-      (end : ℕ) → m ≡ New end → (b : Bool) → b ≡ roomBeside t (inRoll end out) gossiped → b ≡ roomBeside t [] (sender ∷ gossiped)
-  first-added end q b e =
-      let o = met-added t known 0 0 sender out m met end q in
-      e ∙ rw (o .added, unrolled-none) (sym (beside-new t [] sender gossiped (rw unrolled-none at (o .new))))
+  module _ (gossiped : List (List ℕ)) where
+    pub first-full : free ≡ freeCount t → m ≡ Full → false ≡ roomBeside t [] (sender ∷ gossiped)
+    first-full f q =
+        let o = met-full t free known 0 sender out m met q in
+        sym (beside-full t [] sender gossiped (rw unrolled-none at (o .new)) (omega (arith, o .full, f)))
 
-pub ruleset seating = (rolls-begin, met-same, first-rolls, first-full, first-known, first-added, needs)
+    pub first-known : m ≡ Known → (b : Bool) → b ≡ roomBeside t (inRoll 0 out) gossiped → b ≡ roomBeside t [] (sender ∷ gossiped)
+    first-known q b e =
+        let o = met-known t free known 0 sender out m met q in
+        e ∙ rw unrolled-none (sym (beside-known t [] sender gossiped (rw unrolled-none at (o .known))))
+
+    pub first-added :
+        (end : ℕ) → m ≡ New end → (b : Bool) → b ≡ roomBeside t (inRoll end out) gossiped → b ≡ roomBeside t [] (sender ∷ gossiped)
+    first-added end q b e =
+        let o = met-added t free known 0 sender out m met end q in
+        e ∙ rw (o .added, unrolled-none) (sym (beside-new t [] sender gossiped (rw unrolled-none at (o .new))))
+
+pub ruleset seating = (first-meets, met-left, first-same, first-one, needs)
+
+pub ruleset seated = (first-full, first-known, first-added, needs)
 
 -- the sender and no other
 module _ (t sender : List ℕ) (f : Found) (e : f ≡ found t sender) where

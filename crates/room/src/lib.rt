@@ -1,14 +1,10 @@
 // Whether there is a free slot for each address that is new with a message: asked before anything is written. What is
 // right is said by specs/Room.antt.
 ghost use mathlib.Core.Path.{_≡_};
-ghost use mathlib.Core.Bool.{true};
 ghost use mathlib.Core.List.{[], _∷_};
-ghost use Rattle.address.specs.Address.{isCanonical};
-ghost use Rattle.table.specs.Table.{checked};
-ghost use Rattle.table.specs.declared.Checked.the-variants.{Sound};
 ghost use Rattle.roll.specs.Roll.{unrolled};
 ghost use Rattle.room.specs.Room.{inRoll, isNew, gossipedIn, roomBeside};
-ghost use Rattle.room.specs.Counting.{Reads, Rolls, MetAs};
+ghost use Rattle.room.specs.Counting.{Meets, MetAs, Seats, Seeks};
 use keys::Heard;
 use slots::Slot;
 use table::Found;
@@ -34,37 +30,39 @@ pub enum Met {
     Full,
 }
 
-// Adds an address to the roll of those that are known to be new, if it is new and there is a free slot left for it.
-fn meet(table: &[u8], known: &mut [u8], filled: usize, many: usize, address: &[u8]) -> Met
-    requires { ⌜ Rolls (now table) (now known) filled many × (isCanonical (now address) ≡ true) ⌝ }
-    ensures { λ r. ⌜ MetAs (now (table .entry)) (now (known .entry)) filled many (now (address .entry)) (now (known .exit)) r ⌝ }
+// Adds an address to the roll of those that are known to be new, if it is new and one of the free slots that are left is
+// there for it.
+fn meet(table: &[u8], left: usize, known: &mut [u8], filled: usize, address: &[u8]) -> Met
+    requires { ⌜ Meets (now table) left (now known) filled (now address) ⌝ }
+    ensures { λ r. ⌜ MetAs (now (table .entry)) left (now (known .entry)) filled (now (address .entry)) (now (known .exit)) r ⌝ }
 {
     if !is_new(table, &known[0..filled], address) {
         return Met::Known;
     }
-    if table::count_free(table) == many {
+    if left == 0 {
         return Met::Full;
     }
     Met::New(roll::add(known, filled, address))
 }
 
-// Is there a free slot for each address that is new with the gossip, beside so many that are known already?
+// Is one of the free slots that are left there for each address that is new with the gossip, beside those that are known
+// already?
 fn has_room_for(
     table: &[u8],
+    left: usize,
     payload: &[u8],
     recipients: &[u8],
     text: &mut [u8],
     known: &mut [u8],
     filled: usize,
-    many: usize,
 ) -> bool
-    requires { ⌜ Rolls (now table) (now known) filled many × Reads (now payload) (now text) ⌝ }
+    requires { ⌜ Seats (now table) left (now payload) (now text) (now known) filled ⌝ }
     ensures { λ r. ⌜ r ≡ roomBeside (now (table .entry)) (inRoll filled (now (known .entry))) (gossipedIn (now (recipients .entry)) (now (payload .entry))) ⌝ }
 {
     let mut address = [0u8; Slot::ADDRESS_ROOM];
     let mut key = [0u8; Slot::KEY_LIMIT];
     let mut end = filled;
-    let mut count = many;
+    let mut free = left;
     let mut at = 0;
     loop {
         match keys::next_gossip(payload, at, recipients, text, &mut address, &mut key) {
@@ -72,11 +70,11 @@ fn has_room_for(
                 end: next,
                 address: n,
                 key: _,
-            } => match meet(table, known, end, count, &address[0..n]) {
+            } => match meet(table, free, known, end, &address[0..n]) {
                 Met::Known => at = next,
                 Met::New(behind) => {
                     end = behind;
-                    count += 1;
+                    free -= 1;
                     at = next;
                 }
                 Met::Full => return false,
@@ -94,13 +92,14 @@ pub fn has_room(
     recipients: &[u8],
     text: &mut [u8],
 ) -> bool
-    requires { ⌜ (checked (now table) ≡ Sound) × (isCanonical (now sender) ≡ true) × Reads (now payload) (now text) ⌝ }
+    requires { ⌜ Seeks (now table) (now sender) (now payload) (now text) ⌝ }
     ensures { λ r. ⌜ r ≡ roomBeside (now (table .entry)) [] (now (sender .entry) ∷ gossipedIn (now (recipients .entry)) (now (payload .entry))) ⌝ }
 {
     let mut known = [0u8; ROLL];
-    match meet(table, &mut known, 0, 0, sender) {
-        Met::Known => has_room_for(table, payload, recipients, text, &mut known, 0, 0),
-        Met::New(end) => has_room_for(table, payload, recipients, text, &mut known, end, 1),
+    let free = table::count_free(table);
+    match meet(table, free, &mut known, 0, sender) {
+        Met::Known => has_room_for(table, free, payload, recipients, text, &mut known, 0),
+        Met::New(end) => has_room_for(table, free - 1, payload, recipients, text, &mut known, end),
         Met::Full => false,
     }
 }

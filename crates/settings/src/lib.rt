@@ -10,6 +10,11 @@ pub enum Gossip {
     Unset,
 }
 
+// All that a caller chooses, as it travels down.
+pub struct Settings {
+    pub gossip: Gossip,
+}
+
 // "unset takes"
 pub fn is_taken(gossip: Gossip) -> bool
     ensures { λ r. ⌜ r ≡ taken gossip ⌝ }

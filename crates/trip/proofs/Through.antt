@@ -21,11 +21,12 @@ use Rattle.update.specs.Message.{entryAfter}
 use Rattle.fields.specs.Fields.{fieldsIn}
 use Rattle.fields.proofs.Values.{fields-read}
 use Rattle.outer.specs.Outer.{senderIn}
-use Rattle.delivery.specs.Delivery.{messageBy}
 use Rattle.settings.specs.Settings.{taken}
-use Rattle.process.specs.Processing.{payloadIn, messageOf, refusedProcessing, leftByProcessing}
 use Rattle.settings.specs.declared.Gossip.{Gossip}
-use Rattle.process.proofs.Outcomes.{InOrder, done-sound, done-in-order, processed-keeps, processed-octets, done-entry}
+use Rattle.message.specs.Message.{payloadIn, messageBy, messageOf}
+use Rattle.message.proofs.InOrder.{InOrder}
+use Rattle.process.specs.Processing.{refusedProcessing, leftByProcessing}
+use Rattle.process.proofs.Outcomes.{done-sound, done-in-order, processed-keeps, processed-octets, done-entry}
 
 pub record Through (t : List ℕ) (receipt : ℕ) (outer payload : List ℕ) (setting : Gossip) : Type 0 where
   pub outer-read : fieldsOf outer ≡ some (fieldsIn outer)

@@ -31,7 +31,7 @@ use Rattle.fields.proofs.Values.{values-append, values-first}
 use Rattle.outer.specs.Outer.{senderIn, dateIn, recipientsIn}
 use Rattle.keys.specs.Keys.{countedIn, accepted, gossipIn}
 use Rattle.keys.proofs.AcceptedGossip.{gossip-append, accepted-listed}
-use Rattle.delivery.specs.Delivery.{directBy, messageBy}
+use Rattle.message.specs.Message.{directBy, messageBy}
 use Rattle.refusals.specs.Rows.{answerOf}
 use Rattle.refusals.specs.declared.Answer.the-variants.{Done}
 use Rattle.runs.specs.Runs.{belongs, run}

@@ -1,7 +1,8 @@
 -- `delivery::deliver_alone` meets its contract: the laws of `Delivering` answer every need. Assumes nothing.
+use borrow.Author.Needs.{needs}
+use Rattle.delivery.proofs.Delivering.{alone}
 use Rattle.delivery.proofs.deliver_alone.Statement.{statement}
 use Rattle.delivery.proofs.deliver_alone.Tie as tie
-use Rattle.delivery.proofs.Delivering.{alone}
 
 has-room-alone-requires : tie.Need-has-room-alone-requires
 has-room-alone-requires c κs = search alone
@@ -10,25 +11,16 @@ same-length : tie.Need-same-length
 same-length c = search alone
 
 returns : tie.Need-returns
-returns c = search alone
-
-date-requires : tie.Need-date-requires
-date-requires c κs = search alone
-
-effective-date-requires : tie.Need-effective-date-requires
-effective-date-requires c κs = search alone
+returns c = (search alone, search alone)
 
 update-sender-requires : tie.Need-update-sender-requires
-update-sender-requires c κs = search alone
+update-sender-requires c κs = search needs
 
 same-length-2 : tie.Need-same-length-2
 same-length-2 c = search alone
 
-same-length-3 : tie.Need-same-length-3
-same-length-3 c = search alone
-
 returns-2 : tie.Need-returns-2
-returns-2 c = search alone
+returns-2 c = (search alone, search alone)
 
 pub deliver-alone-spec : {M : Type 1} → statement M
 deliver-alone-spec =
@@ -37,9 +29,6 @@ deliver-alone-spec =
     has-room-alone-requires
     same-length
     returns
-    date-requires
-    effective-date-requires
     update-sender-requires
     same-length-2
-    same-length-3
     returns-2)

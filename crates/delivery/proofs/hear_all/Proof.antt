@@ -2,7 +2,7 @@
 use Prim.Native.Nat.{_-_}
 use mathlib.Core.Path.{_≡_}
 use lib.ListN.{length}
-use Rattle.delivery.proofs.Spreading.{Spreads, spreading}
+use Rattle.delivery.proofs.Spreading.{Spreads, spread-end, spread-on, spreading, hearing}
 use borrow.Author.Needs.{needs}
 use Rattle.delivery.proofs.hear_all.Statement.{statement}
 use Rattle.delivery.proofs.hear_all.Tie as tie
@@ -47,13 +47,13 @@ part-hear-end-2 : tie.Need-part-hear-end-2 Inv-loop μ-loop
 part-hear-end-2 c = search spreading
 
 hear-requires : tie.Need-hear-requires Inv-loop μ-loop
-hear-requires c κs = search spreading
+hear-requires c κs = search hearing
 
 loop-less : tie.Need-loop-less Inv-loop μ-loop
 loop-less c = search spreading
 
 loop-again : tie.Need-loop-again Inv-loop μ-loop
-loop-again c = (search spreading, search needs, search needs, search needs, search needs)
+loop-again c = (search (spread-on, needs), search needs, search needs, search needs, search needs)
 
 enum-told : tie.Need-enum-told Inv-loop μ-loop
 enum-told c = search spreading
@@ -65,7 +65,7 @@ same-length-2 : tie.Need-same-length-2 Inv-loop μ-loop
 same-length-2 c = search spreading
 
 returns : tie.Need-returns Inv-loop μ-loop
-returns c = search spreading
+returns c = search (spread-end, needs)
 
 pub hear-all-spec : {M : Type 1} → statement M
 hear-all-spec =

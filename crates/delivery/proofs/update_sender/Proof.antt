@@ -1,17 +1,11 @@
 -- `delivery::update_sender` meets its contract: the laws of `Updating` answer every need. Assumes nothing.
-use Rattle.delivery.proofs.Updating.{updating}
 use borrow.Author.Needs.{needs}
+use Rattle.delivery.proofs.Updating.{updating}
 use Rattle.delivery.proofs.update_sender.Statement.{statement}
 use Rattle.delivery.proofs.update_sender.Tie as tie
 
-slice-aggregate-counted-field : tie.Need-slice-aggregate-counted-field
-slice-aggregate-counted-field c = search updating
-
-counted-field-requires : tie.Need-counted-field-requires
-counted-field-requires c κs = search updating
-
-enum-known-mutual : tie.Need-enum-known-mutual
-enum-known-mutual c = search updating
+enum-known-own : tie.Need-enum-known-own
+enum-known-own c = search updating
 
 sub-update-with-key : tie.Need-sub-update-with-key
 sub-update-with-key c = search updating
@@ -34,17 +28,11 @@ update-keyless-requires c κs = search updating
 same-length : tie.Need-same-length
 same-length c = search updating
 
-same-length-2 : tie.Need-same-length-2
-same-length-2 c = search updating
-
 returns : tie.Need-returns
 returns c = (search updating, search needs)
 
-same-length-3 : tie.Need-same-length-3
-same-length-3 c = search updating
-
-same-length-4 : tie.Need-same-length-4
-same-length-4 c = search updating
+same-length-2 : tie.Need-same-length-2
+same-length-2 c = search updating
 
 returns-2 : tie.Need-returns-2
 returns-2 c = (search updating, search needs)
@@ -53,9 +41,7 @@ pub update-sender-spec : {M : Type 1} → statement M
 update-sender-spec =
     tie.close
     (tie.spec
-    slice-aggregate-counted-field
-    counted-field-requires
-    enum-known-mutual
+    enum-known-own
     sub-update-with-key
     part-update-with-key-start
     part-update-with-key-end
@@ -63,8 +49,6 @@ update-sender-spec =
     enum-told
     update-keyless-requires
     same-length
-    same-length-2
     returns
-    same-length-3
-    same-length-4
+    same-length-2
     returns-2)

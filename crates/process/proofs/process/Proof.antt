@@ -1,7 +1,8 @@
 -- `process::process` meets its contract: the laws of `Processing` answer every need. Assumes nothing.
+use borrow.Author.Needs.{needs}
+use Rattle.process.proofs.Processing.{processing}
 use Rattle.process.proofs.process.Statement.{statement}
 use Rattle.process.proofs.process.Tie as tie
-use Rattle.process.proofs.Processing.{processing}
 
 check-requires : tie.Need-check-requires
 check-requires c κs = search processing
@@ -19,7 +20,7 @@ same-length : tie.Need-same-length
 same-length c = search processing
 
 returns : tie.Need-returns
-returns c = search processing
+returns c = search needs
 
 same-length-2 : tie.Need-same-length-2
 same-length-2 c = search processing

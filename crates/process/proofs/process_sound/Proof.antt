@@ -1,41 +1,42 @@
 -- `process::process_sound` meets its contract: the laws of `Processing` answer every need. Assumes nothing.
+use borrow.Author.Needs.{needs}
+use Rattle.process.proofs.Processing.{making-room}
 use Rattle.process.proofs.process_sound.Statement.{statement}
 use Rattle.process.proofs.process_sound.Tie as tie
-use Rattle.process.proofs.Processing.{opening}
 
-returns : tie.Need-returns
-returns c = search opening
+slice-aggregate-process-with : tie.Need-slice-aggregate-process-with
+slice-aggregate-process-with c = search making-room
 
-walk-requires : tie.Need-walk-requires
-walk-requires c κs = search opening
-
-enum-known-survey : tie.Need-enum-known-survey
-enum-known-survey c = search opening
-
-process-read-requires : tie.Need-process-read-requires
-process-read-requires c κs = search opening
-
-enum-told : tie.Need-enum-told
-enum-told c = search opening
+process-with-requires : tie.Need-process-with-requires
+process-with-requires c κs = search making-room
 
 same-length : tie.Need-same-length
-same-length c = search opening
+same-length c = search making-room
+
+returns : tie.Need-returns
+returns c = search needs
+
+slice-aggregate-process-with-2 : tie.Need-slice-aggregate-process-with-2
+slice-aggregate-process-with-2 c = search making-room
+
+process-with-requires-2 : tie.Need-process-with-requires-2
+process-with-requires-2 c κs = search making-room
+
+same-length-2 : tie.Need-same-length-2
+same-length-2 c = search making-room
 
 returns-2 : tie.Need-returns-2
-returns-2 c = search opening
-
-returns-3 : tie.Need-returns-3
-returns-3 c = search opening
+returns-2 c = search needs
 
 pub process-sound-spec : {M : Type 1} → statement M
 process-sound-spec =
     tie.close
     (tie.spec
-    returns
-    walk-requires
-    enum-known-survey
-    process-read-requires
-    enum-told
+    slice-aggregate-process-with
+    process-with-requires
     same-length
-    returns-2
-    returns-3)
+    returns
+    slice-aggregate-process-with-2
+    process-with-requires-2
+    same-length-2
+    returns-2)

@@ -3,15 +3,15 @@ use borrow.Author.Needs.{needs}
 use Prim.Native.Nat.{_-_}
 use mathlib.Core.Path.{_≡_}
 use lib.ListN.{length}
-use Rattle.room.proofs.Newcomers.{Counts, count-known, count-new, counting}
+use Rattle.room.proofs.Newcomers.{counting, Counts, meeting-gossip, ending, count-known, count-new}
 use Rattle.room.proofs.has_room_for.Statement.{statement}
 use Rattle.room.proofs.has_room_for.Tie as tie
 
 abbrev Inv-loop : tie.InvT-loop
-Inv-loop table payload recipients text₀ known₀ filled many address₀ key₀ end₀ count₀ at₀ text known address key end count at = (Counts table recipients payload known₀ filled known end count at) × (length text ≡ length text₀) × (length known ≡ length known₀) × (length address ≡ length address₀) × (length key ≡ length key₀)
+Inv-loop table left payload recipients text₀ known₀ filled address₀ key₀ end₀ free₀ at₀ text known address key end free at = (Counts table recipients payload known₀ filled free known end at) × (length text ≡ length text₀) × (length known ≡ length known₀) × (length address ≡ length address₀) × (length key ≡ length key₀)
 
 abbrev μ-loop : tie.MeasureT-loop
-μ-loop table payload recipients text₀ known₀ filled many address₀ key₀ end₀ count₀ at₀ text known address key end count at = length payload - at
+μ-loop table left payload recipients text₀ known₀ filled address₀ key₀ end₀ free₀ at₀ text known address key end free at = length payload - at
 
 loop-holds : tie.Need-loop-holds Inv-loop μ-loop
 loop-holds c = search counting
@@ -38,7 +38,7 @@ part-meet-end : tie.Need-part-meet-end Inv-loop μ-loop
 part-meet-end c = search counting
 
 meet-requires : tie.Need-meet-requires Inv-loop μ-loop
-meet-requires c κs = (search counting, search counting)
+meet-requires c κs = search meeting-gossip
 
 enum-told : tie.Need-enum-told Inv-loop μ-loop
 enum-told c = search counting
@@ -52,14 +52,14 @@ loop-again c = (search (count-known, needs, c .before .before .before .before .b
 enum-known-behind : tie.Need-enum-known-behind Inv-loop μ-loop
 enum-known-behind c = search counting
 
-add-count : tie.Need-add-count Inv-loop μ-loop
-add-count c = search counting
+sub-free : tie.Need-sub-free Inv-loop μ-loop
+sub-free c = search meeting-gossip
 
 loop-less-2 : tie.Need-loop-less-2 Inv-loop μ-loop
 loop-less-2 c = search counting
 
 loop-again-2 : tie.Need-loop-again-2 Inv-loop μ-loop
-loop-again-2 c = (search (count-new, needs, c .before .before .before .before .before .before .before .before .before .before .before .before .before .before .before .before .before .before .before .before .loop .inv .0), search needs, search needs, search needs, search needs)
+loop-again-2 c = (search (count-new, needs), search needs, search needs, search needs, search needs)
 
 enum-told-2 : tie.Need-enum-told-2 Inv-loop μ-loop
 enum-told-2 c = search counting
@@ -71,7 +71,7 @@ same-length-2 : tie.Need-same-length-2 Inv-loop μ-loop
 same-length-2 c = search counting
 
 returns : tie.Need-returns Inv-loop μ-loop
-returns c = search counting
+returns c = search ending
 
 enum-told-3 : tie.Need-enum-told-3 Inv-loop μ-loop
 enum-told-3 c = search counting
@@ -83,7 +83,7 @@ same-length-4 : tie.Need-same-length-4 Inv-loop μ-loop
 same-length-4 c = search counting
 
 returns-2 : tie.Need-returns-2 Inv-loop μ-loop
-returns-2 c = search counting
+returns-2 c = search ending
 
 pub has-room-for-spec : {M : Type 1} → statement M
 has-room-for-spec =
@@ -104,7 +104,7 @@ has-room-for-spec =
     loop-less
     loop-again
     enum-known-behind
-    add-count
+    sub-free
     loop-less-2
     loop-again-2
     enum-told-2

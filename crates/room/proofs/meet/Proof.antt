@@ -21,9 +21,6 @@ same-length c = search meeting
 returns : tie.Need-returns
 returns c = search meeting
 
-count-free-requires : tie.Need-count-free-requires
-count-free-requires c κs = search meeting
-
 same-length-2 : tie.Need-same-length-2
 same-length-2 c = search meeting
 
@@ -31,7 +28,7 @@ returns-2 : tie.Need-returns-2
 returns-2 c = search meeting
 
 add-requires : tie.Need-add-requires
-add-requires c κs = (search meeting, search meeting)
+add-requires c κs = search meeting
 
 same-length-3 : tie.Need-same-length-3
 same-length-3 c = search meeting
@@ -49,7 +46,6 @@ meet-spec =
     is-new-requires
     same-length
     returns
-    count-free-requires
     same-length-2
     returns-2
     add-requires

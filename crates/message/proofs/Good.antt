@@ -1,6 +1,6 @@
 -- A message that is read from blocks of octets is good: what it brings can be written into a table.
 --     direct-good      the direct half that it brings
---     message-good     the whole message
+--     brought-good     the whole message
 -- Assumes nothing.
 use Prim.Native.Nat.{ℕ, _≤_}
 use mathlib.Core.Path.{_≡_, refl, ap, _∙_}
@@ -20,7 +20,7 @@ use Rattle.outer.proofs.Senders.{sender-canonical, sender-octets}
 use Rattle.outer.proofs.Dates.{date-in-range}
 use Rattle.keys.specs.Keys.{countedIn}
 use Rattle.keys.proofs.GoodKeys.{counted-key, gossip-good}
-use Rattle.delivery.specs.Delivery.{directBy, messageBy}
+use Rattle.message.specs.Message.{directBy, messageBy}
 
 pub direct-good : (date : ℕ) (fs : List FieldText) (sender : List ℕ) → IfSome (GoodBrought date) (directBy date (countedIn fs sender))
 unfolding directBy
@@ -35,9 +35,9 @@ module _ (receipt : ℕ) (h : receipt ≤ timeLimit) (outer : List ℕ) (o : All
   sent : senderIn (fieldsIn outer) ≡ some sender
   sent = ap senderIn (fields-are outer fs e) ∙ s
 
-  pub message-good : (payload : List FieldText) → ValuesOctets payload → GoodMessage (messageBy receipt sender fs payload)
+  pub brought-good : (payload : List FieldText) → ValuesOctets payload → GoodMessage (messageBy receipt sender fs payload)
   unfolding messageBy
-  message-good payload p =
+  brought-good payload p =
       record {
         canonical = sender-canonical fs sender s;
         octets = sender-octets outer sender o sent;

@@ -1,0 +1,38 @@
+-- What the reading of a message asks for, and what it knows between its tests.
+--     Lent       room for the values of the outer block, for an address and for a key
+--     Walked     the outer block is readable, its survey is known, and there is room for its values
+--     Opened     .. and the receipt time is in range
+--     Sent       .. and this is the sender
+use Prim.Native.Nat.{ℕ, _≤_, min}
+use mathlib.Core.Path.{_≡_}
+use mathlib.Core.List.{List}
+use mathlib.Core.Option.{some}
+use lib.ListN.{length}
+use Rattle.header.specs.Header.{limit}
+use Rattle.fields.specs.Fields.{fieldsIn}
+use Rattle.fields.specs.Spans.{SurveyAs}
+use Rattle.fields.specs.declared.Survey.{Survey}
+use Rattle.heads.specs.Head.{timeLimit}
+use Rattle.slots.specs.Slot.{addressRoom, keyLimit}
+use Rattle.outer.specs.Outer.{senderIn}
+
+pub record Lent (outer text sender key : List ℕ) : Type 0 where
+  pub room : min (length outer) limit ≤ length text
+  pub sender-room : addressRoom ≤ length sender
+  pub key-room : keyLimit ≤ length key
+
+pub record Walked (outer : List ℕ) (survey : Survey) (text : List ℕ) : Type 0 where
+  pub surveyed : SurveyAs outer survey
+  pub room : length outer ≤ length text
+
+pub record Opened (receipt : ℕ) (outer : List ℕ) (survey : Survey) (text sender key : List ℕ) : Type 0 where
+  pub in-time : receipt ≤ timeLimit
+  pub walked : Walked outer survey text
+  pub sender-room : addressRoom ≤ length sender
+  pub key-room : keyLimit ≤ length key
+
+pub record Sent (receipt : ℕ) (outer : List ℕ) (survey : Survey) (text sender key : List ℕ) : Type 0 where
+  pub in-time : receipt ≤ timeLimit
+  pub walked : Walked outer survey text
+  pub sent : senderIn (fieldsIn outer) ≡ some sender
+  pub key-room : keyLimit ≤ length key

@@ -1,0 +1,3 @@
+pub mod Message
+pub mod Lent
+pub mod Answers
