@@ -1,0 +1,3 @@
+pub mod Tagging
+pub mod Among
+mod Worked
