@@ -5,18 +5,18 @@
 ghost use Prim.Native.Nat.{_≤_};
 ghost use mathlib.Core.Path.{_≡_};
 ghost use lib.ListN.{length};
-ghost use Rattle.octets.specs.Written.{onto};
 ghost use Rattle.slots.specs.Slot.{addressRoom};
 ghost use Rattle.date.specs.Answers.{datedOf};
 ghost use Rattle.fields.specs.Fields.{fieldsIn};
 ghost use Rattle.fields.specs.Spans.{SurveyAs};
 ghost use Rattle.outer.specs.Outer.{senderIn, isReported, saidDate};
-ghost use Rattle.outer.specs.Answers.{senderOf, leftBySender, rollOf};
+ghost use Rattle.outer.specs.Answers.{senderOf, leftBySender, Gathers, GatheredAs};
 use date::Dated;
 use fields::Kind;
 use fields::Named;
 use fields::Only;
 use fields::Survey;
+use roll::Rolled;
 
 // The length of the sender's canonical address; or there is not exactly one sender.
 pub enum Sender {
@@ -84,24 +84,30 @@ pub fn date(block: &[u8], survey: Survey, text: &mut [u8]) -> Dated
     }
 }
 
-// Writes the roll of all recipients to the front of `roll`, and answers where it ends.
-pub fn recipients(block: &[u8], survey: Survey, text: &mut [u8], roll: &mut [u8]) -> usize
-    requires { ⌜ SurveyAs (now block) survey × (length (now block) ≤ length (now text)) × (length (now block) ≤ length (now roll)) ⌝ }
-    ensures { λ r. ⌜ r ≡ length (rollOf (now (block .entry))) ⌝ }
-    ensures { λ _. ⌜ now (roll .exit) ≡ onto (rollOf (now (block .entry))) (now (roll .entry)) ⌝ }
+// Makes the roll of all recipients at the front of `roll`, and its index at that of `tags` and `places`.
+pub fn recipients(
+    block: &[u8],
+    survey: Survey,
+    text: &mut [u8],
+    roll: &mut [u8],
+    tags: &mut [u32],
+    places: &mut [u16],
+) -> Rolled
+    requires { ⌜ Gathers (now block) survey (now text) (now roll) (now tags) (now places) ⌝ }
+    ensures { λ r. ⌜ GatheredAs (now (block .entry)) (now (roll .exit)) (now (tags .exit)) (now (places .exit)) r ⌝ }
 {
     let span = survey.recipients;
     let last = span.last;
-    let mut filled = 0;
+    let mut so_far = Rolled { end: 0, many: 0 };
     let mut at = span.first;
     loop {
         match fields::find(block, at, last, Kind::Recipients) {
             Named::Field { value, end } => {
                 let n = header::unfold(&block[value..end], text);
-                filled = roll::add_list(roll, filled, &text[0..n]);
+                so_far = roll::add_list(roll, tags, places, so_far, &text[0..n]);
                 at = end;
             }
-            Named::Nothing => return filled,
+            Named::Nothing => return so_far,
         }
     }
 }

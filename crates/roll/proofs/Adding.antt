@@ -14,7 +14,7 @@ use native.Mathlib.Nat.{zero-add}
 use native.Mathlib.Numerals.{add-one}
 use native.Mathlib.Omega.{arith}
 use borrow.Author.Needs.{needs}
-use lib.ListN.{length, take, drop, set, length-append, length-take, length-drop, length-set}
+use lib.ListN.{length, take, drop, set, length-append, length-take, length-drop}
 use lib.Seq.{length-take-le, take-at, take-suc-set}
 use Rattle.octets.specs.Written.{putAt}
 use Rattle.octets.specs.Options.{inFront, orElse, isSome}
@@ -43,7 +43,7 @@ use Rattle.roll.specs.Growing.{inRoll, Kept, Roomy, Adds, Grew}
 use Rattle.roll.specs.declared.Rolled.{Rolled}
 use Rattle.roll.proofs.Rolls.{entry-length, rolled-append-length, rolled-alone, rolled-add, unrolled-rolled, listed-unreadable}
 use Rattle.roll.proofs.Index.{tags-add, places-add}
-use Rattle.roll.proofs.Room.{rolled-least, roomy-part}
+use Rattle.roll.proofs.Room.{rolled-least, roomy-front}
 use Rattle.roll.proofs.Growing.{kept-within, grew-none}
 
 -- the form of an address in a buffer b, which is then `out`
@@ -90,8 +90,8 @@ module _ (roll tags places : List ℕ) (at : Rolled) (a : List ℕ) (h : Adds ro
   pub add-fits : at .end + length a < 2 ^ 64
   add-fits = omega (arith, add-most, h .roomy .short)
 
-  pub add-fits-end : at .end + length a + 1 < 2 ^ 64
-  add-fits-end = omega (arith, add-most, h .roomy .short)
+  pub add-fits-end : (k : ℕ) → k ≤ 2 ^ 16 → at .end + length a + k < 2 ^ 64
+  add-fits-end k l = omega (arith, add-most, h .roomy .short)
 
   pub add-fits-many : at .many + 1 < 2 ^ 64
   add-fits-many =
@@ -145,7 +145,7 @@ module _ (roll tags places : List ℕ) (at : Rolled) (a : List ℕ) (h : Adds ro
     pub add-grew :
         Grew roll at (a ∷ []) (set out (at .end + length a) 0) (record { end = at .end + length a + 1; many = at .many + 1 })
     unfolding ended behind
-    add-grew = record { grown = listed; same = simp length-set add-kept-length }
+    add-grew = record { grown = listed }
 
     pub add-kept :
         (t : ℕ) → t ≡ tagOf (canonical a)
@@ -237,30 +237,26 @@ module _ (s roll tags places : List ℕ) (at : Rolled) (rolls numbers spots : Li
       pub adding-adds : Adds rolls numbers spots so (between s from to ∷ [])
       unfolding every
       adding-adds =
-          let r : Roomy (inRoll so rolls ++ (a ∷ [])) roll tags places =
-          roomy-part (inRoll so rolls ++ (a ∷ [])) (orElse [] (left s next)) roll tags places (rw more (h .roomy)) in
           record {
             kept = h .kept;
             plainly = rw (hand-plain s here k p from to next q);
             roomy =
-                record {
-                  octets = omega (arith, r .octets, h .roll-same);
-                  short = omega (arith, r .short, h .roll-same);
-                  numbers = omega (arith, r .numbers, h .tags-same);
-                  spots = omega (arith, r .spots, h .places-same);
-                };
+                roomy-front (inRoll so rolls ++ (a ∷ [])) (orElse [] (left s next)) roll tags places rolls numbers spots (rw more (h .roomy)) (h .roll-same)
+                (h .tags-same)
+                (h .places-same);
           }
 
       pub adding-on :
           (out numbers₂ spots₂ : List ℕ) (r : Rolled) → Grew rolls so (between s from to ∷ []) out r → Kept out numbers₂ spots₂ r
-          → length numbers₂ ≡ length numbers → length spots₂ ≡ length spots → Adding s roll tags places at out numbers₂ spots₂ r next
-      adding-on out numbers₂ spots₂ r g w t u =
+          → length out ≡ length rolls → length numbers₂ ≡ length numbers → length spots₂ ≡ length spots
+          → Adding s roll tags places at out numbers₂ spots₂ r next
+      adding-on out numbers₂ spots₂ r g w l t u =
           record {
             readable = parts .0;
             kept = w;
             so-far = rw (g .grown) more;
             roomy = h .roomy;
-            roll-same = g .same ∙ h .roll-same;
+            roll-same = l ∙ h .roll-same;
             tags-same = t ∙ h .tags-same;
             places-same = u ∙ h .places-same;
           }
@@ -268,10 +264,7 @@ module _ (s roll tags places : List ℕ) (at : Rolled) (rolls numbers spots : Li
     pub adding-end : k ≡ End → Grew roll at (listedIn s) rolls so
     unfolding orElse
     adding-end q =
-        record {
-          grown = sym (append-nil (inRoll so rolls)) ∙ rw (hand-end s here k p q) at (h .so-far);
-          same = h .roll-same;
-        }
+        record { grown = sym (append-nil (inRoll so rolls)) ∙ rw (hand-end s here k p q) at (h .so-far) }
 
     -- a readable list stays readable
     pub adding-never : k ≡ Unreadable → Grew roll at (listedIn s) rolls so

@@ -6,7 +6,7 @@
 --     grew-none                    nothing more
 -- Assumes nothing.
 use Prim.Native.Nat.{ℕ, _-_, _*_, _<_, _≤_}
-use mathlib.Core.Path.{_≡_, refl, sym, ap, _∙_}
+use mathlib.Core.Path.{_≡_, sym, ap, _∙_}
 use mathlib.Core.Bool.{true}
 use mathlib.Core.List.{List, [], _∷_, append-nil}
 use native.Mathlib.Omega.{arith}
@@ -85,4 +85,4 @@ module _ (roll tags places : List ℕ) (at : Rolled) (h : Kept roll tags places 
       }
 
 pub grew-none : (roll : List ℕ) (at : Rolled) → Grew roll at [] roll at
-grew-none roll at = record { grown = sym (append-nil (inRoll at roll)); same = refl }
+grew-none roll at = record { grown = sym (append-nil (inRoll at roll)) }

@@ -3,7 +3,7 @@
 --     rolled-room, listed-room    the roll of a list has at most one octet more than the list
 --     lists-room                  of several lists: each adds at most its octets and one
 --     rolled-least, rolled-most   a plain address takes 4 to 255 octets
---     roomy-part                  where there is room for addresses, there is room for the first of them
+--     roomy-front                 where there is room for addresses, there is for the first of them, also in other memory of that length
 -- Assumes nothing.
 use Prim.Native.Nat.{ℕ, _+_, _*_, _≤_}
 use mathlib.Core.Path.{_≡_, refl, ap, _∙_}
@@ -65,11 +65,13 @@ rolled-most (a ∷ rest) e =
       rolled-most rest (and-right (plain a) (every plain rest) e),
     )
 
-pub roomy-part : (xs ys : List (List ℕ)) (roll tags places : List ℕ) → Roomy (xs ++ ys) roll tags places → Roomy xs roll tags places
-roomy-part xs ys roll tags places h =
+pub roomy-front :
+    (xs ys : List (List ℕ)) (roll tags places rolls numbers spots : List ℕ) → Roomy (xs ++ ys) roll tags places → length rolls ≡ length roll
+    → length numbers ≡ length tags → length spots ≡ length places → Roomy xs rolls numbers spots
+roomy-front xs ys roll tags places rolls numbers spots h l t p =
     record {
       octets = omega (arith, h .octets, rolled-append-length xs ys);
-      short = h .short;
+      short = omega (arith, h .short);
       numbers = omega (arith, h .numbers, length-append xs ys);
       spots = omega (arith, h .spots, length-append xs ys);
     }

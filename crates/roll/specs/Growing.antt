@@ -40,4 +40,3 @@ pub record Adds (roll tags places : List ℕ) (at : Rolled) (more : List (List �
 -- the memory as it came, and then as it is
 pub record Grew (roll : List ℕ) (at : Rolled) (more : List (List ℕ)) (out : List ℕ) (r : Rolled) : Type 0 where
   pub grown : inRoll r out ≡ inRoll at roll ++ more
-  pub same : length out ≡ length roll

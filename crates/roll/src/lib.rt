@@ -53,7 +53,6 @@ pub fn add(
     requires { ⌜ Adds (now roll) (now tags) (now places) at (now address ∷ []) ⌝ }
     ensures { λ r. ⌜ Grew (now (roll .entry)) at (now (address .entry) ∷ []) (now (roll .exit)) r ⌝ }
     ensures { λ r. ⌜ Kept (now (roll .exit)) (now (tags .exit)) (now (places .exit)) r ⌝ }
-    ensures { λ _. ⌜ (length (now (tags .exit)) ≡ length (now (tags .entry))) × (length (now (places .exit)) ≡ length (now (places .entry))) ⌝ }
 {
     let from = at.end;
     let i = at.many;
@@ -79,7 +78,6 @@ pub fn add_list(
     requires { ⌜ Adds (now roll) (now tags) (now places) at (listedIn (now list)) ⌝ }
     ensures { λ r. ⌜ Grew (now (roll .entry)) at (listedIn (now (list .entry))) (now (roll .exit)) r ⌝ }
     ensures { λ r. ⌜ Kept (now (roll .exit)) (now (tags .exit)) (now (places .exit)) r ⌝ }
-    ensures { λ _. ⌜ (length (now (tags .exit)) ≡ length (now (tags .entry))) × (length (now (places .exit)) ≡ length (now (places .entry))) ⌝ }
 {
     match addresslist::count(list) {
         Counted::Count(_) => add_readable(roll, tags, places, at, list),
@@ -98,7 +96,6 @@ fn add_readable(
     requires { ⌜ (isSome (addresses (now list)) ≡ true) × Adds (now roll) (now tags) (now places) at (listedIn (now list)) ⌝ }
     ensures { λ r. ⌜ Grew (now (roll .entry)) at (listedIn (now (list .entry))) (now (roll .exit)) r ⌝ }
     ensures { λ r. ⌜ Kept (now (roll .exit)) (now (tags .exit)) (now (places .exit)) r ⌝ }
-    ensures { λ _. ⌜ (length (now (tags .exit)) ≡ length (now (tags .entry))) × (length (now (places .exit)) ≡ length (now (places .entry))) ⌝ }
 {
     let mut so_far = at;
     let mut here = addresslist::start();

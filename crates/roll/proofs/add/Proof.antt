@@ -1,5 +1,4 @@
 -- `roll::add` meets its contract: the laws of `Adding` answer every need. Assumes nothing.
-use lib.ListN.{length-set}
 use Rattle.roll.proofs.Adding.{adding-one}
 use Rattle.roll.proofs.add as fn
 
@@ -9,4 +8,4 @@ add-spec =
     (λ c. search adding-one) (λ c. search adding-one) (λ c. search adding-one) (λ c. search adding-one)
     (λ c. search adding-one) (λ c. search adding-one) (λ c. search adding-one) (λ c. search adding-one)
     (λ c. search adding-one) (λ c. search adding-one) (λ c. search adding-one)
-    (λ c. (search adding-one, (search adding-one, (simp length-set, simp length-set)))))
+    (λ c. search adding-one))
