@@ -274,7 +274,7 @@ class Probe(Bound):
     # keyfield
 
     def read_field(self, value: bytes, key: bytes) -> tuple[int, bytes, bool, int, bytes]:
-        """The kind (0 valid, 1 spoiled, 2 too little room), the address as it stands, mutual, the key's length, the buffer."""
+        """The kind (0 valid, 1 spoiled, or a key longer than the buffer), the address as it stands, mutual, the key's length, the buffer."""
         lent = Lent(key)
         kind, told = self.told("probe_read_field", 4, {0}, _read + _write, value, len(value), *lent.words())
         start, to, length, mutual = told or (0, 0, 0, 0)

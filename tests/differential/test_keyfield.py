@@ -15,13 +15,12 @@ class KeyField(unittest.TestCase):
         self.random = self.cases.random
 
     def same(self, value: bytes, room: int = 2048) -> int:
+        """The limit is the room, up to 2,048. What a spoiled field leaves in the room means nothing."""
         lent = b"?" * room
         expected = keyfield.read(value)
         kind, its_address, mutual, length, after = self.probe.read_field(value, lent)
-        if expected is None:
-            self.assertEqual((kind, after), (1, lent), value)
-        elif len(expected.key) > room:
-            self.assertEqual((kind, after), (2, lent), value)
+        if expected is None or len(expected.key) > room:
+            self.assertEqual(kind, 1, value)
         else:
             self.assertEqual((kind, mutual, length), (0, expected.mutual, len(expected.key)), value)
             self.assertEqual(address.canonical(its_address), expected.address, value)
@@ -34,7 +33,7 @@ class KeyField(unittest.TestCase):
             value = self.cases.field_value()
             answers.add(self.same(value))
             answers.add(self.same(value, self.random.choice([0, 1, 2, 3, 100, 2047])))
-        self.assertEqual(answers, {0, 1, 2})
+        self.assertEqual(answers, {0, 1})
 
     def test_each_octet(self):
         """Each octet at each place of a good field, in its place and between its octets."""

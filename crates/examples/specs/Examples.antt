@@ -13,6 +13,7 @@ use Rattle.octets.specs.Octets.{ascii}
 use Rattle.header.specs.Header.{FieldText}
 use Rattle.date.specs.Date.{dateOf}
 use Rattle.keyfield.specs.Field.{Field, fieldOf}
+use Rattle.slots.specs.Slot.{keyLimit}
 use Rattle.slots.specs.Entry.{Entry}
 use Rattle.fields.specs.Fields.{fieldsIn}
 use Rattle.outer.specs.Outer.{senderIn}
@@ -55,7 +56,7 @@ ofCounted (some f) = counts
 -- the field that counts in a message, which has a sender
 unfoldable pub countedFrom : Option (List ℕ) → List FieldText → Answer
 countedFrom none fs = doesNotCount
-countedFrom (some sender) fs = ofCounted (countedIn fs sender)
+countedFrom (some sender) fs = ofCounted (countedIn keyLimit fs sender)
 
 unfoldable pub countedOf : List FieldText → Answer
 countedOf fs = countedFrom (senderIn fs) fs
@@ -72,7 +73,7 @@ seenAfter gap =
 
 unfoldable pub answered : Question → Answer
 answered (dateText text) = ofDate (dateOf (ascii text))
-answered (keyData text) = ofField (fieldOf (ascii "addr=a@b.example; keydata=" ++ ascii text))
+answered (keyData text) = ofField (fieldOf keyLimit (ascii "addr=a@b.example; keydata=" ++ ascii text))
 answered (fieldFrom sender value) = countedOf (fieldsIn (ascii "From: " ++ (ascii sender ++ (ascii "\r\nAutocrypt: " ++ ascii value))))
 answered (gapOf n) = advises (adviceFor false false (some (seenAfter n)))
 

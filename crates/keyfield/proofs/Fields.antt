@@ -1,53 +1,34 @@
 -- What a valid field says, as callers ask for it.
 --     said-plain, said-octets                   the address of what a value says is plain, and octets where the value is
---     KeyOf, key-parts, key-made                a key is what its text decodes to, 1 to 2,048 octets
+--     KeyOf, key-parts, key-made                a key is what its text decodes to, 1 octet up to the limit
 --     FieldOf, field-parts                      a field is made of what its value says and of its key
 --     field-canonical                           its address is canonical
 --     field-octets                              and octets where the value is
---     field-least, field-most, field-key-octets     its key has 1 to 2,048 octets, which are octets
+--     field-least, field-most, field-key-octets     its key has 1 octet up to the limit, which are octets
 -- Assumes nothing.
 use Prim.Native.Nat.{ℕ, suc, _<_, _≤_}
 use mathlib.Core.Path.{_≡_, refl, sym, ap, _∙_}
 use mathlib.Core.Bool.{Bool, true}
 use mathlib.Core.Logic.{⊎-elim}
-use mathlib.Core.List.{List, [], _∷_, reverse}
+use mathlib.Core.List.{List, [], _∷_}
 use mathlib.Core.Option.{Option, some, none}
 use native.Mathlib.Omega.{arith}
 use borrow.Author.Tests.{leb-true, le-leb, lt-ltb, ltb-true}
-use lib.Dec.{leb, ltb, eqb}
+use lib.Dec.{leb, ltb}
 use lib.ListN.{length, getD, List·getD-eq-default}
-use Rattle.octets.specs.Octets.{AllOctets, blank, withoutBlanks}
-use Rattle.octets.specs.Finding.{holds}
-use Rattle.octets.proofs.Lists.{lt-or-le}
+use Rattle.octets.specs.Octets.{AllOctets, withoutBlanks}
 use Rattle.octets.specs.Tests.{every, oneTo}
+use Rattle.octets.proofs.Lists.{lt-or-le}
 use Rattle.octets.proofs.Tests.{by-test, and-left, and-right}
 use Rattle.octets.proofs.Every.{every-at}
 use Rattle.letters.specs.Base64.{decode}
 use Rattle.letters.proofs.Standing.{decode-octets}
-use Rattle.address.specs.Pieces.{onFirst, pieces, before, behind}
+use Rattle.address.specs.Pieces.{pieces}
 use Rattle.address.specs.Address.{plain, canonical, isCanonical}
-use Rattle.address.proofs.Pieces.{others, pieces-first}
 use Rattle.address.proofs.Spelling.{plain-is-canonical, canonical-octets}
-use Rattle.keyfield.specs.Field.{trimmedFront, trimmedBack, trimmed, nameOf, attribute, Attribute, addr, preferEncrypt, keydata, ignored, spoiling, attributeOf, Step, on, last, spoils, withAddress, withPreference, step, Said, saidWith, ifLast, saidFrom, saidOf, limited, keyOf, Field, withKey, fieldBy, fieldOf}
-use Rattle.keyfield.specs.declared.Name.{Name}
-use Rattle.keyfield.specs.declared.Name.the-variants.{Addr, PreferEncrypt, Keydata, Ignored, Unknown}
-use Rattle.keyfield.proofs.Trimming.{every-reverse}
-
--- the value of an attribute is what stands behind the "=", trimmed
-value-by : (g : Name) (w v : List ℕ) → attribute g w ≡ addr v → v ≡ w
-unfolding attribute
-value-by Addr w v e = cc
-value-by PreferEncrypt w v e = cc
-value-by Keydata w v e = cc
-value-by Ignored w v e = cc
-value-by Unknown w v e = cc
-
-named-value : (p v : List ℕ) → attributeOf p ≡ addr v → v ≡ trimmed (behind 61 p)
-unfolding attributeOf
-named-value p v e =
-    by-test (holds 61 p)
-    (λ t. value-by (nameOf (trimmed (before 61 p))) (trimmed (behind 61 p)) v (rw (attributeOf, t) at e))
-    (λ t. let k : spoiling ≡ addr v = rw (attributeOf, t) at e in cc)
+use Rattle.attributes.specs.Attribute.{Attribute, addr, preferEncrypt, keydata, ignored, spoiling, attributeOf}
+use Rattle.attributes.proofs.Elements.{every-pieces, every-named}
+use Rattle.keyfield.specs.Field.{Step, on, last, spoils, withAddress, withPreference, step, Said, saidWith, ifLast, saidFrom, saidOf, limited, keyOf, Field, withKey, fieldBy, fieldOf}
 
 -- What holds of the address that is said, where it holds of each plain address that a piece of a kind names.
 module _ (Q : List ℕ → Type 0) (kind : List ℕ → Bool) (named : (p v : List ℕ) → kind p ≡ true → attributeOf p ≡ addr v → plain v ≡ true → Q v) where
@@ -119,40 +100,6 @@ pub said-plain : (s : List ℕ) (x : Said) → saidOf s ≡ some x → plain (x 
 said-plain s x e = said-so (λ v. plain v ≡ true) (λ p. true) (λ p v t n h. h) s x (every-kind (pieces 59 s)) e
 
 -- it is made of octets of the value
-module _ (q : ℕ → Bool) where
-  every-pieces : (d : ℕ) (s : List ℕ) → every q s ≡ true → every (every q) (pieces d s) ≡ true
-  unfolding every pieces onFirst
-  every-pieces d [] e = refl
-  every-pieces d (x ∷ s) e =
-      let h : every (every q) (before d s ∷ others d s) ≡ true = rw (pieces-first d s) at (every-pieces d s (and-right (q x) (every q s) e)) in
-      by-test (eqb x d)
-      (λ t. rw (pieces, t) (every-pieces d s (and-right (q x) (every q s) e)))
-      (λ t. rw (pieces, t, pieces-first d s, and-left (q x) (every q s) e) h)
-
-  every-behind : (d : ℕ) (s : List ℕ) → every q s ≡ true → every q (behind d s) ≡ true
-  unfolding every behind
-  every-behind d [] e = refl
-  every-behind d (x ∷ s) e =
-      by-test (eqb x d)
-      (λ t. rw (behind, t) (and-right (q x) (every q s) e))
-      (λ t. rw (behind, t) (every-behind d s (and-right (q x) (every q s) e)))
-
-  every-front : (s : List ℕ) → every q s ≡ true → every q (trimmedFront s) ≡ true
-  unfolding every trimmedFront
-  every-front [] e = refl
-  every-front (x ∷ s) e =
-      by-test (blank x)
-      (λ t. rw (trimmedFront, t) (every-front s (and-right (q x) (every q s) e)))
-      (λ t. rw (trimmedFront, t) e)
-
-  every-trimmed : (s : List ℕ) → every q s ≡ true → every q (trimmed s) ≡ true
-  unfolding trimmed trimmedBack
-  every-trimmed s e =
-      every-reverse q (trimmedFront (reverse (trimmedFront s))) (every-front (reverse (trimmedFront s)) (every-reverse q (trimmedFront s) (every-front s e)))
-
-  every-named : (p v : List ℕ) → every q p ≡ true → attributeOf p ≡ addr v → every q v ≡ true
-  every-named p v t e = rw (named-value p v e) (every-trimmed (behind 61 p) (every-behind 61 p t))
-
 isOctet : ℕ → Bool
 isOctet x = ltb x 256
 
@@ -175,84 +122,86 @@ said-octets s x h e =
     (said-so (λ v. every isOctet v ≡ true) (every isOctet) (λ p v t n k. every-named isOctet p v t n) s x (every-pieces isOctet 59 s (all-octets s h)) e)
 
 -- a key is what its text decodes to
-pub record KeyOf (v k : List ℕ) : Type 0 where
+pub record KeyOf (limit : ℕ) (v k : List ℕ) : Type 0 where
   pub decoded : decode (withoutBlanks v) ≡ some k
   pub least : 1 ≤ length k
-  pub most : length k ≤ 2048
+  pub most : length k ≤ limit
 
-limited-is : (o : Option (List ℕ)) (k : List ℕ) → limited o ≡ some k → (o ≡ some k) × (oneTo 2048 (length k) ≡ true)
-unfolding limited
-limited-is none k e = let z : _≡_ {A = ℕ} 0 1 = cc in absurd (omega arith)
-limited-is (some w) k e =
-    by-test (oneTo 2048 (length w))
-    (λ t. let q : some w ≡ some k = rw t at e in let r : w ≡ k = cc in (q, rw r at t))
-    (λ t. let q : none ≡ some k = rw t at e in let z : _≡_ {A = ℕ} 0 1 = cc in absurd (omega arith))
+module _ (limit : ℕ) where
+  limited-is : (o : Option (List ℕ)) (k : List ℕ) → limited limit o ≡ some k → (o ≡ some k) × (oneTo limit (length k) ≡ true)
+  unfolding limited
+  limited-is none k e = let z : _≡_ {A = ℕ} 0 1 = cc in absurd (omega arith)
+  limited-is (some w) k e =
+      by-test (oneTo limit (length w))
+      (λ t. let q : some w ≡ some k = rw t at e in let r : w ≡ k = cc in (q, rw r at t))
+      (λ t. let q : none ≡ some k = rw t at e in let z : _≡_ {A = ℕ} 0 1 = cc in absurd (omega arith))
 
-pub key-parts : (v k : List ℕ) → keyOf v ≡ some k → KeyOf v k
-unfolding keyOf
-key-parts v k e =
-    let l = limited-is (decode (withoutBlanks v)) k e in
-    record {
-      decoded = l .0;
-      least = leb-true 1 (length k) (and-left (leb 1 (length k)) (leb (length k) 2048) (l .1));
-      most = leb-true (length k) 2048 (and-right (leb 1 (length k)) (leb (length k) 2048) (l .1));
-    }
+  pub key-parts : (v k : List ℕ) → keyOf limit v ≡ some k → KeyOf limit v k
+  unfolding keyOf
+  key-parts v k e =
+      let l = limited-is (decode (withoutBlanks v)) k e in
+      record {
+        decoded = l .0;
+        least = leb-true 1 (length k) (and-left (leb 1 (length k)) (leb (length k) limit) (l .1));
+        most = leb-true (length k) limit (and-right (leb 1 (length k)) (leb (length k) limit) (l .1));
+      }
 
-pub key-made : (v k : List ℕ) → KeyOf v k → keyOf v ≡ some k
-unfolding keyOf limited
-key-made v k h = rw (h .decoded, le-leb 1 (length k) (h .least), le-leb (length k) 2048 (h .most))
+  pub key-made : (v k : List ℕ) → KeyOf limit v k → keyOf limit v ≡ some k
+  unfolding keyOf limited
+  key-made v k h = rw (h .decoded, le-leb 1 (length k) (h .least), le-leb (length k) limit (h .most))
 
 -- a field is made of what its value says and of its key
-pub record FieldOf (s : List ℕ) (f : Field) : Type 0 where
+pub record FieldOf (limit : ℕ) (s : List ℕ) (f : Field) : Type 0 where
   pub said : Said
   pub says : saidOf s ≡ some said
   pub address : f .address ≡ canonical (said .address)
   pub isMutual : f .isMutual ≡ said .isMutual
-  pub key : keyOf (said .text) ≡ some (f .key)
+  pub key : keyOf limit (said .text) ≡ some (f .key)
 
-with-key : (s : List ℕ) (f : Field) (x : Said) → saidOf s ≡ some x → (o : Option (List ℕ)) → keyOf (x .text) ≡ o
-    → withKey (x .address) (x .isMutual) o ≡ some f → FieldOf s f
-unfolding withKey
-with-key s f x q none p e = let z : _≡_ {A = ℕ} 0 1 = cc in absurd (omega arith)
-with-key s f x q (some k) p e =
-    let r : record { address = canonical (x .address); isMutual = x .isMutual; key = k } ≡ f = cc in
-    record {
-      said = x;
-      says = q;
-      address = ap (λ (g : Field). g .address) (sym r);
-      isMutual = ap (λ (g : Field). g .isMutual) (sym r);
-      key = p ∙ ap (λ (g : Field). some (g .key)) r;
-    }
+module _ (limit : ℕ) (s : List ℕ) (f : Field) where
+  with-key : (x : Said) → saidOf s ≡ some x → (o : Option (List ℕ)) → keyOf limit (x .text) ≡ o
+      → withKey (x .address) (x .isMutual) o ≡ some f → FieldOf limit s f
+  unfolding withKey
+  with-key x q none p e = let z : _≡_ {A = ℕ} 0 1 = cc in absurd (omega arith)
+  with-key x q (some k) p e =
+      let r : record { address = canonical (x .address); isMutual = x .isMutual; key = k } ≡ f = cc in
+      record {
+        said = x;
+        says = q;
+        address = ap (λ (g : Field). g .address) (sym r);
+        isMutual = ap (λ (g : Field). g .isMutual) (sym r);
+        key = p ∙ ap (λ (g : Field). some (g .key)) r;
+      }
 
-by-said : (s : List ℕ) (f : Field) (x : Option Said) → saidOf s ≡ x → fieldBy x ≡ some f → FieldOf s f
-unfolding fieldBy
-by-said s f none q e = let z : _≡_ {A = ℕ} 0 1 = cc in absurd (omega arith)
-by-said s f (some x) q e = with-key s f x q (keyOf (x .text)) refl e
+  by-said : (x : Option Said) → saidOf s ≡ x → fieldBy limit x ≡ some f → FieldOf limit s f
+  unfolding fieldBy
+  by-said none q e = let z : _≡_ {A = ℕ} 0 1 = cc in absurd (omega arith)
+  by-said (some x) q e = with-key x q (keyOf limit (x .text)) refl e
 
-pub field-parts : (s : List ℕ) (f : Field) → fieldOf s ≡ some f → FieldOf s f
-unfolding fieldOf
-field-parts s f e = by-said s f (saidOf s) refl e
+  pub field-parts : fieldOf limit s ≡ some f → FieldOf limit s f
+  unfolding fieldOf
+  field-parts e = by-said (saidOf s) refl e
 
-module _ (s : List ℕ) (f : Field) (e : fieldOf s ≡ some f) where
-  parts : FieldOf s f
-  parts = field-parts s f e
+  module _ (e : fieldOf limit s ≡ some f) where
+    parts : FieldOf limit s f
+    parts = field-parts e
 
-  key-is : KeyOf (parts .said .text) (f .key)
-  key-is = key-parts (parts .said .text) (f .key) (parts .key)
+    key-is : KeyOf limit (parts .said .text) (f .key)
+    key-is = key-parts limit (parts .said .text) (f .key) (parts .key)
 
-  pub field-canonical : isCanonical (f .address) ≡ true
-  field-canonical = rw (parts .address) (plain-is-canonical (parts .said .address) (said-plain s (parts .said) (parts .says)))
+    pub field-canonical : isCanonical (f .address) ≡ true
+    field-canonical = rw (parts .address) (plain-is-canonical (parts .said .address) (said-plain s (parts .said) (parts .says)))
 
-  pub field-least : 1 ≤ length (f .key)
-  field-least = key-is .least
+    pub field-least : 1 ≤ length (f .key)
+    field-least = key-is .least
 
-  pub field-most : length (f .key) ≤ 2048
-  field-most = key-is .most
+    pub field-most : length (f .key) ≤ limit
+    field-most = key-is .most
 
-  pub field-octets : AllOctets s → AllOctets (f .address)
-  field-octets h =
-      let o : AllOctets (parts .said .address) = said-octets s (parts .said) h (parts .says) in
-      rw (parts .address) (canonical-octets (parts .said .address) o)
+    pub field-octets : AllOctets s → AllOctets (f .address)
+    field-octets h =
+        let o : AllOctets (parts .said .address) = said-octets s (parts .said) h (parts .says) in
+        rw (parts .address) (canonical-octets (parts .said .address) o)
 
-  pub field-key-octets : AllOctets (f .key)
-  field-key-octets = decode-octets (withoutBlanks (parts .said .text)) (f .key) (key-is .decoded)
+    pub field-key-octets : AllOctets (f .key)
+    field-key-octets = decode-octets (withoutBlanks (parts .said .text)) (f .key) (key-is .decoded)

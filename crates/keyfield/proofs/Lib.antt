@@ -1,12 +1,8 @@
-pub mod Parts
-pub mod Finding
-pub mod Trimming
-pub mod Cutting
-pub mod Naming
 pub mod Stepping
 pub mod Scanning
 pub mod Keying
 pub mod Reading
+pub mod Chosen
 pub mod Counted
 pub mod Worked
 pub mod Fields

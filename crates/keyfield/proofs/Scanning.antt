@@ -12,8 +12,12 @@ use lib.ListN.{length}
 use Rattle.octets.proofs.Lists.{lt-or-le}
 use Rattle.address.specs.Pieces.{pieces}
 use Rattle.address.proofs.Pieces.{pieces-first}
-use Rattle.keyfield.specs.Field.{attributeOf, step, saidFrom, saidOf, saidWith, ifLast}
-use Rattle.keyfield.specs.Answers.{part, Within, FirstAt, addressAt, Stands, stated, stepAt, NextWithin, Steps, wholeOf, saidAt, WholeWithin, Scans}
+use Rattle.attributes.specs.Attribute.{attributeOf}
+use Rattle.attributes.specs.Answers.{part, Within, FirstAt}
+use Rattle.attributes.proofs.Parts.{part-rest}
+use Rattle.attributes.proofs.Cutting.{cut-pieces, cut-last}
+use Rattle.keyfield.specs.Field.{step, saidFrom, saidOf, saidWith, ifLast}
+use Rattle.keyfield.specs.Answers.{addressAt, Stands, stated, stepAt, NextWithin, Steps, wholeOf, saidAt, WholeWithin, Scans}
 use Rattle.keyfield.specs.declared.AddressAt.{AddressAt}
 use Rattle.keyfield.specs.declared.AddressAt.the-variants.{Unseen, At}
 use Rattle.keyfield.specs.declared.Preference.{Preference}
@@ -22,8 +26,6 @@ use Rattle.keyfield.specs.declared.NextPiece.{NextPiece}
 use Rattle.keyfield.specs.declared.NextPiece.the-variants.{On, Last, Spoils}
 use Rattle.keyfield.specs.declared.Scanned.{Scanned}
 use Rattle.keyfield.specs.declared.Scanned.the-variants.{Broken}
-use Rattle.keyfield.proofs.Parts.{part-rest}
-use Rattle.keyfield.proofs.Cutting.{cut-pieces, cut-last}
 
 pub record Scanning (s : List ℕ) (at : ℕ) (address : AddressAt) (preference : Preference) : Type 0 where
   pub upto : at ≤ length s

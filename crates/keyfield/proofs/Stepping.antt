@@ -12,10 +12,12 @@ use borrow.Author.Needs.{needs}
 use lib.ListN.{take, drop}
 use Rattle.octets.specs.Octets.{ascii, sameOctets}
 use Rattle.address.specs.Address.{plain}
-use Rattle.keyfield.specs.Field.{attributeOf, withAddress, withPreference, step, mutualBy}
-use Rattle.keyfield.specs.Answers.{part, Within, attributeAt, ValueWithin, Tells, addressAt, Stands, stated, stepAt, NextWithin, Steps, wholeOf}
-use Rattle.keyfield.specs.declared.Attribute.{Attribute as Told}
-use Rattle.keyfield.specs.declared.Attribute.the-variants.{Addr, PreferEncrypt, Keydata, Ignored, Spoiling}
+use Rattle.attributes.specs.Attribute.{attributeOf}
+use Rattle.attributes.specs.Answers.{part, Within, attributeAt, ValueWithin, Tells}
+use Rattle.attributes.specs.declared.Attribute.{Attribute as Told}
+use Rattle.attributes.specs.declared.Attribute.the-variants.{Addr, PreferEncrypt, Keydata, Ignored, Spoiling}
+use Rattle.keyfield.specs.Field.{withAddress, withPreference, step, mutualBy}
+use Rattle.keyfield.specs.Answers.{addressAt, Stands, stated, stepAt, NextWithin, Steps, wholeOf}
 use Rattle.keyfield.specs.declared.AddressAt.{AddressAt}
 use Rattle.keyfield.specs.declared.AddressAt.the-variants.{Unseen, At}
 use Rattle.keyfield.specs.declared.Preference.{Preference}

@@ -13,7 +13,8 @@ use Rattle.runs.specs.Runs.{belongs}
 use Rattle.letters.specs.Base64 as base64
 use Rattle.address.specs.Pieces.{onFirst, pieces, before, behind}
 use Rattle.address.specs.Address.{atom, localPart, freeEnds, label, domain, plain, canonical}
-use Rattle.keyfield.specs.Field.{trimmedFront, trimmedBack, trimmed, nameOf, attribute, attributeOf, withAddress, withPreference, step, saidWith, ifLast, saidFrom, saidOf, limited, keyOf, Field, withKey, fieldBy, fieldOf, naming, validFields, counted}
+use Rattle.attributes.specs.Attribute.{trimmedFront, trimmedBack, trimmed, nameOf, attribute, attributeOf}
+use Rattle.keyfield.specs.Field.{withAddress, withPreference, step, saidWith, ifLast, saidFrom, saidOf, limited, keyOf, Field, withKey, fieldBy, fieldOf, naming, validFor, chosen, validFields, counted}
 
 -- the field of a@b.example with the key `foo`, and those of a@b with the key `f`
 abbrev pub foo : Field
@@ -28,7 +29,7 @@ mutualF = record { address = ascii "a@b"; isMutual = true; key = ascii "f" }
 -- "`addr=a@b.example; keydata=Zm9v` from A@B.example counts; with `type=1;` before keydata it doesn't; with `_type=1;` it does; with a final `;` it
 -- doesn't." "two valid, even equal, count as none"
 abbrev pub Counts : Option Field → List (List ℕ) → Type 0
-Counts f values = counted values (canonical (ascii "A@B.example")) ≡ f
+Counts f values = counted 2048 values (canonical (ascii "A@B.example")) ≡ f
 
 abbrev pub WhatCounts : Type 0
 WhatCounts =
@@ -42,17 +43,23 @@ WhatCounts =
 -- "`Zg==` is `f`; `Zh==` and `Zg` spoil the field."
 abbrev pub KeyData : Type 0
 KeyData =
-    (fieldOf (ascii "addr=a@b;keydata=Zg==") ≡ some plainF)
-    × (fieldOf (ascii "addr=a@b;keydata=Zh==") ≡ none)
-    × (fieldOf (ascii "addr=a@b;keydata=Zg") ≡ none)
+    (fieldOf 2048 (ascii "addr=a@b;keydata=Zg==") ≡ some plainF)
+    × (fieldOf 2048 (ascii "addr=a@b;keydata=Zh==") ≡ none)
+    × (fieldOf 2048 (ascii "addr=a@b;keydata=Zg") ≡ none)
+
+-- A key of the limit's octets is one, and a key of one octet more is none.
+abbrev Limits : Type 0
+Limits =
+    (fieldOf 3 (ascii "addr=a@b.example;keydata=Zm9v") ≡ some foo)
+    × (fieldOf 2 (ascii "addr=a@b.example;keydata=Zm9v") ≡ none)
 
 -- K4, K5, K7, K9: preferences, ignored names, blanks, an address with a "="
 abbrev GoodOnes : Type 0
 GoodOnes =
-    (fieldOf (ascii " addr = A@b\t; prefer-encrypt\t= mutual ;keydata= Z g=\t= ") ≡ some mutualF)
-    × (fieldOf (ascii "addr=a@b; prefer-encrypt=Mutual; keydata=Zg==") ≡ some plainF)
-    × (fieldOf (ascii "_=; _=1; addr=a@b; _x=y=z; _=; keydata=Zg==") ≡ some plainF)
-    × (fieldOf (ascii "addr=a=b@c; keydata=Zg==") ≡ some (record { address = ascii "a=b@c"; isMutual = false; key = ascii "f" }))
+    (fieldOf 2048 (ascii " addr = A@b\t; prefer-encrypt\t= mutual ;keydata= Z g=\t= ") ≡ some mutualF)
+    × (fieldOf 2048 (ascii "addr=a@b; prefer-encrypt=Mutual; keydata=Zg==") ≡ some plainF)
+    × (fieldOf 2048 (ascii "_=; _=1; addr=a@b; _x=y=z; _=; keydata=Zg==") ≡ some plainF)
+    × (fieldOf 2048 (ascii "addr=a=b@c; keydata=Zg==") ≡ some (record { address = ascii "a=b@c"; isMutual = false; key = ascii "f" }))
 
 -- K1, K2, K3, K4, K5, K8: what spoils a field
 spoiledOnes : List (List ℕ)
@@ -81,9 +88,9 @@ isSpoiled : Option Field → Bool
 isSpoiled none = true
 isSpoiled (some f) = false
 
-worked : WhatCounts × KeyData × GoodOnes × (every (λ s. isSpoiled (fieldOf s)) spoiledOnes ≡ true)
-unfolding spoiledOnes isSpoiled counted onlyOne validFields naming fieldOf fieldBy withKey keyOf limited saidOf saidFrom ifLast saidWith step withAddress withPreference attributeOf holds attribute nameOf trimmed trimmedBack trimmedFront blank every onFirst pieces before behind plain localPart atom domain label belongs freeEnds canonical lowered lower sameOctets startsWith base64.decode base64.follow base64.before base64.atEnd base64.grouped base64.closed base64.signOf without
-worked = ((refl, refl, refl, refl, refl, refl), (refl, refl, refl), (refl, refl, refl, refl), refl)
+worked : WhatCounts × KeyData × Limits × GoodOnes × (every (λ s. isSpoiled (fieldOf 2048 s)) spoiledOnes ≡ true)
+unfolding spoiledOnes isSpoiled counted onlyOne validFields chosen validFor naming fieldOf fieldBy withKey keyOf limited saidOf saidFrom ifLast saidWith step withAddress withPreference attributeOf holds attribute nameOf trimmed trimmedBack trimmedFront blank every onFirst pieces before behind plain localPart atom domain label belongs freeEnds canonical lowered lower sameOctets startsWith base64.decode base64.follow base64.before base64.atEnd base64.grouped base64.closed base64.signOf without
+worked = ((refl, refl, refl, refl, refl, refl), (refl, refl, refl), (refl, refl), (refl, refl, refl, refl), refl)
 
 pub counts : WhatCounts
 counts = worked .0

@@ -1,30 +1,21 @@
 -- From the rules to what the code answers and leaves in lent memory. An answer gives places of the value; what they show stands between them.
---     part                 what stands between two places
---     Within               two places, in order
---     FirstAt              the first place of an octet
---     TrimmedFrom .. Trimmed    places between which stands what another two have between them, trimmed in front, behind, on both sides
---     attributeAt          the attribute that an answer shows
 --     addressAt, stated    the address and the preference seen so far
---     stepAt               the step that an answer shows
---     saidAt               what the whole value says, as an answer shows it
---     Outcome, outcomeOf   what is answered on a field, with so much room for its key
---     shown                the outcome that an answer shows
---     keyAnswer            the answer on a key alone
---     keyIn, leftIn        the key of a field, and what the memory lent for it holds afterwards: the key, or what it held
-use Prim.Native.Nat.{ℕ, _+_, _-_, _≤_}
+--     PlainAt, Stands      .. the address standing there
+--     stepAt, Steps        the step that an answer shows
+--     wholeOf              what is answered where the key data stands
+--     saidAt, Scans        what the whole value says, as an answer shows it
+--     Opens                a key opens lent memory
+--     KeyAs                the answer on a key alone
+--     ReadAt, ReadAs       the answer on a field
+use Prim.Native.Nat.{ℕ, _-_, _≤_}
 use mathlib.Core.Path.{_≡_}
-use mathlib.Core.Bool.{Bool, true, false, cond}
+use mathlib.Core.Bool.{Bool, true, false}
 use mathlib.Core.List.{List}
 use mathlib.Core.Option.{Option, some, none}
-use lib.Dec.{leb}
 use lib.ListN.{length, take, drop}
-use Rattle.octets.specs.Written.{onto}
-use Rattle.address.specs.Pieces.{before}
 use Rattle.address.specs.Address.{plain, canonical}
-use Rattle.keyfield.specs.Field.{Attribute, addr, preferEncrypt, keydata, ignored, spoiling, Step, on, last, spoils, Said, Field, mutualBy, saidOf, fieldOf, trimmedFront, trimmedBack, trimmed}
-use Rattle.keyfield.specs.declared.Bounds.{Bounds}
-use Rattle.keyfield.specs.declared.Attribute.{Attribute as Told}
-use Rattle.keyfield.specs.declared.Attribute.the-variants.{Addr, PreferEncrypt, Keydata, Ignored, Spoiling}
+use Rattle.attributes.specs.Answers.{part, Within}
+use Rattle.keyfield.specs.Field.{Step, on, last, spoils, Said, Field, mutualBy, saidOf, keyOf, fieldOf}
 use Rattle.keyfield.specs.declared.AddressAt.{AddressAt}
 use Rattle.keyfield.specs.declared.AddressAt.the-variants.{Unseen, At}
 use Rattle.keyfield.specs.declared.Preference.{Preference}
@@ -34,58 +25,9 @@ use Rattle.keyfield.specs.declared.NextPiece.the-variants.{On, Last, Spo
 use Rattle.keyfield.specs.declared.Scanned.{Scanned}
 use Rattle.keyfield.specs.declared.Scanned.the-variants.{Whole, Broken}
 use Rattle.keyfield.specs.declared.Key.{Key}
-use Rattle.keyfield.specs.declared.Key.the-variants.{Length, NoKey, Short}
+use Rattle.keyfield.specs.declared.Key.the-variants.{Length, NoKey}
 use Rattle.keyfield.specs.declared.Read.{Read}
-use Rattle.keyfield.specs.declared.Read.the-variants.{Valid, Spoiled, NoRoom}
-
--- what stands from the place `from` up to the place `to`
-unfoldable pub part : List ℕ → ℕ → ℕ → List ℕ
-part s from to = take (to - from) (drop from s)
-
--- places of s, in order
-pub record Within (s : List ℕ) (from to : ℕ) : Type 0 where
-  pub order : from ≤ to
-  pub upto : to ≤ length s
-
--- r is the first place of x there, or `to` where there is none
-pub record FirstAt (s : List ℕ) (from to x r : ℕ) : Type 0 where
-  pub is : r ≡ from + length (before x (part s from to))
-  pub upto : r ≤ to
-
-pub record TrimmedFrom (s : List ℕ) (from to r : ℕ) : Type 0 where
-  pub is : part s r to ≡ trimmedFront (part s from to)
-  pub low : from ≤ r
-  pub high : r ≤ to
-
-pub record TrimmedTo (s : List ℕ) (from to r : ℕ) : Type 0 where
-  pub is : part s from r ≡ trimmedBack (part s from to)
-  pub low : from ≤ r
-  pub high : r ≤ to
-
-pub record Trimmed (s : List ℕ) (from to : ℕ) (r : Bounds) : Type 0 where
-  pub low : from ≤ r .from
-  pub order : r .from ≤ r .to
-  pub high : r .to ≤ to
-  pub is : part s (r .from) (r .to) ≡ trimmed (part s from to)
-
-unfoldable pub attributeAt : List ℕ → Told → Attribute
-attributeAt s (Addr from to) = addr (part s from to)
-attributeAt s (PreferEncrypt from to) = preferEncrypt (part s from to)
-attributeAt s (Keydata from to) = keydata (part s from to)
-attributeAt s Ignored = ignored
-attributeAt s Spoiling = spoiling
-
-unfoldable pub ValueWithin : List ℕ → Told → Type 0
-ValueWithin s (Addr from to) = Within s from to
-ValueWithin s (PreferEncrypt from to) = Within s from to
-ValueWithin s (Keydata from to) = Within s from to
-ValueWithin s Ignored = Unit
-ValueWithin s Spoiling = Unit
-
--- an answer shows this attribute
-pub record Tells (s : List ℕ) (r : Told) (a : Attribute) : Type 0 where
-  pub is : attributeAt s r ≡ a
-  pub within : ValueWithin s r
+use Rattle.keyfield.specs.declared.Read.the-variants.{Valid, Spoiled}
 
 unfoldable pub addressAt : List ℕ → AddressAt → Option (List ℕ)
 addressAt s Unseen = none
@@ -139,38 +81,27 @@ pub record Scans (s : List ℕ) (r : Scanned) : Type 0 where
   pub is : saidAt s r ≡ saidOf s
   pub within : WholeWithin s r
 
-unfoldable pub keyAnswer : Option (List ℕ) → ℕ → Key
-keyAnswer none room = NoKey
-keyAnswer (some k) room = cond (leb (length k) room) (Length (length k)) Short
+-- The first n octets of the lent memory are a key that the limit allows.
+pub record Opens (limit : ℕ) (key : List ℕ) (n : ℕ) : Type 0 where
+  pub some-octet : 1 ≤ n
+  pub most : n ≤ limit
+  pub within : n ≤ length key
 
--- a field's canonical address, its preference and the length of its key, where the key has room
-pub data Outcome : Type 0 where
-  valid : List ℕ → Bool → ℕ → Outcome
-  spoiled : Outcome
-  crowded : Outcome
+-- Key data stands for the key that opens the lent memory.
+pub record KeyAt (limit : ℕ) (text key : List ℕ) (n : ℕ) : Type 0 where
+  pub is : keyOf limit text ≡ some (take n key)
+  pub opens : Opens limit key n
 
-unfoldable pub outcomeOf : Option Field → ℕ → Outcome
-outcomeOf none room = spoiled
-outcomeOf (some f) room = cond (leb (length (f .key)) room) (valid (f .address) (f .isMutual) (length (f .key))) crowded
+unfoldable pub KeyAs : ℕ → List ℕ → List ℕ → Key → Type 0
+KeyAs limit text key (Length n) = KeyAt limit text key n
+KeyAs limit text key NoKey = keyOf limit text ≡ none
 
-unfoldable pub shown : List ℕ → Read → Outcome
-shown s (Valid from to m n) = valid (canonical (part s from to)) m n
-shown s Spoiled = spoiled
-shown s NoRoom = crowded
+-- The field is valid: its address stands between the places, and its key opens the lent memory.
+pub record ReadAt (limit : ℕ) (s key : List ℕ) (from to : ℕ) (m : Bool) (n : ℕ) : Type 0 where
+  pub is : fieldOf limit s ≡ some (record { address = canonical (take (to - from) (drop from s)); isMutual = m; key = take n key })
+  pub stands : PlainAt s from to
+  pub opens : Opens limit key n
 
-unfoldable pub AddressWithin : List ℕ → Read → Type 0
-AddressWithin s (Valid from to m n) = PlainAt s from to
-AddressWithin s Spoiled = Unit
-AddressWithin s NoRoom = Unit
-
-pub record Answered (s : List ℕ) (room : ℕ) (r : Read) : Type 0 where
-  pub says : shown s r ≡ outcomeOf (fieldOf s) room
-  pub stands : AddressWithin s r
-
-unfoldable pub keyIn : Option Field → Option (List ℕ)
-keyIn none = none
-keyIn (some f) = some (f .key)
-
-unfoldable pub leftIn : Option (List ℕ) → List ℕ → List ℕ
-leftIn none d = d
-leftIn (some w) d = cond (leb (length w) (length d)) (onto w d) d
+unfoldable pub ReadAs : ℕ → List ℕ → List ℕ → Read → Type 0
+ReadAs limit s key (Valid from to m n) = ReadAt limit s key from to m n
+ReadAs limit s key Spoiled = fieldOf limit s ≡ none

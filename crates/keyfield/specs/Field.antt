@@ -1,74 +1,25 @@
--- The value of an Autocrypt or Autocrypt-Gossip field, unfolded, as paper 01 reads it in "The two fields and the update".
---     trimmed                  a name or a value without the blanks around it
---     nameOf                   which attribute a name stands for
---     Attribute, attributeOf   what one piece says
+-- The value of an Autocrypt or Autocrypt-Gossip field, unfolded, as paper 01 reads it in "The two fields and the update". How many octets a key may
+-- have is said by `limit`: 2,048 for the slots of the paper.
 --     Step, step               what a piece comes to behind what was read before it
 --     Said, saidOf             what the whole value says, its key data still a text
---     keyLimit, keyOf          the key that key data stands for
+--     limited, keyOf           the key that key data stands for
 --     Field, fieldOf           what a valid field says; none where it is spoiled
---     validFor, counted        the field that counts, among all Autocrypt fields of a message
+--     validFor                 .. where it names the sender
+--     chosen                   what values come to, in order, those left out that come to nothing
+--     validFields, counted     the field that counts, among all Autocrypt fields of a message
 use Prim.Native.Nat.{ℕ}
-use mathlib.Core.Bool.{Bool, true, false, cond}
-use mathlib.Core.List.{List, [], _∷_, reverse}
+use mathlib.Core.Bool.{Bool, false, cond}
+use mathlib.Core.List.{List, [], _∷_}
 use mathlib.Core.Option.{Option, some, none}
 use lib.ListN.{length}
-use Rattle.octets.specs.Octets.{ascii, octet, sameOctets, startsWith, blank, withoutBlanks}
-use Rattle.octets.specs.Finding.{holds}
+use Rattle.octets.specs.Octets.{octet, sameOctets, withoutBlanks}
 use Rattle.octets.specs.Options.{onlyOne}
 use Rattle.octets.specs.Tests.{oneTo}
 use Rattle.letters.specs.Base64.{decode}
 use Rattle.names.specs.Names as names
-use Rattle.address.specs.Pieces.{pieces, before, behind}
+use Rattle.address.specs.Pieces.{pieces}
 use Rattle.address.specs.Address.{plain, canonical}
-use Rattle.slots.specs.Slot as slot
-use Rattle.keyfield.specs.declared.Name.{Name}
-use Rattle.keyfield.specs.declared.Name.the-variants.{Addr, PreferEncrypt, Keydata, Ignored, Unknown}
-
--- ".. trimmed of spaces and tabs": in front,
-unfoldable pub trimmedFront : List ℕ → List ℕ
-trimmedFront [] = []
-trimmedFront (x ∷ s) = elim (blank x) [ true ↦ trimmedFront s | false ↦ x ∷ s ]
-
--- behind,
-unfoldable pub trimmedBack : List ℕ → List ℕ
-trimmedBack s = reverse (trimmedFront (reverse s))
-
--- and on both sides
-unfoldable pub trimmed : List ℕ → List ℕ
-trimmed s = trimmedBack (trimmedFront s)
-
--- "Names are case-sensitive. .. Names opening with `_` are ignored; others spoil the field." The empty name is one of the others.
-unfoldable pub nameOf : List ℕ → Name
-nameOf s =
-    cond (sameOctets s names.addr) Addr
-    (cond (sameOctets s names.preferEncrypt) PreferEncrypt
-    (cond (sameOctets s names.keydata) Keydata
-    (cond (startsWith (ascii "_") s) Ignored
-    Unknown)))
-
--- what one piece says: an attribute with its value, one that is ignored, or nothing that a field may hold
-pub data Attribute : Type 0 where
-  addr : List ℕ → Attribute
-  preferEncrypt : List ℕ → Attribute
-  keydata : List ℕ → Attribute
-  ignored : Attribute
-  spoiling : Attribute
-
-unfoldable pub attribute : Name → List ℕ → Attribute
-attribute Addr v = addr v
-attribute PreferEncrypt v = preferEncrypt v
-attribute Keydata v = keydata v
-attribute Ignored v = ignored
-attribute Unknown v = spoiling
-
--- "each piece is name, `=`, value, parted at its first `=`, name and value each trimmed of spaces and tabs. A piece without `=` or with an
--- empty name spoils the field."
-unfoldable pub attributeOf : List ℕ → Attribute
-attributeOf p =
-    elim (holds (octet "=") p) [
-      | true ↦ attribute (nameOf (trimmed (before (octet "=") p))) (trimmed (behind (octet "=") p))
-      | false ↦ spoiling
-    ]
+use Rattle.attributes.specs.Attribute.{Attribute, addr, preferEncrypt, keydata, ignored, spoiling, attributeOf}
 
 -- What a piece comes to: the reading goes on with the address and the preference seen so far, it is at the key data, or the field is spoiled.
 pub data Step : Type 0 where
@@ -127,17 +78,14 @@ saidFrom address preference (p ∷ rest) =
 unfoldable pub saidOf : List ℕ → Option Said
 saidOf s = saidFrom none none (pieces (octet ";") s)
 
--- ".. decoding to 1 to 2,048 octets": as much as a slot holds
-abbrev pub keyLimit : ℕ
-keyLimit = slot.keyLimit
-
-unfoldable pub limited : Option (List ℕ) → Option (List ℕ)
-limited none = none
-limited (some k) = cond (oneTo keyLimit (length k)) (some k) none
+-- ".. decoding to 1 to 2,048 octets"
+unfoldable pub limited : ℕ → Option (List ℕ) → Option (List ℕ)
+limited limit none = none
+limited limit (some k) = cond (oneTo limit (length k)) (some k) none
 
 -- "Key data: spaces and tabs removed, then padded Base64 with zero unused bits, decoding to 1 to 2,048 octets."
-unfoldable pub keyOf : List ℕ → Option (List ℕ)
-keyOf v = limited (decode (withoutBlanks v))
+unfoldable pub keyOf : ℕ → List ℕ → Option (List ℕ)
+keyOf limit v = limited limit (decode (withoutBlanks v))
 
 -- a valid field, its address in canonical form
 pub record Field : Type 0 where
@@ -149,26 +97,29 @@ unfoldable pub withKey : List ℕ → Bool → Option (List ℕ) → Option Fiel
 withKey a m none = none
 withKey a m (some k) = some (record { address = canonical a; isMutual = m; key = k })
 
-unfoldable pub fieldBy : Option Said → Option Field
-fieldBy none = none
-fieldBy (some f) = withKey (f .address) (f .isMutual) (keyOf (f .text))
+unfoldable pub fieldBy : ℕ → Option Said → Option Field
+fieldBy limit none = none
+fieldBy limit (some f) = withKey (f .address) (f .isMutual) (keyOf limit (f .text))
 
-unfoldable pub fieldOf : List ℕ → Option Field
-fieldOf s = fieldBy (saidOf s)
+unfoldable pub fieldOf : ℕ → List ℕ → Option Field
+fieldOf limit s = fieldBy limit (saidOf s)
 
 -- "An Autocrypt field is valid if it also names the sender", who is given by the canonical address.
 unfoldable pub naming : List ℕ → Option Field → Option Field
 naming sender none = none
 naming sender (some f) = cond (sameOctets (f .address) sender) (some f) none
 
-abbrev pub validFor : List ℕ → List ℕ → Option Field
-validFor sender s = naming sender (fieldOf s)
+unfoldable pub validFor : ℕ → List ℕ → List ℕ → Option Field
+validFor limit sender s = naming sender (fieldOf limit s)
+
+unfoldable pub chosen : {A : Type 0} → (List ℕ → Option A) → List (List ℕ) → List A
+chosen f [] = []
+chosen f (v ∷ rest) = elim (f v) [ none ↦ chosen f rest | some x ↦ x ∷ chosen f rest ]
 
 -- the valid ones, in order
-unfoldable pub validFields : List ℕ → List (List ℕ) → List Field
-validFields sender [] = []
-validFields sender (s ∷ rest) = elim (validFor sender s) [ none ↦ validFields sender rest | some f ↦ f ∷ validFields sender rest ]
+unfoldable pub validFields : ℕ → List ℕ → List (List ℕ) → List Field
+validFields limit sender values = chosen (validFor limit sender) values
 
 -- "Only exactly one valid field counts; two valid, even equal, count as none." The values are those of all Autocrypt fields, in order.
-unfoldable pub counted : List (List ℕ) → List ℕ → Option Field
-counted values sender = onlyOne (validFields sender values)
+unfoldable pub counted : ℕ → List (List ℕ) → List ℕ → Option Field
+counted limit values sender = onlyOne (validFields limit sender values)

@@ -1,3 +1,2 @@
-pub mod ReadKeys
 pub mod OwnField
 pub mod Accepting

@@ -1,92 +1,67 @@
 -- One Autocrypt field: by what the field says, and whether it names the sender.
---     own-spoiled .. own-key      the answer
---     own-is .. own-nothing       what a caller asks of it
+--     own-spoiled, own-other, own-key      the answer
+--     own-at, own-nothing                  what a caller asks of it
 -- Assumes nothing.
-use Prim.Native.Nat.{ℕ, _-_, _≤_}
+use Prim.Native.Nat.{ℕ, _-_}
 use mathlib.Core.Path.{_≡_, refl, sym, ap, _∙_}
 use mathlib.Core.Bool.{Bool, true, false}
 use mathlib.Core.List.{List}
-use mathlib.Core.Option.{Option, some, none}
+use mathlib.Core.Option.{Option, none}
 use borrow.Author.Needs.{needs}
-use lib.ListN.{length, take, drop}
+use lib.ListN.{take, drop}
 use Rattle.octets.specs.Octets.{sameOctets}
 use Rattle.octets.proofs.Comparing.{same-true}
 use Rattle.address.specs.Address.{canonical, isCanonical}
 use Rattle.address.proofs.Spelling.{canonical-same}
-use Rattle.slots.specs.Slot.{keyLimit}
-use Rattle.keyfield.specs.Field.{Field, fieldOf, validFor}
-use Rattle.keyfield.specs.Answers.{Answered, keyIn, leftIn}
+use Rattle.keyfield.specs.Field.{Field, validFor}
+use Rattle.keyfield.specs.Answers.{ReadAt, ReadAs}
 use Rattle.keyfield.specs.declared.Read.{Read}
-use Rattle.keyfield.specs.declared.Read.the-variants.{Valid, Spoiled, NoRoom}
-use Rattle.keyfield.proofs.Told.{told-spoiled, never-crowded}
+use Rattle.keyfield.specs.declared.Read.the-variants.{Valid, Spoiled}
+use Rattle.keyfield.proofs.Told.{told-from, told-upto, told-field, told-spoiled}
 use Rattle.keyfield.proofs.Counted.{naming-sender, naming-other, naming-spoiled}
 use Rattle.keyowner.specs.Answers.{OwnAt, OwnAs}
 use Rattle.keyowner.specs.declared.Own.{Own}
 use Rattle.keyowner.specs.declared.Own.the-variants.{Key, NoKey}
-use Rattle.keyowner.proofs.ReadKeys.{Holds, read-from, read-upto, read-valid}
 
-module _ (sender s old : List ℕ) (r : Read) (a : Answered s (length old) r) where
-  pub own-spoiled : (key : List ℕ) → r ≡ Spoiled → OwnAs sender (validFor sender s) key NoKey
+module _ (limit : ℕ) (sender s key : List ℕ) (r : Read) where
+  pub own-spoiled : r ≡ Spoiled → ReadAs limit s key r → OwnAs limit sender (validFor limit sender s) key NoKey
   unfolding OwnAs
-  own-spoiled key y = naming-spoiled sender s (told-spoiled s (length old) r a y)
+  own-spoiled q a = naming-spoiled limit sender s (told-spoiled limit s key r a q)
 
-  -- there is room
-  pub own-crowded : (key : List ℕ) → keyLimit ≤ length old → r ≡ NoRoom → OwnAs sender (validFor sender s) key NoKey
-  own-crowded key l y = absurd (never-crowded s (length old) r a l y)
+  -- by the test first
+  module _ (b : Bool) (from to : ℕ) where
+    abbrev named : List ℕ
+    named = canonical (take (to - from) (drop from s))
 
--- by the test first
-module _ (sender s key : List ℕ) (b : Bool) (from to : ℕ) where
-  abbrev named : List ℕ
-  named = canonical (take (to - from) (drop from s))
+    alike : b ≡ sameOctets named (canonical sender) → isCanonical sender ≡ true → b ≡ sameOctets named sender
+    alike u c = u ∙ ap (sameOctets named) (canonical-same sender c)
 
-  alike : b ≡ sameOctets named (canonical sender) → isCanonical sender ≡ true → b ≡ sameOctets named sender
-  alike u c = u ∙ ap (sameOctets named) (canonical-same sender c)
+    pub own-other :
+        b ≡ false → b ≡ sameOctets (canonical (take (to - from) (drop from s))) (canonical sender) → isCanonical sender ≡ true
+        → (m : Bool) (l : ℕ) → r ≡ Valid from to m l → ReadAs limit s key r → OwnAs limit sender (validFor limit sender s) key NoKey
+    unfolding OwnAs
+    own-other z u c m l q a =
+        naming-other limit sender s (record { address = named; isMutual = m; key = take l key })
+        (told-field limit s key r a from to m l q .is)
+        (sym (alike u c) ∙ z)
 
-  pub own-other :
-      b ≡ false → b ≡ sameOctets (canonical (take (to - from) (drop from s))) (canonical sender) → isCanonical sender ≡ true
-      → (r : Read) (m : Bool) (l : ℕ) → r ≡ Valid from to m l → (old : List ℕ) → Answered s (length old) r → key ≡ leftIn (keyIn (fieldOf s)) old
-      → OwnAs sender (validFor sender s) key NoKey
-  unfolding OwnAs
-  own-other z u c r m l y old a left =
-      let field : Holds s named key m l = read-valid s old key r a left from to m l y in
-      naming-other sender s (record { address = named; isMutual = m; key = take l key }) (field .is) (sym (alike u c) ∙ z)
+    pub own-key :
+        b ≡ true → b ≡ sameOctets (canonical (take (to - from) (drop from s))) (canonical sender) → isCanonical sender ≡ true
+        → (m : Bool) (l : ℕ) → r ≡ Valid from to m l → ReadAs limit s key r → OwnAs limit sender (validFor limit sender s) key (Key m l)
+    unfolding OwnAs
+    own-key z u c m l q a =
+        let read : ReadAt limit s key from to m l = told-field limit s key r a from to m l q in
+        let same : named ≡ sender = same-true named sender (sym (alike u c) ∙ z) in
+        let f : Field = record { address = sender; isMutual = m; key = take l key } in
+        record { is = naming-sender limit sender s f (rw same at (read .is)) refl; opens = read .opens }
 
-  pub own-key :
-      b ≡ true → b ≡ sameOctets (canonical (take (to - from) (drop from s))) (canonical sender) → isCanonical sender ≡ true
-      → (r : Read) (m : Bool) (l : ℕ) → r ≡ Valid from to m l → (old : List ℕ) → Answered s (length old) r → key ≡ leftIn (keyIn (fieldOf s)) old
-      → OwnAs sender (validFor sender s) key (Key m l)
-  unfolding OwnAs
-  own-key z u c r m l y old a left =
-      let field : Holds s named key m l = read-valid s old key r a left from to m l y in
-      let same : named ≡ sender = same-true named sender (sym (alike u c) ∙ z) in
-      let f : Field = record { address = sender; isMutual = m; key = take l key } in
-      record {
-        is = naming-sender sender s f (rw same at (field .is)) refl;
-        some-octet = field .some-octet;
-        most = field .most;
-        within = field .within;
-      }
-
-pub ruleset owning = (own-spoiled, own-crowded, own-other, own-key, read-from, read-upto, needs)
+pub ruleset owning = (own-spoiled, own-other, own-key, told-from, told-upto, needs)
 
 -- as a caller asks it of an answer r
-module _ (sender : List ℕ) (o : Option Field) (key : List ℕ) (r : Own) (p : OwnAs sender o key r) where
-  module _ (m : Bool) (n : ℕ) (q : r ≡ Key m n) where
-    own : OwnAt sender o key m n
-    unfolding OwnAs
-    own = rw q at p
-
-    pub own-is : o ≡ some (record { address = sender; isMutual = m; key = take n key })
-    own-is = own .is
-
-    pub own-some-octet : 1 ≤ n
-    own-some-octet = own .some-octet
-
-    pub own-most : n ≤ keyLimit
-    own-most = own .most
-
-    pub own-within : n ≤ length key
-    own-within = own .within
+module _ (limit : ℕ) (sender : List ℕ) (o : Option Field) (key : List ℕ) (r : Own) (p : OwnAs limit sender o key r) where
+  pub own-at : (m : Bool) (n : ℕ) → r ≡ Key m n → OwnAt limit sender o key m n
+  unfolding OwnAs
+  own-at m n q = rw q at p
 
   pub own-nothing : r ≡ NoKey → o ≡ none
   unfolding OwnAs

@@ -1,6 +1,6 @@
 -- From the rules to what the code answers and leaves in lent memory.
---     OwnAs          a field of the sender, its key in lent memory
---     AcceptedAs     a gossip field that is accepted, its address and its key in lent memory
+--     OwnAt, OwnAs                a field of the sender, its key in lent memory
+--     AcceptedAt, AcceptedAs      a gossip field that is accepted, its address and its key in lent memory
 use Prim.Native.Nat.{ℕ, _≤_}
 use mathlib.Core.Path.{_≡_}
 use mathlib.Core.Bool.{Bool, true}
@@ -8,8 +8,8 @@ use mathlib.Core.List.{List}
 use mathlib.Core.Option.{Option, some, none}
 use lib.ListN.{length, take}
 use Rattle.address.specs.Address.{isCanonical}
-use Rattle.slots.specs.Slot.{keyLimit}
 use Rattle.keyfield.specs.Field.{Field}
+use Rattle.keyfield.specs.Answers.{Opens}
 use Rattle.update.specs.Message.{Gossiped}
 use Rattle.keyowner.specs.declared.Own.{Own}
 use Rattle.keyowner.specs.declared.Own.the-variants.{Key, NoKey}
@@ -17,25 +17,21 @@ use Rattle.keyowner.specs.declared.Accepted.{Accepted}
 use Rattle.keyowner.specs.declared.Accepted.the-variants.{Gossip, NotAccepted}
 
 -- The field has this preference, and its key opens the lent memory.
-pub record OwnAt (sender : List ℕ) (field : Option Field) (key : List ℕ) (m : Bool) (n : ℕ) : Type 0 where
+pub record OwnAt (limit : ℕ) (sender : List ℕ) (field : Option Field) (key : List ℕ) (m : Bool) (n : ℕ) : Type 0 where
   pub is : field ≡ some (record { address = sender; isMutual = m; key = take n key })
-  pub some-octet : 1 ≤ n
-  pub most : n ≤ keyLimit
-  pub within : n ≤ length key
+  pub opens : Opens limit key n
 
-unfoldable pub OwnAs : List ℕ → Option Field → List ℕ → Own → Type 0
-OwnAs sender field key (Key m n) = OwnAt sender field key m n
-OwnAs sender field key NoKey = field ≡ none
+unfoldable pub OwnAs : ℕ → List ℕ → Option Field → List ℕ → Own → Type 0
+OwnAs limit sender field key (Key m n) = OwnAt limit sender field key m n
+OwnAs limit sender field key NoKey = field ≡ none
 
 -- The gossip has this address, in canonical form, and this key, which open the two lent memories.
-pub record AcceptedAt (gossip : Option Gossiped) (address key : List ℕ) (n k : ℕ) : Type 0 where
+pub record AcceptedAt (limit : ℕ) (gossip : Option Gossiped) (address key : List ℕ) (n k : ℕ) : Type 0 where
   pub is : gossip ≡ some (record { address = take n address; key = take k key })
   pub canonical : isCanonical (take n address) ≡ true
   pub address-within : n ≤ length address
-  pub some-octet : 1 ≤ k
-  pub most : k ≤ keyLimit
-  pub within : k ≤ length key
+  pub opens : Opens limit key k
 
-unfoldable pub AcceptedAs : Option Gossiped → List ℕ → List ℕ → Accepted → Type 0
-AcceptedAs gossip address key (Gossip n k) = AcceptedAt gossip address key n k
-AcceptedAs gossip address key NotAccepted = gossip ≡ none
+unfoldable pub AcceptedAs : ℕ → Option Gossiped → List ℕ → List ℕ → Accepted → Type 0
+AcceptedAs limit gossip address key (Gossip n k) = AcceptedAt limit gossip address key n k
+AcceptedAs limit gossip address key NotAccepted = gossip ≡ none

@@ -7,10 +7,10 @@ ghost use mathlib.Core.Path.{_≡_};
 ghost use mathlib.Core.Bool.{true};
 ghost use lib.ListN.{length};
 ghost use Rattle.address.specs.Address.{isCanonical};
-ghost use Rattle.slots.specs.Slot.{addressRoom, keyLimit};
-ghost use Rattle.keyfield.specs.Field.{fieldOf, validFor};
+ghost use Rattle.slots.specs.Slot.{addressRoom};
+ghost use Rattle.keyfield.specs.Field.{validFor};
 ghost use Rattle.roll.specs.Roll.{unrolled};
-ghost use Rattle.keyowner.specs.Owners.{acceptedBy};
+ghost use Rattle.keyowner.specs.Owners.{acceptedFor};
 ghost use Rattle.keyowner.specs.Answers.{OwnAs, AcceptedAs};
 use keyfield::Read;
 
@@ -26,12 +26,13 @@ pub enum Accepted {
     NotAccepted,
 }
 
-// Is the Autocrypt field with this value valid for the sender? Its key is then written to the front of `key`.
-pub fn valid_for(value: &[u8], sender: &[u8], key: &mut [u8]) -> Own
-    requires { ⌜ (isCanonical (now sender) ≡ true) × (keyLimit ≤ length (now key)) ⌝ }
-    ensures { λ r. ⌜ OwnAs (now (sender .entry)) (validFor (now (sender .entry)) (now (value .entry))) (now (key .exit)) r ⌝ }
+// Is the Autocrypt field with this value valid for the sender? Its key, of 1 to `limit` octets, is then written to the front
+// of `key`.
+pub fn valid_for(value: &[u8], limit: usize, sender: &[u8], key: &mut [u8]) -> Own
+    requires { ⌜ (isCanonical (now sender) ≡ true) × (limit ≤ length (now key)) ⌝ }
+    ensures { λ r. ⌜ OwnAs limit (now (sender .entry)) (validFor limit (now (sender .entry)) (now (value .entry))) (now (key .exit)) r ⌝ }
 {
-    match keyfield::read_field(value, key) {
+    match keyfield::read_field(value, limit, key) {
         Read::Valid {
             from,
             to,
@@ -44,16 +45,23 @@ pub fn valid_for(value: &[u8], sender: &[u8], key: &mut [u8]) -> Own
             Own::NoKey
         }
         Read::Spoiled => Own::NoKey,
-        Read::NoRoom => Own::NoKey,
     }
 }
 
-// Is the gossip field with this value accepted? Its address and key are then written to the front of the two.
-pub fn accept(value: &[u8], recipients: &[u8], address: &mut [u8], key: &mut [u8]) -> Accepted
-    requires { ⌜ (addressRoom ≤ length (now address)) × (keyLimit ≤ length (now key)) ⌝ }
-    ensures { λ r. ⌜ AcceptedAs (acceptedBy (unrolled (now (recipients .entry))) (fieldOf (now (value .entry)))) (now (address .exit)) (now (key .exit)) r ⌝ }
+// Is the gossip field with this value accepted? Its address and its key, of 1 to `limit` octets, are then written to the
+// front of the two.
+pub fn accept(
+    value: &[u8],
+    limit: usize,
+    recipients: &[u8],
+    address: &mut [u8],
+    key: &mut [u8],
+) -> Accepted
+    requires { ⌜ (addressRoom ≤ length (now address)) × (limit ≤ length (now key)) ⌝ }
+    ensures { λ r. ⌜ AcceptedAs limit (acceptedFor limit (unrolled (now (recipients .entry))) (now (value .entry)))
+        (now (address .exit)) (now (key .exit)) r ⌝ }
 {
-    match keyfield::read_field(value, key) {
+    match keyfield::read_field(value, limit, key) {
         Read::Valid {
             from,
             to,
@@ -72,6 +80,5 @@ pub fn accept(value: &[u8], recipients: &[u8], address: &mut [u8], key: &mut [u8
             address::Fitted::NoRoom => Accepted::NotAccepted,
         },
         Read::Spoiled => Accepted::NotAccepted,
-        Read::NoRoom => Accepted::NotAccepted,
     }
 }

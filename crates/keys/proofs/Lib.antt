@@ -1,3 +1,4 @@
+pub mod Walking
 pub mod ValidFields
 pub mod Counting
 pub mod AcceptedGossip

@@ -15,14 +15,15 @@ use Rattle.letters.specs.Base64 as base64
 use Rattle.address.specs.Pieces.{onFirst, pieces, before, behind}
 use Rattle.address.specs.Address.{atom, localPart, freeEnds, label, domain, plain, canonical}
 use Rattle.addresslist.specs.List.{among}
-use Rattle.keyfield.specs.Field.{Field, trimmedFront, trimmedBack, trimmed, nameOf, attribute, attributeOf, withAddress, withPreference, step, saidWith, ifLast, saidFrom, saidOf, limited, keyOf, withKey, fieldBy, fieldOf, naming, validFields, counted}
+use Rattle.attributes.specs.Attribute.{trimmedFront, trimmedBack, trimmed, nameOf, attribute, attributeOf}
+use Rattle.keyfield.specs.Field.{Field, withAddress, withPreference, step, saidWith, ifLast, saidFrom, saidOf, limited, keyOf, withKey, fieldBy, fieldOf, naming, validFor, chosen, validFields, counted}
 use Rattle.update.specs.Message.{Gossiped}
 use Rattle.fields.specs.Fields.{fieldsIn, isKind, valuesOf}
-use Rattle.keyowner.specs.Owners.{acceptedBy}
+use Rattle.keyowner.specs.Owners.{acceptedBy, acceptedFor}
 use Rattle.keys.specs.Keys.{countedIn, accepted, gossipIn}
 
 abbrev countedOf : String → Option Field
-countedOf s = countedIn (fieldsIn (ascii s)) (ascii "a@b")
+countedOf s = countedIn 2048 (fieldsIn (ascii s)) (ascii "a@b")
 
 abbrev key : String → Option Field
 key k = some (record { address = ascii "a@b"; isMutual = false; key = ascii k })
@@ -38,7 +39,7 @@ counts :
     ∷ "Autocrypt: addr=c@d; keydata=Zg=="
     ∷ [])
     ≡ key "f" ∷ key "f" ∷ none ∷ none ∷ none ∷ []
-unfolding header.fieldsOf header.fields header.fieldsWithin inFront header.unfolded header.over header.ofEnding header.opensField run header.rawLength belongs header.closes sameName sameOctets startsWith lowered lower trimmedFront trimmedBack trimmed nameOf attribute holds attributeOf withAddress withPreference step saidWith ifLast saidFrom saidOf limited keyOf withKey fieldBy fieldOf naming validFields onlyOne counted base64.decode base64.follow base64.before base64.atEnd base64.grouped base64.closed base64.signOf without blank every onFirst pieces before behind atom localPart freeEnds label domain plain canonical orElse fieldsIn isKind valuesOf countedIn
+unfolding header.fieldsOf header.fields header.fieldsWithin inFront header.unfolded header.over header.ofEnding header.opensField run header.rawLength belongs header.closes sameName sameOctets startsWith lowered lower trimmedFront trimmedBack trimmed nameOf attribute holds attributeOf withAddress withPreference step saidWith ifLast saidFrom saidOf limited keyOf withKey fieldBy fieldOf naming validFor chosen validFields onlyOne counted base64.decode base64.follow base64.before base64.atEnd base64.grouped base64.closed base64.signOf without blank every onFirst pieces before behind atom localPart freeEnds label domain plain canonical orElse fieldsIn isKind valuesOf countedIn
 counts = refl
 
 abbrev gossip : String → String → Gossiped
@@ -46,10 +47,10 @@ gossip a k = record { address = ascii a; key = ascii k }
 
 -- In order, in canonical form and each time it is said; not what is about nobody in the lists, spoiled, or an Autocrypt field. A preference is ignored.
 heard :
-    gossipIn (ascii "C@d" ∷ ascii "a@b" ∷ [])
+    gossipIn 2048 (ascii "C@d" ∷ ascii "a@b" ∷ [])
     (fieldsIn
     (ascii
     "Autocrypt-Gossip: addr=a@B; keydata=Zg==\nAutocrypt-Gossip: addr=x@y; keydata=Zg==\nautocrypt-gossip: addr=c@d; prefer-encrypt=mutual; keydata=Zm9v\nAutocrypt: addr=a@b; keydata=Zm9v\nAutocrypt-Gossip: addr=c@d\nAutocrypt-Gossip: addr=a@b; keydata=Zm9v"))
     ≡ gossip "a@b" "f" ∷ gossip "c@d" "foo" ∷ gossip "a@b" "foo" ∷ []
-unfolding header.fieldsOf header.fields header.fieldsWithin inFront header.unfolded header.over header.ofEnding header.opensField run header.rawLength belongs header.closes sameName sameOctets startsWith lowered lower trimmedFront trimmedBack trimmed nameOf attribute holds attributeOf withAddress withPreference step saidWith ifLast saidFrom saidOf limited keyOf withKey fieldBy fieldOf base64.decode base64.follow base64.before base64.atEnd base64.grouped base64.closed base64.signOf without blank every onFirst pieces before behind atom localPart freeEnds label domain plain canonical among orElse fieldsIn isKind valuesOf acceptedBy accepted gossipIn
+unfolding header.fieldsOf header.fields header.fieldsWithin inFront header.unfolded header.over header.ofEnding header.opensField run header.rawLength belongs header.closes sameName sameOctets startsWith lowered lower trimmedFront trimmedBack trimmed nameOf attribute holds attributeOf withAddress withPreference step saidWith ifLast saidFrom saidOf limited keyOf withKey fieldBy fieldOf base64.decode base64.follow base64.before base64.atEnd base64.grouped base64.closed base64.signOf without blank every onFirst pieces before behind atom localPart freeEnds label domain plain canonical among orElse fieldsIn isKind valuesOf acceptedBy acceptedFor chosen accepted gossipIn
 heard = refl

@@ -1,5 +1,7 @@
 // The lower crates' functions under C names, for the differential tests and nothing else: never shipped. Each export
 // is thin, takes any input, and tests here what a function below requires of its caller.
+ghost use Prim.Native.Nat.{_≤_};
+use slots::Slot;
 
 #[repr(C)]
 pub struct Answer {
@@ -408,14 +410,24 @@ pub extern "C" fn probe_count_free(t: &[u8]) -> usize {
     table::count_free(t)
 }
 
-// kind 0: valid: its address from where to where, the key's length, 1 for mutual; 1: spoiled; 2: too little room for the key
+// As many octets as a key may have in a slot, and no more than there is room for.
+fn limit_for(room: usize) -> usize
+    ensures { λ r. ⌜ r ≤ room ⌝ }
+{
+    if room < Slot::KEY_LIMIT {
+        return room;
+    }
+    Slot::KEY_LIMIT
+}
+
+// kind 0: valid: its address from where to where, the key's length, 1 for mutual; 1: spoiled, by a key too that has no room
 #[no_mangle]
 pub extern "C" fn probe_read_field(value: &[u8], key: &mut [u8], told: &mut [u64]) -> u64 {
     // before the key is written
     if told.len() < 4 {
         return TOO_FEW;
     }
-    match keyfield::read_field(value, key) {
+    match keyfield::read_field(value, limit_for(key.len()), key) {
         keyfield::Read::Valid {
             from,
             to,
@@ -426,7 +438,6 @@ pub extern "C" fn probe_read_field(value: &[u8], key: &mut [u8], told: &mut [u64
             tell(told, &parts, 0)
         }
         keyfield::Read::Spoiled => 1,
-        keyfield::Read::NoRoom => 2,
     }
 }
 

@@ -13,6 +13,7 @@ use Rattle.octets.specs.Options.{orElse}
 use Rattle.address.specs.Address.{plain, canonical}
 use Rattle.addresslist.specs.List.{addresses, among}
 use Rattle.addresslist.proofs.Readable.{plain-alone}
+use Rattle.slots.specs.Slot.{keyLimit}
 use Rattle.keyfield.specs.Field.{validFields}
 use Rattle.slots.specs.Entry.{Direct}
 use Rattle.table.specs.Table.{checked}
@@ -56,7 +57,7 @@ module _ (t a : List ℕ) (s : checked t ≡ Sound) (p : plain a ≡ true) where
 module _ (t : List ℕ) (receipt : ℕ) (outer payload : List ℕ) (setting : Gossip) (table-octets : AllOctets t) (outer-octets : AllOctets outer)
     (payload-octets : AllOctets payload) (done : answerOf (refusedProcessing t receipt outer payload setting) ≡ Done) where
   pub key-handed-out : (a k : List ℕ) (m : Bool) → Writable a k → (h : Holding outer (autocryptField a m k))
-      → senderIn (fieldsIn outer) ≡ some (canonical a) → validFields (canonical a) (valuesOf Autocrypt (others h)) ≡ []
+      → senderIn (fieldsIn outer) ≡ some (canonical a) → validFields keyLimit (canonical a) (valuesOf Autocrypt (others h)) ≡ []
       → younger (dateIn (fieldsIn outer) receipt) (directHalf (entryIn t (canonical a))) ≡ false
       → targetKeyOf (leftByProcessing t receipt outer payload setting) a 0 ≡ k
   unfolding targetIn targetOf targetBy directOf
@@ -67,7 +68,7 @@ module _ (t : List ℕ) (receipt : ℕ) (outer payload : List ℕ) (setting : Go
       ∙ ap (λ (d : Option Direct). targetBy d (gossipOf (has .entry))) (has .set newest)
 
   pub gossip-handed-out : (b k : List ℕ) → Writable b k → (h : Holding payload (gossipField b k)) → taken setting ≡ true
-      → among (canonical b) (recipientsIn (fieldsIn outer)) ≡ true → noneAbout (canonical b) (gossipIn (recipientsIn (fieldsIn outer)) (behind h)) ≡ true
+      → among (canonical b) (recipientsIn (fieldsIn outer)) ≡ true → noneAbout (canonical b) (gossipIn keyLimit (recipientsIn (fieldsIn outer)) (behind h)) ≡ true
       → youngerGossip (dateIn (fieldsIn outer) receipt) (gossipHalf (entryIn t (canonical b))) ≡ false
       → directHalf (entryIn (leftByProcessing t receipt outer payload setting) (canonical b)) ≡ none
       → targetKeyOf (leftByProcessing t receipt outer payload setting) b 0 ≡ k

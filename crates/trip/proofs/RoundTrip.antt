@@ -34,8 +34,10 @@ use Rattle.header.specs.Header.{over, fields}
 use Rattle.header.proofs.Unfolding.{NoLf}
 use Rattle.header.proofs.Fields.{fields-over}
 use Rattle.header.proofs.InFront.{field-in-front}
-use Rattle.keyfield.specs.Field.{keyLimit, limited, keyOf, fieldOf}
-use Rattle.keyfield.proofs.ReadBack.{other, valueOf, read-back-key}
+use Rattle.slots.specs.Slot.{keyLimit}
+use Rattle.attributes.proofs.Joined.{other}
+use Rattle.keyfield.specs.Field.{limited, keyOf, fieldOf}
+use Rattle.keyfield.proofs.ReadBack.{valueOf, read-back-key}
 use Rattle.writer.specs.Writing.{preference, fieldText, written}
 use Rattle.trip.proofs.Folded.{folded-raw, folded-value}
 use Rattle.names.specs.Names.{autocrypt as autocryptName, gossip as gossipName}
@@ -101,12 +103,12 @@ module _ (address key : List ℕ) (m : Bool) (w : Writable address key) where
       go true = simp append-assoc
       go false = simp append-assoc
 
-  value-read : fieldOf value ≡ some (record { address = canonical address; isMutual = m; key = key })
+  value-read : fieldOf keyLimit value ≡ some (record { address = canonical address; isMutual = m; key = key })
   unfolding keyOf limited signOf
   value-read =
       read-back-key (canonical address) text (plain-canonical address (w .plainly))
       (free-every (λ x. eqb x 59) text (spread-free (λ x. eqb x 59) refl (encode key) (encode-free (λ x. eqb x 59) (one-other 59 refl) key)))
-      m key (rw (spread-read-back key (w .octets), w .limit))
+      keyLimit m key (rw (spread-read-back key (w .octets), w .limit))
       ∙ rw canonical-twice
 
   module _ (name : List ℕ) (named : runLength Name name ≡ length name) (some-name : 0 < length name) where

@@ -16,7 +16,9 @@ use Rattle.address.specs.Address.{canonical}
 use Rattle.header.specs.Header.{FieldText, fieldsOf}
 use Rattle.addresslist.specs.List.{among}
 use Rattle.keyfield.specs.Field.{Field, validFor, validFields}
-use Rattle.keyfield.proofs.Counted.{naming-sender, valid-append, valid-next, counted-one}
+use Rattle.keyfield.proofs.Chosen.{chosen-next, chosen-append}
+use Rattle.keyfield.proofs.Counted.{naming-sender, counted-one}
+use Rattle.slots.specs.Slot.{keyLimit}
 use Rattle.slots.specs.Entry.{Entry}
 use Rattle.table.specs.Table.{checked}
 use Rattle.table.specs.Entries.{entryIn}
@@ -51,13 +53,14 @@ none-both [] y e = (refl, e)
 none-both (a ∷ x) y e = let z : _≡_ {A = ℕ} 0 1 = cc in absurd (omega arith)
 
 -- one value that is valid, among others that are not
-module _ (sender v : List ℕ) (f : Field) (valid : validFor sender v ≡ some f) where
-  only-valid : (x y : List (List ℕ)) → validFields sender (x ++ y) ≡ [] → validFields sender (x ++ (v ∷ y)) ≡ f ∷ []
+module _ (sender v : List ℕ) (f : Field) (valid : validFor keyLimit sender v ≡ some f) where
+  only-valid : (x y : List (List ℕ)) → validFields keyLimit sender (x ++ y) ≡ [] → validFields keyLimit sender (x ++ (v ∷ y)) ≡ f ∷ []
+  unfolding validFields
   only-valid x y e =
-      let apart = none-both (validFields sender x) (validFields sender y) (sym (valid-append sender x y) ∙ e) in
-      valid-append sender x (v ∷ y)
-      ∙ ap (λ (fs : List Field). fs ++ validFields sender (v ∷ y)) (apart .0)
-      ∙ valid-next sender v y f valid
+      let apart = none-both (validFields keyLimit sender x) (validFields keyLimit sender y) (sym (chosen-append (validFor keyLimit sender) x y) ∙ e) in
+      chosen-append (validFor keyLimit sender) x (v ∷ y)
+      ∙ ap (λ (fs : List Field). fs ++ validFields keyLimit sender (v ∷ y)) (apart .0)
+      ∙ chosen-next (validFor keyLimit sender) v y f valid
       ∙ ap (λ (fs : List Field). f ∷ fs) (apart .1)
 
 -- the field that counts in a block that holds octets which are read back for the sender, and no other valid field
@@ -69,7 +72,7 @@ module _ (a k octets outer : List ℕ) (m : Bool) (r : ReadsBack autocryptName a
   unfolding isKind sameName lowered lower sameOctets
   is-autocrypt = ap (isKind Autocrypt) (r .named)
 
-  pub counts : fieldsOf outer ≡ some (fieldsIn outer) → validFields (canonical a) (valuesOf Autocrypt (others h)) ≡ [] → countedIn (fieldsIn outer) (canonical a) ≡ some read-field
+  pub counts : fieldsOf outer ≡ some (fieldsIn outer) → validFields keyLimit (canonical a) (valuesOf Autocrypt (others h)) ≡ [] → countedIn keyLimit (fieldsIn outer) (canonical a) ≡ some read-field
   unfolding others countedIn
   counts e alone =
       let v : List ℕ = r .found .value in
@@ -79,9 +82,9 @@ module _ (a k octets outer : List ℕ) (m : Bool) (r : ReadsBack autocryptName a
       ap (valuesOf Autocrypt) (holding-fields autocryptName a k octets m r outer h (fieldsIn outer) e)
       ∙ values-append Autocrypt (h .before) (r .found ∷ behind h)
       ∙ ap (λ (vs : List (List ℕ)). before ++ vs) (values-first Autocrypt (r .found) (behind h) is-autocrypt) in
-      let none-else : validFields (canonical a) (before ++ after) ≡ [] = ap (validFields (canonical a)) (sym (values-append Autocrypt (h .before) (behind h))) ∙ alone in
-      counted-one (canonical a) (valuesOf Autocrypt (fieldsIn outer)) read-field
-      (ap (validFields (canonical a)) values ∙ only-valid (canonical a) v read-field (naming-sender (canonical a) v read-field (r .says) refl) before after none-else)
+      let none-else : validFields keyLimit (canonical a) (before ++ after) ≡ [] = ap (validFields keyLimit (canonical a)) (sym (values-append Autocrypt (h .before) (behind h))) ∙ alone in
+      counted-one keyLimit (canonical a) (valuesOf Autocrypt (fieldsIn outer)) read-field
+      (ap (validFields keyLimit (canonical a)) values ∙ only-valid (canonical a) v read-field (naming-sender keyLimit (canonical a) v read-field (r .says) refl) before after none-else)
 
 -- the accepted gossip of a payload that holds octets which are read back for a recipient
 module _ (b k octets payload : List ℕ) (m : Bool) (r : ReadsBack gossipName b k m octets) (h : Holding payload octets)
@@ -91,14 +94,14 @@ module _ (b k octets payload : List ℕ) (m : Bool) (r : ReadsBack gossipName b 
   is-gossip = ap (isKind AutocryptGossip) (r .named)
 
   pub hears : (fs : List FieldText) → fieldsOf payload ≡ some fs
-      → gossipIn recipients fs ≡ gossipIn recipients (h .before) ++ (record { address = canonical b; key = k } ∷ gossipIn recipients (behind h))
+      → gossipIn keyLimit recipients fs ≡ gossipIn keyLimit recipients (h .before) ++ (record { address = canonical b; key = k } ∷ gossipIn keyLimit recipients (behind h))
   unfolding gossipIn
   hears fs e =
-      ap (gossipIn recipients) (holding-fields gossipName b k octets m r payload h fs e)
-      ∙ gossip-append recipients (h .before) (r .found ∷ behind h)
-      ∙ ap (λ (gs : List Gossiped). gossipIn recipients (h .before) ++ gs)
-      (ap (accepted recipients) (values-first AutocryptGossip (r .found) (behind h) is-gossip)
-      ∙ accepted-listed recipients (r .found .value) (record { address = canonical b; isMutual = m; key = k }) (valuesOf AutocryptGossip (behind h)) (r .says) listed)
+      ap (gossipIn keyLimit recipients) (holding-fields gossipName b k octets m r payload h fs e)
+      ∙ gossip-append keyLimit recipients (h .before) (r .found ∷ behind h)
+      ∙ ap (λ (gs : List Gossiped). gossipIn keyLimit recipients (h .before) ++ gs)
+      (ap (accepted keyLimit recipients) (values-first AutocryptGossip (r .found) (behind h) is-gossip)
+      ∙ accepted-listed keyLimit recipients (r .found .value) (record { address = canonical b; isMutual = m; key = k }) (valuesOf AutocryptGossip (behind h)) (r .says) listed)
 
 -- a message to which processing answers 0
 module _ (t : List ℕ) (receipt : ℕ) (outer payload : List ℕ) (setting : Gossip) (table-octets : AllOctets t) (outer-octets : AllOctets outer)
@@ -126,14 +129,14 @@ module _ (t : List ℕ) (receipt : ℕ) (outer payload : List ℕ) (setting : Go
   addressed-so b e q = entry-good left b left-sound left-octets e q .1
 
   module _ (a k octets : List ℕ) (m : Bool) (r : ReadsBack autocryptName a k m octets) (h : Holding outer octets)
-      (from : senderIn (fieldsIn outer) ≡ some (canonical a)) (alone : validFields (canonical a) (valuesOf Autocrypt (others h)) ≡ []) where
+      (from : senderIn (fieldsIn outer) ≡ some (canonical a)) (alone : validFields keyLimit (canonical a) (valuesOf Autocrypt (others h)) ≡ []) where
     sender-is : through .sender ≡ canonical a
     sender-is = let q : some (through .sender) ≡ some (canonical a) = sym (through .sent) ∙ from in cc
 
     brings-direct : message .direct ≡ some (record { timestamp = date; key = k; «mutual» = m })
     unfolding messageBy directBy
     brings-direct =
-        ap (λ (x : List ℕ). directBy date (countedIn (fieldsIn outer) x)) sender-is ∙ ap (directBy date) (counts a k octets outer m r h (through .outer-read) alone)
+        ap (λ (x : List ℕ). directBy date (countedIn keyLimit (fieldsIn outer) x)) sender-is ∙ ap (directBy date) (counts a k octets outer m r h (through .outer-read) alone)
 
     pub direct-read : HasDirect (entryIn t (canonical a)) (canonical a) (record { timestamp = date; key = k; «mutual» = m }) (entryIn left (canonical a))
     unfolding messageBy directHalf
@@ -152,15 +155,15 @@ module _ (t : List ℕ) (receipt : ℕ) (outer payload : List ℕ) (setting : Go
 
   module _ (b k octets : List ℕ) (m : Bool) (r : ReadsBack gossipName b k m octets) (h : Holding payload octets)
       (take-gossip : taken setting ≡ true) (listed : among (canonical b) (recipientsIn (fieldsIn outer)) ≡ true)
-      (last : noneAbout (canonical b) (gossipIn (recipientsIn (fieldsIn outer)) (behind h)) ≡ true) where
+      (last : noneAbout (canonical b) (gossipIn keyLimit (recipientsIn (fieldsIn outer)) (behind h)) ≡ true) where
     payload-fields : fieldsOf payload ≡ some (through .inner)
     payload-fields = through .inner-read take-gossip
 
     earlier : List Gossiped
-    earlier = gossipIn (recipientsIn (fieldsIn outer)) (h .before)
+    earlier = gossipIn keyLimit (recipientsIn (fieldsIn outer)) (h .before)
 
     later : List Gossiped
-    later = gossipIn (recipientsIn (fieldsIn outer)) (behind h)
+    later = gossipIn keyLimit (recipientsIn (fieldsIn outer)) (behind h)
 
     brings-gossip : message .gossip ≡ earlier ++ (record { address = canonical b; key = k } ∷ later)
     unfolding messageBy earlier later
@@ -183,13 +186,13 @@ module _ (t : List ℕ) (receipt : ℕ) (outer payload : List ℕ) (setting : Go
   -- The fields of the paper. The outer block holds the sender's field and no other that is valid for it; the payload holds a field for a
   -- listed recipient, and no accepted one for it behind that.
   pub autocrypt-processed : (a k : List ℕ) (m : Bool) → Writable a k → (h : Holding outer (autocryptField a m k))
-      → senderIn (fieldsIn outer) ≡ some (canonical a) → validFields (canonical a) (valuesOf Autocrypt (others h)) ≡ []
+      → senderIn (fieldsIn outer) ≡ some (canonical a) → validFields keyLimit (canonical a) (valuesOf Autocrypt (others h)) ≡ []
       → HasDirect (entryIn t (canonical a)) (canonical a) (record { timestamp = date; key = k; «mutual» = m }) (entryIn left (canonical a))
   unfolding autocryptField run belongs blank
   autocrypt-processed a k m w h = direct-read a k (autocryptField a m k) m (written-reads-back a k m w autocryptName refl (omega arith)) h
 
   pub gossip-processed : (b k : List ℕ) → Writable b k → (h : Holding payload (gossipField b k)) → taken setting ≡ true
-      → among (canonical b) (recipientsIn (fieldsIn outer)) ≡ true → noneAbout (canonical b) (gossipIn (recipientsIn (fieldsIn outer)) (behind h)) ≡ true
+      → among (canonical b) (recipientsIn (fieldsIn outer)) ≡ true → noneAbout (canonical b) (gossipIn keyLimit (recipientsIn (fieldsIn outer)) (behind h)) ≡ true
       → HasGossip (entryIn t (canonical b)) (canonical b) (record { timestamp = date; key = k }) (entryIn left (canonical b))
   unfolding gossipField run belongs blank
   gossip-processed b k w h = gossip-read b k (gossipField b k) false (written-reads-back b k false w gossipName refl (omega arith)) h
@@ -198,14 +201,14 @@ module _ (t : List ℕ) (receipt : ℕ) (outer payload : List ℕ) (setting : Go
   module _ (out : List ℕ) (n : ℕ) where
     pub autocrypt-answered : (a k : List ℕ) (m : Bool) → AllOctets k → Wrote n ≡ writtenOf autocryptName a m k (length out)
         → (h : Holding outer (take n (leftByWriting autocryptName a m k out)))
-        → senderIn (fieldsIn outer) ≡ some (canonical a) → validFields (canonical a) (valuesOf Autocrypt (others h)) ≡ []
+        → senderIn (fieldsIn outer) ≡ some (canonical a) → validFields keyLimit (canonical a) (valuesOf Autocrypt (others h)) ≡ []
         → HasDirect (entryIn t (canonical a)) (canonical a) (record { timestamp = date; key = k; «mutual» = m }) (entryIn left (canonical a))
     autocrypt-answered a k m o wrote h =
         direct-read a k (take n (leftByWriting autocryptName a m k out)) m (autocrypt-reads-back a k out o n m wrote) h
 
     pub gossip-answered : (b k : List ℕ) → AllOctets k → Wrote n ≡ writtenOf gossipName b false k (length out)
         → (h : Holding payload (take n (leftByWriting gossipName b false k out))) → taken setting ≡ true
-        → among (canonical b) (recipientsIn (fieldsIn outer)) ≡ true → noneAbout (canonical b) (gossipIn (recipientsIn (fieldsIn outer)) (behind h)) ≡ true
+        → among (canonical b) (recipientsIn (fieldsIn outer)) ≡ true → noneAbout (canonical b) (gossipIn keyLimit (recipientsIn (fieldsIn outer)) (behind h)) ≡ true
         → HasGossip (entryIn t (canonical b)) (canonical b) (record { timestamp = date; key = k }) (entryIn left (canonical b))
     gossip-answered b k o wrote h =
         gossip-read b k (take n (leftByWriting gossipName b false k out)) false (gossip-reads-back b k out o n wrote) h

@@ -104,7 +104,7 @@ unfolding octets.sameOctets octets.sameName octets.lowered octets.lower header.f
 sender-is = refl
 
 room-for : brought.hasRoom free (delivery.messageBy 1000 (ascii "a@b.example") (fields.fieldsIn outer) []) ≡ true
-unfolding brought.hasRoom brought.newcomers brought.addressesOf brought.gossipAddresses delivery.messageBy keys.accepted keys.gossipIn fields.valuesOf table.found table.lowest table.hasAddress table.freeCount table.howMany table.unused table.slots table.slotAt slots.marked slots.addressOf number octets.sameOctets list.among
+unfolding brought.hasRoom brought.newcomers brought.addressesOf brought.gossipAddresses delivery.messageBy keyfield.chosen keys.accepted keys.gossipIn fields.valuesOf table.found table.lowest table.hasAddress table.freeCount table.howMany table.unused table.slots table.slotAt slots.marked slots.addressOf number octets.sameOctets list.among
 room-for = refl
 
 room : brought.hasRoom free (messageOf 1000 outer [] Unset) ≡ true
@@ -116,12 +116,12 @@ done = done-is Refused Done (refusedProcessing free 1000 outer [] Unset) (messag
 
 foo-is-there : directHalf (entryIn (leftByProcessing free 1000 outer [] Unset) (ascii "a@b.example"))
     ≡ some (record { timestamp = 1000; key = ascii "foo"; «mutual» = true })
-unfolding holding others behind directHalf entryIn update.younger table.found table.lowest table.hasAddress table.slots table.slotAt slots.marked slots.addressOf number octets.sameOctets octets.sameName octets.lowered octets.lower header.fieldsOf header.fields header.fieldsWithin inFront header.unfolded header.over header.ofEnding header.opensField runs.run header.rawLength runs.belongs header.closes list.openingOf holds list.runToken list.quotedToken list.tokenAt list.firstToken list.afterAddress list.after list.listedBy list.listed list.addresses onlyOne orElse address.plain address.localPart address.atom address.domain address.label address.freeEnds address.canonical every pieces.onFirst pieces.pieces pieces.before pieces.behind blank tokens.past tokens.kindOf tokens.control tokens.afterQuote date.effectiveDate keyfield.validFields fields.fieldsIn fields.isKind fields.valuesOf outer-specs.canonicalOf outer-specs.senderBy outer-specs.senderIn outer-specs.dateBy outer-specs.dateIn
+unfolding holding others behind directHalf entryIn update.younger table.found table.lowest table.hasAddress table.slots table.slotAt slots.marked slots.addressOf number octets.sameOctets octets.sameName octets.lowered octets.lower header.fieldsOf header.fields header.fieldsWithin inFront header.unfolded header.over header.ofEnding header.opensField runs.run header.rawLength runs.belongs header.closes list.openingOf holds list.runToken list.quotedToken list.tokenAt list.firstToken list.afterAddress list.after list.listedBy list.listed list.addresses onlyOne orElse address.plain address.localPart address.atom address.domain address.label address.freeEnds address.canonical every pieces.onFirst pieces.pieces pieces.before pieces.behind blank tokens.past tokens.kindOf tokens.control tokens.afterQuote date.effectiveDate keyfield.chosen keyfield.validFields fields.fieldsIn fields.isKind fields.valuesOf outer-specs.canonicalOf outer-specs.senderBy outer-specs.senderIn outer-specs.dateBy outer-specs.dateIn
 foo-is-there =
     let h = autocrypt-processed free 1000 outer [] Unset (replicate-octets 4392 0 (omega arith)) (tested outer refl) (tested [] refl) done address-given (ascii "foo") true writable holding refl refl in
     ap directHalf (h .there) ∙ h .set refl
 
 foo-is-handed-out : targetKeyOf (leftByProcessing free 1000 outer [] Unset) address-given 0 ≡ ascii "foo"
-unfolding holding others behind directHalf entryIn update.younger table.found table.lowest table.hasAddress table.slots table.slotAt slots.marked slots.addressOf number octets.sameOctets octets.sameName octets.lowered octets.lower header.fieldsOf header.fields header.fieldsWithin inFront header.unfolded header.over header.ofEnding header.opensField runs.run header.rawLength runs.belongs header.closes list.openingOf holds list.runToken list.quotedToken list.tokenAt list.firstToken list.afterAddress list.after list.listedBy list.listed list.addresses onlyOne orElse address.plain address.localPart address.atom address.domain address.label address.freeEnds address.canonical every pieces.onFirst pieces.pieces pieces.before pieces.behind blank tokens.past tokens.kindOf tokens.control tokens.afterQuote date.effectiveDate keyfield.validFields fields.fieldsIn fields.isKind fields.valuesOf outer-specs.canonicalOf outer-specs.senderBy outer-specs.senderIn outer-specs.dateBy outer-specs.dateIn
+unfolding holding others behind directHalf entryIn update.younger table.found table.lowest table.hasAddress table.slots table.slotAt slots.marked slots.addressOf number octets.sameOctets octets.sameName octets.lowered octets.lower header.fieldsOf header.fields header.fieldsWithin inFront header.unfolded header.over header.ofEnding header.opensField runs.run header.rawLength runs.belongs header.closes list.openingOf holds list.runToken list.quotedToken list.tokenAt list.firstToken list.afterAddress list.after list.listedBy list.listed list.addresses onlyOne orElse address.plain address.localPart address.atom address.domain address.label address.freeEnds address.canonical every pieces.onFirst pieces.pieces pieces.before pieces.behind blank tokens.past tokens.kindOf tokens.control tokens.afterQuote date.effectiveDate keyfield.chosen keyfield.validFields fields.fieldsIn fields.isKind fields.valuesOf outer-specs.canonicalOf outer-specs.senderBy outer-specs.senderIn outer-specs.dateBy outer-specs.dateIn
 foo-is-handed-out =
     key-handed-out free 1000 outer [] Unset (replicate-octets 4392 0 (omega arith)) (tested outer refl) (tested [] refl) done address-given (ascii "foo") true writable holding refl refl refl

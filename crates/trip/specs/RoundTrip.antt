@@ -19,7 +19,8 @@ use Rattle.runs.specs.declared.Class.the-variants.{Name, Blank}
 use Rattle.header.specs.Header.{unfolded, FieldText, fields}
 use Rattle.header.specs.Blocks.{isRaw}
 use Rattle.address.specs.Address.{plain, canonical}
-use Rattle.keyfield.specs.Field.{keyLimit, fieldOf}
+use Rattle.slots.specs.Slot.{keyLimit}
+use Rattle.keyfield.specs.Field.{fieldOf}
 
 -- what a field can be written for
 pub record Writable (address key : List ℕ) : Type 0 where
@@ -42,7 +43,7 @@ inFrontAll (f ∷ fs) others = inFront f (inFrontAll fs others)
 pub record ReadsBack (name address key : List ℕ) (m : Bool) (octets : List ℕ) : Type 0 where
   pub found : FieldText
   pub named : found .name ≡ name
-  pub says : fieldOf (found .value) ≡ some (record { address = canonical address; isMutual = m; key = key })
+  pub says : fieldOf keyLimit (found .value) ≡ some (record { address = canonical address; isMutual = m; key = key })
   pub among : (s : List ℕ) (fs : List FieldText) → Lines s fs → (rest : List ℕ) → belongs Blank (getD rest 0 0) ≡ false
       → fields (s ++ (octets ++ rest)) ≡ inFrontAll fs (inFront found (fields rest))
 

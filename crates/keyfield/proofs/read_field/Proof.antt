@@ -30,9 +30,6 @@ enum-told c = search reading
 enum-told-2 : tie.Need-enum-told-2
 enum-told-2 c = search reading
 
-enum-told-3 : tie.Need-enum-told-3
-enum-told-3 c = search reading
-
 same-length : tie.Need-same-length
 same-length c = search reading
 
@@ -45,14 +42,8 @@ same-length-2 c = search reading
 returns-2 : tie.Need-returns-2
 returns-2 c = search reading
 
-same-length-3 : tie.Need-same-length-3
-same-length-3 c = search reading
-
 returns-3 : tie.Need-returns-3
 returns-3 c = search reading
-
-returns-4 : tie.Need-returns-4
-returns-4 c = search reading
 
 pub read-field-spec : {M : Type 1} → statement M
 read-field-spec =
@@ -67,11 +58,8 @@ read-field-spec =
     enum-known-n
     enum-told
     enum-told-2
-    enum-told-3
     same-length
     returns
     same-length-2
     returns-2
-    same-length-3
-    returns-3
-    returns-4)
+    returns-3)

@@ -51,9 +51,6 @@ enum-told c = search accepting
 enum-told-2 : tie.Need-enum-told-2
 enum-told-2 c = search accepting
 
-enum-told-3 : tie.Need-enum-told-3
-enum-told-3 c = search accepting
-
 same-length-3 : tie.Need-same-length-3
 same-length-3 c = search accepting
 
@@ -78,12 +75,6 @@ same-length-7 c = search accepting
 returns-4 : tie.Need-returns-4
 returns-4 c = search accepting
 
-same-length-8 : tie.Need-same-length-8
-same-length-8 c = search accepting
-
-returns-5 : tie.Need-returns-5
-returns-5 c = search accepting
-
 pub accept-spec : {M : Type 1} → statement M
 accept-spec =
     tie.close
@@ -104,7 +95,6 @@ accept-spec =
     returns
     enum-told
     enum-told-2
-    enum-told-3
     same-length-3
     same-length-4
     returns-2
@@ -112,6 +102,4 @@ accept-spec =
     same-length-6
     returns-3
     same-length-7
-    returns-4
-    same-length-8
-    returns-5)
+    returns-4)

@@ -30,9 +30,6 @@ returns c = search owning
 enum-told : tie.Need-enum-told
 enum-told c = search owning
 
-enum-told-2 : tie.Need-enum-told-2
-enum-told-2 c = search owning
-
 same-length-2 : tie.Need-same-length-2
 same-length-2 c = search owning
 
@@ -44,12 +41,6 @@ same-length-3 c = search owning
 
 returns-3 : tie.Need-returns-3
 returns-3 c = search owning
-
-same-length-4 : tie.Need-same-length-4
-same-length-4 c = search owning
-
-returns-4 : tie.Need-returns-4
-returns-4 c = search owning
 
 pub valid-for-spec : {M : Type 1} → statement M
 valid-for-spec =
@@ -64,10 +55,7 @@ valid-for-spec =
     same-length
     returns
     enum-told
-    enum-told-2
     same-length-2
     returns-2
     same-length-3
-    returns-3
-    same-length-4
-    returns-4)
+    returns-3)

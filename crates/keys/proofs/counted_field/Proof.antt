@@ -4,7 +4,7 @@ use Rattle.keys.proofs.counted_field.Tie as tie
 use Rattle.keys.proofs.Counting.{counting}
 
 next-valid-requires : tie.Need-next-valid-requires
-next-valid-requires c κs = (record { clear = search counting; no-more = search counting; room = search counting }, search counting, search counting)
+next-valid-requires c κs = search counting
 
 enum-known-mutual : tie.Need-enum-known-mutual
 enum-known-mutual c = search counting
@@ -13,7 +13,7 @@ slice-aggregate-next-valid : tie.Need-slice-aggregate-next-valid
 slice-aggregate-next-valid c = search counting
 
 next-valid-requires-2 : tie.Need-next-valid-requires-2
-next-valid-requires-2 c κs = (record { clear = search counting; no-more = search counting; room = search counting }, search counting, search counting)
+next-valid-requires-2 c κs = search counting
 
 enum-told : tie.Need-enum-told
 enum-told c = search counting

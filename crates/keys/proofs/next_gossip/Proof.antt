@@ -3,36 +3,31 @@ use Prim.Native.Nat.{_-_}
 use mathlib.Core.Path.{_≡_}
 use lib.ListN.{length}
 use Rattle.roll.specs.Roll.{unrolled}
+use Rattle.fields.specs.declared.Kind.the-variants.{AutocryptGossip}
+use Rattle.keyowner.specs.Owners.{acceptedFor}
+use Rattle.keys.proofs.Walking.{Past}
 use Rattle.keys.proofs.next_gossip.Statement.{statement}
 use Rattle.keys.proofs.next_gossip.Tie as tie
-use Rattle.keys.proofs.GossipFields.{Hearing, hearing}
+use Rattle.keys.proofs.GossipFields.{hearing}
 
 abbrev Inv-loop : tie.InvT-loop
-Inv-loop payload at recipients text₀ address₀ key₀ place₀ text address key place = (Hearing (unrolled recipients) payload at place) × (length text ≡ length text₀) × (length address ≡ length address₀) × (length key ≡ length key₀)
+Inv-loop payload limit at recipients text₀ address₀ key₀ place₀ text address key place =
+    (Past (acceptedFor limit (unrolled recipients)) AutocryptGossip payload at place)
+    × (length text ≡ length text₀)
+    × (length address ≡ length address₀)
+    × (length key ≡ length key₀)
 
 abbrev μ-loop : tie.MeasureT-loop
-μ-loop payload at recipients text₀ address₀ key₀ place₀ text address key place = length payload - place
+μ-loop payload limit at recipients text₀ address₀ key₀ place₀ text address key place = length payload - place
 
 loop-holds : tie.Need-loop-holds Inv-loop μ-loop
 loop-holds c = search hearing
 
-find-requires : tie.Need-find-requires Inv-loop μ-loop
-find-requires c κs = search hearing
+take-value-requires : tie.Need-take-value-requires Inv-loop μ-loop
+take-value-requires c κs = search hearing
 
-enum-known-value : tie.Need-enum-known-value Inv-loop μ-loop
-enum-known-value c = search hearing
-
-sub-unfold : tie.Need-sub-unfold Inv-loop μ-loop
-sub-unfold c = search hearing
-
-part-unfold-start : tie.Need-part-unfold-start Inv-loop μ-loop
-part-unfold-start c = search hearing
-
-part-unfold-end : tie.Need-part-unfold-end Inv-loop μ-loop
-part-unfold-end c = search hearing
-
-unfold-requires : tie.Need-unfold-requires Inv-loop μ-loop
-unfold-requires c κs = search hearing
+enum-known-n : tie.Need-enum-known-n Inv-loop μ-loop
+enum-known-n c = search hearing
 
 sub-accept : tie.Need-sub-accept Inv-loop μ-loop
 sub-accept c = search hearing
@@ -92,12 +87,8 @@ next-gossip-spec =
     Inv-loop
     μ-loop
     loop-holds
-    find-requires
-    enum-known-value
-    sub-unfold
-    part-unfold-start
-    part-unfold-end
-    unfold-requires
+    take-value-requires
+    enum-known-n
     sub-accept
     part-accept-start
     part-accept-end

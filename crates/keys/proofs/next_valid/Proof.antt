@@ -2,36 +2,28 @@
 use Prim.Native.Nat.{_-_}
 use mathlib.Core.Path.{_≡_}
 use lib.ListN.{length}
+use Rattle.keyfield.specs.Field.{validFor}
+use Rattle.fields.specs.declared.Kind.the-variants.{Autocrypt}
+use Rattle.keys.proofs.Walking.{Past}
 use Rattle.keys.proofs.next_valid.Statement.{statement}
 use Rattle.keys.proofs.next_valid.Tie as tie
-use Rattle.keys.proofs.ValidFields.{Trying, trying}
+use Rattle.keys.proofs.ValidFields.{trying}
 
 abbrev Inv-loop : tie.InvT-loop
-Inv-loop block at last sender text₀ key₀ place₀ text key place = (Trying sender block at place) × (length text ≡ length text₀) × (length key ≡ length key₀)
+Inv-loop block limit at last sender text₀ key₀ place₀ text key place =
+    (Past (validFor limit sender) Autocrypt block at place) × (length text ≡ length text₀) × (length key ≡ length key₀)
 
 abbrev μ-loop : tie.MeasureT-loop
-μ-loop block at last sender text₀ key₀ place₀ text key place = length block - place
+μ-loop block limit at last sender text₀ key₀ place₀ text key place = length block - place
 
 loop-holds : tie.Need-loop-holds Inv-loop μ-loop
 loop-holds c = search trying
 
-find-requires : tie.Need-find-requires Inv-loop μ-loop
-find-requires c κs = search trying
+take-value-requires : tie.Need-take-value-requires Inv-loop μ-loop
+take-value-requires c κs = search trying
 
-enum-known-value : tie.Need-enum-known-value Inv-loop μ-loop
-enum-known-value c = search trying
-
-sub-unfold : tie.Need-sub-unfold Inv-loop μ-loop
-sub-unfold c = search trying
-
-part-unfold-start : tie.Need-part-unfold-start Inv-loop μ-loop
-part-unfold-start c = search trying
-
-part-unfold-end : tie.Need-part-unfold-end Inv-loop μ-loop
-part-unfold-end c = search trying
-
-unfold-requires : tie.Need-unfold-requires Inv-loop μ-loop
-unfold-requires c κs = search trying
+enum-known-n : tie.Need-enum-known-n Inv-loop μ-loop
+enum-known-n c = search trying
 
 sub-valid-for : tie.Need-sub-valid-for Inv-loop μ-loop
 sub-valid-for c = search trying
@@ -43,7 +35,7 @@ part-valid-for-end : tie.Need-part-valid-for-end Inv-loop μ-loop
 part-valid-for-end c = search trying
 
 valid-for-requires : tie.Need-valid-for-requires Inv-loop μ-loop
-valid-for-requires c κs = (search trying, search trying)
+valid-for-requires c κs = search trying
 
 enum-known-mutual : tie.Need-enum-known-mutual Inv-loop μ-loop
 enum-known-mutual c = search trying
@@ -85,12 +77,8 @@ next-valid-spec =
     Inv-loop
     μ-loop
     loop-holds
-    find-requires
-    enum-known-value
-    sub-unfold
-    part-unfold-start
-    part-unfold-end
-    unfold-requires
+    take-value-requires
+    enum-known-n
     sub-valid-for
     part-valid-for-start
     part-valid-for-end

@@ -15,8 +15,8 @@ use mir.Val.{Fits}
 use Rattle.octets.specs.Finding.{lengthBefore}
 use Rattle.octets.proofs.Finding.{By, none, one, other, by, before-on, before-here, before-short}
 use Rattle.address.specs.Pieces.{before}
-use Rattle.keyfield.specs.Answers.{part, Within, FirstAt}
-use Rattle.keyfield.proofs.Parts.{part-length}
+use Rattle.attributes.specs.Answers.{part, Within, FirstAt}
+use Rattle.attributes.proofs.Parts.{part-length}
 
 length-before : (d : ℕ) {s : List ℕ} → By d s → length (before d s) ≡ lengthBefore d s
 unfolding before lengthBefore

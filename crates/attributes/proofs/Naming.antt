@@ -13,13 +13,13 @@ use borrow.Author.Needs.{needs}
 use lib.ListN.{length, take, drop}
 use Rattle.octets.specs.Octets.{ascii, sameOctets, startsWith}
 use Rattle.names.specs.Names as names
-use Rattle.keyfield.specs.Field.{nameOf, attribute, attributeOf}
-use Rattle.keyfield.specs.Answers.{part, Within, FirstAt, Trimmed, attributeAt, ValueWithin, Tells}
-use Rattle.keyfield.specs.declared.Bounds.{Bounds}
-use Rattle.keyfield.specs.declared.Name.{Name}
-use Rattle.keyfield.specs.declared.Name.the-variants.{Addr as NAddr, PreferEncrypt as NPrefer, Keydata as NKeydata, Ignored as NIgnored, Unknown as NUnknown}
-use Rattle.keyfield.specs.declared.Attribute.the-variants.{Addr, PreferEncrypt, Keydata, Ignored, Spoiling}
-use Rattle.keyfield.proofs.Cutting.{cut-before, cut-behind, cut-holds, cut-without}
+use Rattle.attributes.specs.Attribute.{nameOf, attribute, attributeOf}
+use Rattle.attributes.specs.Answers.{part, Within, FirstAt, Trimmed, attributeAt, ValueWithin, Tells}
+use Rattle.attributes.specs.declared.Bounds.{Bounds}
+use Rattle.attributes.specs.declared.Name.{Name}
+use Rattle.attributes.specs.declared.Name.the-variants.{Addr as NAddr, PreferEncrypt as NPrefer, Keydata as NKeydata, Ignored as NIgnored, Unknown as NUnknown}
+use Rattle.attributes.specs.declared.Attribute.the-variants.{Addr, PreferEncrypt, Keydata, Ignored, Spoiling}
+use Rattle.attributes.proofs.Cutting.{cut-before, cut-behind, cut-holds, cut-without}
 
 module _ (s : List ℕ) (a : Bool) (p : a ≡ sameOctets s names.addr) where
   pub name-addr : a ≡ true → NAddr ≡ nameOf s

@@ -1,7 +1,7 @@
--- `keyfield::leave_blanks` meets its contract: the laws of `Trimming` keep the loop's invariant and answer every need. Assumes nothing.
-use Rattle.keyfield.proofs.Trimming.{Back, trimming-back}
-use Rattle.keyfield.proofs.leave_blanks.Statement.{statement}
-use Rattle.keyfield.proofs.leave_blanks.Tie as tie
+-- `attributes::leave_blanks` meets its contract: the laws of `Trimming` keep the loop's invariant and answer every need. Assumes nothing.
+use Rattle.attributes.proofs.Trimming.{Back, trimming-back}
+use Rattle.attributes.proofs.leave_blanks.Statement.{statement}
+use Rattle.attributes.proofs.leave_blanks.Tie as tie
 
 abbrev Inv-loop : tie.InvT-loop
 Inv-loop s from to i₀ i = Back s from to i

@@ -1,7 +1,7 @@
--- `keyfield::find` meets its contract: the laws of `Finding` answer every need. Assumes nothing.
-use Rattle.keyfield.proofs.Finding.{finding}
-use Rattle.keyfield.proofs.find.Statement.{statement}
-use Rattle.keyfield.proofs.find.Tie as tie
+-- `attributes::find` meets its contract: the laws of `Finding` answer every need. Assumes nothing.
+use Rattle.attributes.proofs.Finding.{finding}
+use Rattle.attributes.proofs.find.Statement.{statement}
+use Rattle.attributes.proofs.find.Tie as tie
 
 sub-find : tie.Need-sub-find
 sub-find c = search finding

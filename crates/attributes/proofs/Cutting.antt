@@ -17,8 +17,8 @@ use Rattle.octets.proofs.Finding.{By, none, one, other, by}
 use Rattle.octets.proofs.Tests.{by-test}
 use Rattle.address.specs.Pieces.{pieces, before, behind}
 use Rattle.address.proofs.Pieces.{others, pieces-first, pieces-sides, behind-drop}
-use Rattle.keyfield.specs.Answers.{part, Within, FirstAt}
-use Rattle.keyfield.proofs.Parts.{part-length, part-front, part-back}
+use Rattle.attributes.specs.Answers.{part, Within, FirstAt}
+use Rattle.attributes.proofs.Parts.{part-length, part-front, part-back}
 
 before-take : (d : ℕ) (t : List ℕ) → take (length (before d t)) t ≡ before d t
 unfolding before

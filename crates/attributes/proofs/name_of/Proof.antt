@@ -1,7 +1,7 @@
--- `keyfield::name_of` meets its contract: the laws of `Naming` answer every need. Assumes nothing.
-use Rattle.keyfield.proofs.name_of.Statement.{statement}
-use Rattle.keyfield.proofs.name_of.Tie as tie
-use Rattle.keyfield.proofs.Naming.{naming}
+-- `attributes::name_of` meets its contract: the laws of `Naming` answer every need. Assumes nothing.
+use Rattle.attributes.proofs.name_of.Statement.{statement}
+use Rattle.attributes.proofs.name_of.Tie as tie
+use Rattle.attributes.proofs.Naming.{naming}
 
 slice-aggregate-same : tie.Need-slice-aggregate-same
 slice-aggregate-same c = search naming

@@ -1,7 +1,7 @@
--- `keyfield::skip_blanks` meets its contract: the laws of `Trimming` answer every need. Assumes nothing.
-use Rattle.keyfield.proofs.Trimming.{trimming-front}
-use Rattle.keyfield.proofs.skip_blanks.Statement.{statement}
-use Rattle.keyfield.proofs.skip_blanks.Tie as tie
+-- `attributes::skip_blanks` meets its contract: the laws of `Trimming` answer every need. Assumes nothing.
+use Rattle.attributes.proofs.Trimming.{trimming-front}
+use Rattle.attributes.proofs.skip_blanks.Statement.{statement}
+use Rattle.attributes.proofs.skip_blanks.Tie as tie
 
 sub-run-end : tie.Need-sub-run-end
 sub-run-end c = search trimming-front

@@ -24,9 +24,9 @@ use Rattle.octets.proofs.Every.{every-append}
 use Rattle.runs.specs.Runs.{belongs, run, runLength}
 use Rattle.runs.specs.declared.Class.the-variants.{Blank}
 use Rattle.runs.proofs.Running.{run-in, run-out, run-short}
-use Rattle.keyfield.specs.Field.{trimmedFront, trimmedBack, trimmed}
-use Rattle.keyfield.specs.Answers.{part, Within, TrimmedFrom, TrimmedTo, Trimmed}
-use Rattle.keyfield.proofs.Parts.{part-none, part-last, part-back}
+use Rattle.attributes.specs.Attribute.{trimmedFront, trimmedBack, trimmed}
+use Rattle.attributes.specs.Answers.{part, Within, TrimmedFrom, TrimmedTo, Trimmed}
+use Rattle.attributes.proofs.Parts.{part-none, part-last, part-back}
 
 module _ (x : ℕ) (s : List ℕ) where
   pub front-blank : blank x ≡ true → trimmedFront (x ∷ s) ≡ trimmedFront s

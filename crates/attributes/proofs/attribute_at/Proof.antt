@@ -1,7 +1,7 @@
--- `keyfield::attribute_at` meets its contract: the laws of `Naming` answer every need. Assumes nothing.
-use Rattle.keyfield.proofs.attribute_at.Statement.{statement}
-use Rattle.keyfield.proofs.attribute_at.Tie as tie
-use Rattle.keyfield.proofs.Naming.{telling}
+-- `attributes::attribute_at` meets its contract: the laws of `Naming` answer every need. Assumes nothing.
+use Rattle.attributes.proofs.attribute_at.Statement.{statement}
+use Rattle.attributes.proofs.attribute_at.Tie as tie
+use Rattle.attributes.proofs.Naming.{telling}
 
 find-requires : tie.Need-find-requires
 find-requires c κs = search telling

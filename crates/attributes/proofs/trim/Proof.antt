@@ -1,7 +1,7 @@
--- `keyfield::trim` meets its contract: the laws of `Trimming` answer every need. Assumes nothing.
-use Rattle.keyfield.proofs.trim.Statement.{statement}
-use Rattle.keyfield.proofs.trim.Tie as tie
-use Rattle.keyfield.proofs.Trimming.{trimming}
+-- `attributes::trim` meets its contract: the laws of `Trimming` answer every need. Assumes nothing.
+use Rattle.attributes.proofs.trim.Statement.{statement}
+use Rattle.attributes.proofs.trim.Tie as tie
+use Rattle.attributes.proofs.Trimming.{trimming}
 
 skip-blanks-requires : tie.Need-skip-blanks-requires
 skip-blanks-requires c κs = search trimming

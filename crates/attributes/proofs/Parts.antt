@@ -1,8 +1,7 @@
 -- Parts of a list, from a place up to another.
---     part-none, part-first, part-last    an empty part; its first and its last element
+--     part-none, part-last                an empty part; its last element
 --     part-length                         how long it is
 --     part-rest                           a part up to the end
---     part-octets                         octets stay octets
 --     part-front, part-back               what a part opens with, and what is behind that
 -- Assumes nothing.
 use Prim.Native.Nat.{ℕ, _+_, _-_, _<_, _≤_}
@@ -12,9 +11,8 @@ use native.Mathlib.Omega.{arith}
 use native.Mathlib.Nat.{sub-self}
 use lib.ListN.{length, getD, take, drop, length-drop}
 use lib.Seq.{length-take-le, take-all, take-take, take-add, drop-at, drop-drop, getD-drop}
-use Rattle.octets.specs.Octets.{AllOctets}
-use Rattle.octets.proofs.Lists.{drop-one, take-one, left-one, take-octets, drop-octets}
-use Rattle.keyfield.specs.Answers.{part}
+use Rattle.octets.proofs.Lists.{take-one}
+use Rattle.attributes.specs.Answers.{part}
 
 module _ (s : List ℕ) where
   pub part-none : (i : ℕ) → part s i i ≡ []
@@ -24,10 +22,6 @@ module _ (s : List ℕ) where
   pub part-length : (from to : ℕ) → to ≤ length s → length (part s from to) ≡ to - from
   unfolding part
   part-length from to h = length-take-le (to - from) (drop from s) (omega (arith, length-drop from s))
-
-  pub part-first : (from to : ℕ) → from < to → to ≤ length s → part s from to ≡ getD s from 0 ∷ part s (from + 1) to
-  unfolding part
-  part-first from to l h = rw (left-one to from l, drop-one s from (omega arith))
 
   pub part-last : (from to : ℕ) → from < to → to ≤ length s → part s from to ≡ part s from (to - 1) ++ (getD s (to - 1) 0 ∷ [])
   unfolding part
@@ -40,10 +34,6 @@ module _ (s : List ℕ) where
   pub part-rest : (from : ℕ) → part s from (length s) ≡ drop from s
   unfolding part
   part-rest from = take-all (length s - from) (drop from s) (omega (arith, length-drop from s))
-
-  pub part-octets : (from to : ℕ) → AllOctets s → AllOctets (part s from to)
-  unfolding part
-  part-octets from to h = take-octets (to - from) (drop from s) (drop-octets from s h)
 
   -- what a part opens with, and what is behind that
   pub part-front : (from to n : ℕ) → from + n ≤ to → part s from (from + n) ≡ take n (part s from to)

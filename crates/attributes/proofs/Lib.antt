@@ -1,0 +1,7 @@
+pub mod Parts
+pub mod Finding
+pub mod Trimming
+pub mod Cutting
+pub mod Naming
+pub mod Elements
+pub mod Joined

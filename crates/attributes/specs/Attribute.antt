@@ -1,0 +1,59 @@
+-- One piece of the value of an Autocrypt or Autocrypt-Gossip field, as paper 01 reads it in "The two fields and the update".
+--     trimmedFront, trimmedBack, trimmed     a name or a value without the blanks around it
+--     nameOf                                 which attribute a name stands for
+--     Attribute, attribute, attributeOf      what one piece says
+use Prim.Native.Nat.{ℕ}
+use mathlib.Core.Bool.{true, false, cond}
+use mathlib.Core.List.{List, [], _∷_, reverse}
+use Rattle.octets.specs.Octets.{ascii, octet, sameOctets, startsWith, blank}
+use Rattle.octets.specs.Finding.{holds}
+use Rattle.names.specs.Names as names
+use Rattle.address.specs.Pieces.{before, behind}
+use Rattle.attributes.specs.declared.Name.{Name}
+use Rattle.attributes.specs.declared.Name.the-variants.{Addr, PreferEncrypt, Keydata, Ignored, Unknown}
+
+-- ".. trimmed of spaces and tabs": in front,
+unfoldable pub trimmedFront : List ℕ → List ℕ
+trimmedFront [] = []
+trimmedFront (x ∷ s) = elim (blank x) [ true ↦ trimmedFront s | false ↦ x ∷ s ]
+
+-- behind,
+unfoldable pub trimmedBack : List ℕ → List ℕ
+trimmedBack s = reverse (trimmedFront (reverse s))
+
+-- and on both sides
+unfoldable pub trimmed : List ℕ → List ℕ
+trimmed s = trimmedBack (trimmedFront s)
+
+-- "Names are case-sensitive. .. Names opening with `_` are ignored; others spoil the field." The empty name is one of the others.
+unfoldable pub nameOf : List ℕ → Name
+nameOf s =
+    cond (sameOctets s names.addr) Addr
+    (cond (sameOctets s names.preferEncrypt) PreferEncrypt
+    (cond (sameOctets s names.keydata) Keydata
+    (cond (startsWith (ascii "_") s) Ignored
+    Unknown)))
+
+-- what one piece says: an attribute with its value, one that is ignored, or nothing that a field may hold
+pub data Attribute : Type 0 where
+  addr : List ℕ → Attribute
+  preferEncrypt : List ℕ → Attribute
+  keydata : List ℕ → Attribute
+  ignored : Attribute
+  spoiling : Attribute
+
+unfoldable pub attribute : Name → List ℕ → Attribute
+attribute Addr v = addr v
+attribute PreferEncrypt v = preferEncrypt v
+attribute Keydata v = keydata v
+attribute Ignored v = ignored
+attribute Unknown v = spoiling
+
+-- "each piece is name, `=`, value, parted at its first `=`, name and value each trimmed of spaces and tabs. A piece without `=` or with an
+-- empty name spoils the field."
+unfoldable pub attributeOf : List ℕ → Attribute
+attributeOf p =
+    elim (holds (octet "=") p) [
+      | true ↦ attribute (nameOf (trimmed (before (octet "=") p))) (trimmed (behind (octet "=") p))
+      | false ↦ spoiling
+    ]

@@ -1,0 +1,2 @@
+pub mod Attribute
+pub mod Answers

@@ -1,0 +1,117 @@
+// One piece of the value of an Autocrypt or Autocrypt-Gossip field: its name, which stands before the first "=", and its
+// value, each without the blanks around it. What is right is said by specs/Attribute.antt.
+ghost use mathlib.Core.Path.{_≡_};
+ghost use Rattle.attributes.specs.Attribute.{nameOf, attributeOf};
+ghost use Rattle.attributes.specs.Answers.{part, Within, FirstAt, TrimmedFrom, TrimmedTo, Trimmed, Tells};
+use runs::Class;
+
+// Where something stands in the value: from the place `from` up to the place `to`.
+struct Bounds {
+    from: usize,
+    to: usize,
+}
+
+// The names that a field knows.
+enum Name {
+    Addr,
+    PreferEncrypt,
+    Keydata,
+    Ignored,
+    Unknown,
+}
+
+// What a piece says, with the place of its value.
+pub enum Attribute {
+    Addr(usize, usize),
+    PreferEncrypt(usize, usize),
+    Keydata(usize, usize),
+    Ignored,
+    Spoiling,
+}
+
+// The first place from `from` on where an `x` stands; `to` where none stands before that.
+pub fn find(s: &[u8], from: usize, to: usize, x: u8) -> usize
+    requires { ⌜ Within (now s) from to ⌝ }
+    ensures { λ r. ⌜ FirstAt (now (s .entry)) from to x r ⌝ }
+{
+    let n = octets::find(&s[from..to], 0, x);
+    from + n
+}
+
+// The first place from `from` on where no blank stands.
+fn skip_blanks(s: &[u8], from: usize, to: usize) -> usize
+    requires { ⌜ Within (now s) from to ⌝ }
+    ensures { λ r. ⌜ TrimmedFrom (now (s .entry)) from to r ⌝ }
+{
+    let n = runs::run_end(&s[from..to], 0, Class::Blank);
+    from + n
+}
+
+// The place behind the last octet before `to` that is no blank.
+fn leave_blanks(s: &[u8], from: usize, to: usize) -> usize
+    requires { ⌜ Within (now s) from to ⌝ }
+    ensures { λ r. ⌜ TrimmedTo (now (s .entry)) from to r ⌝ }
+{
+    let mut i = to;
+    while from < i {
+        if !octets::is_blank(s[i - 1]) {
+            return i;
+        }
+        i -= 1;
+    }
+    i
+}
+
+// ".. trimmed of spaces and tabs"
+fn trim(s: &[u8], from: usize, to: usize) -> Bounds
+    requires { ⌜ Within (now s) from to ⌝ }
+    ensures { λ r. ⌜ Trimmed (now (s .entry)) from to r ⌝ }
+{
+    let start = skip_blanks(s, from, to);
+    let end = leave_blanks(s, start, to);
+    Bounds {
+        from: start,
+        to: end,
+    }
+}
+
+// Which name it is. Names are compared as they stand: they are case-sensitive.
+fn name_of(name: &[u8]) -> Name
+    ensures { λ r. ⌜ r ≡ nameOf (now (name .entry)) ⌝ }
+{
+    if octets::same(name, b"addr") {
+        return Name::Addr;
+    }
+    if octets::same(name, b"prefer-encrypt") {
+        return Name::PreferEncrypt;
+    }
+    if octets::same(name, b"keydata") {
+        return Name::Keydata;
+    }
+    if octets::goes_on(name, 0, b"_") {
+        return Name::Ignored;
+    }
+    Name::Unknown
+}
+
+// What the piece from `from` up to `to` says.
+pub fn attribute_at(s: &[u8], from: usize, to: usize) -> Attribute
+    requires { ⌜ Within (now s) from to ⌝ }
+    ensures { λ r. ⌜ Tells (now (s .entry)) r (attributeOf (part (now (s .entry)) from to)) ⌝ }
+{
+    let cut = find(s, from, to, b'=');
+    if to <= cut {
+        return Attribute::Spoiling;
+    }
+    let name = trim(s, from, cut);
+    let value = trim(s, cut + 1, to);
+    let start = name.from;
+    let end = name.to;
+    match name_of(&s[start..end]) {
+        Name::Addr => Attribute::Addr(value.from, value.to),
+        Name::PreferEncrypt => Attribute::PreferEncrypt(value.from, value.to),
+        Name::Keydata => Attribute::Keydata(value.from, value.to),
+        Name::Ignored => Attribute::Ignored,
+        Name::Unknown => Attribute::Spoiling,
+    }
+}
