@@ -1,4 +1,5 @@
-// What the outer block of a message says besides keys: its sender, whether it is a report, its Date and its recipients.
+// What the outer block of a message says besides keys: its sender, whether it is a report, and its Date. Its recipients are
+// read by the crate recipients.
 // What is right is said by specs/Outer.antt.
 //
 // Values are unfolded into a lent text, which has to be as long as the block. What it holds afterwards means nothing.
@@ -10,13 +11,12 @@ ghost use Rattle.date.specs.Answers.{datedOf};
 ghost use Rattle.fields.specs.Fields.{fieldsIn};
 ghost use Rattle.fields.specs.Spans.{SurveyAs};
 ghost use Rattle.outer.specs.Outer.{senderIn, isReported, saidDate};
-ghost use Rattle.outer.specs.Answers.{senderOf, leftBySender, Gathers, GatheredAs};
+ghost use Rattle.outer.specs.Answers.{senderOf, leftBySender};
 use date::Dated;
 use fields::Kind;
 use fields::Named;
 use fields::Only;
 use fields::Survey;
-use roll::Rolled;
 
 // The length of the sender's canonical address; or there is not exactly one sender.
 pub enum Sender {
@@ -81,33 +81,5 @@ pub fn date(block: &[u8], survey: Survey, text: &mut [u8]) -> Dated
             date::date(&text[0..n])
         }
         Only::Other => Dated::Unavailable,
-    }
-}
-
-// Makes the roll of all recipients at the front of `roll`, and its index at that of `tags` and `places`.
-pub fn recipients(
-    block: &[u8],
-    survey: Survey,
-    text: &mut [u8],
-    roll: &mut [u8],
-    tags: &mut [u32],
-    places: &mut [u16],
-) -> Rolled
-    requires { ⌜ Gathers (now block) survey (now text) (now roll) (now tags) (now places) ⌝ }
-    ensures { λ r. ⌜ GatheredAs (now (block .entry)) (now (roll .exit)) (now (tags .exit)) (now (places .exit)) r ⌝ }
-{
-    let span = survey.recipients;
-    let last = span.last;
-    let mut so_far = Rolled { end: 0, many: 0 };
-    let mut at = span.first;
-    loop {
-        match fields::find(block, at, last, Kind::Recipients) {
-            Named::Field { value, end } => {
-                let n = header::unfold(&block[value..end], text);
-                so_far = roll::add_list(roll, tags, places, so_far, &text[0..n]);
-                at = end;
-            }
-            Named::Nothing => return so_far,
-        }
     }
 }

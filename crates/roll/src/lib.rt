@@ -21,9 +21,6 @@ use addresslist::NextAddress;
 // What ends an address in a roll: an octet that none has.
 const ENDER: u8 = 0;
 
-// As many tags are compared at once.
-const PIECE: usize = 32;
-
 // Where a roll ends, and how many addresses it has.
 pub struct Rolled {
     pub end: usize,
@@ -127,14 +124,15 @@ fn skip(tags: &[u32], at: usize, width: usize, tag: u32) -> usize
     i
 }
 
-// The index of the next such tag from an index on, or the end. No way leads out of a piece, so that it compiles to vector
-// instructions.
+// The index of the next such tag from an index on, or the end. Most tags before it are skipped by 64, of the rest most by 8:
+// no way leads out of a piece, so that it compiles to vector instructions.
 fn next_tag(tags: &[u32], from: usize, tag: u32) -> usize
     requires { ⌜ from ≤ length (now tags) ⌝ }
     ensures { λ r. ⌜ r ≡ from + lengthBefore tag (drop from (now (tags .entry))) ⌝ }
 {
-    let near = skip(tags, from, PIECE, tag);
-    skip(tags, near, 1, tag)
+    let near = skip(tags, from, 64, tag);
+    let nearer = skip(tags, near, 8, tag);
+    skip(tags, nearer, 1, tag)
 }
 
 // Is the address that begins at a place the one that is wanted?

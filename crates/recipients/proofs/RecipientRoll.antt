@@ -39,8 +39,8 @@ use Rattle.fields.specs.declared.Kind.the-variants.{Recipients}
 use Rattle.fields.specs.declared.Named.{Named}
 use Rattle.fields.specs.declared.Named.the-variants.{Field, Nothing}
 use Rattle.fields.proofs.Finding.{named-first, named-readable, named-none, finding}
 use Rattle.outer.specs.Outer.{addressesIn, recipientsIn}
-use Rattle.outer.specs.Answers.{Gathers, GatheredAs}
+use Rattle.recipients.specs.Answers.{Gathers, GatheredAs}
 
 -- the addresses of the first of some values
 addresses-one : (v : List ℕ) (rest : List (List ℕ)) → addressesIn (v ∷ rest) ≡ listedIn v ++ addressesIn rest
