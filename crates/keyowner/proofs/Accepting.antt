@@ -1,6 +1,6 @@
 -- One gossip field: by what the field says, its canonical address, and whether the roll of recipients holds it.
 --     by-none, by-listed, by-other                 what is accepted, by the field
---     accept-within                                where the address stands
+--     accept-within, accept-canonical              where the address stands, and that it is canonical
 --     accept-spoiled, accept-no-room, accept-not, accept-listed     the answer
 --     accepted-at, accepted-nothing                what a caller asks of it
 -- Assumes nothing.
@@ -15,7 +15,7 @@ use borrow.Author.Needs.{needs}
 use lib.ListN.{length, take, drop}
 use Rattle.octets.specs.Written.{onto}
 use Rattle.header.proofs.Unfolding.{value-within, value-there}
-use Rattle.address.specs.Address.{canonical}
+use Rattle.address.specs.Address.{canonical, isCanonical}
 use Rattle.address.specs.Answers.{writtenOf, ontoIfFits}
 use Rattle.address.specs.declared.Fitted.{Fitted}
 use Rattle.address.specs.declared.Fitted.the-variants.{Length, NoRoom}
@@ -91,6 +91,11 @@ module _ (limit : ℕ) (s key : List ℕ) (r : Read) (a : ReadAs limit s key r) 
               within = accept-within;
             }
 
+        -- as it is looked for among the recipients
+        pub accept-canonical : isCanonical (take (n - 0) (drop 0 address)) ≡ true
+        unfolding part
+        accept-canonical = rw (sub-zero, accept-named .there) (plain-is-canonical (take (to - from) (drop from s)) (accept-named .field .stands .plainly))
+
 -- by the test first, then by the places of the address
 module _ (limit : ℕ) (recipients : List (List ℕ)) (s address key : List ℕ) (n : ℕ) (b : Bool) where
   module _ (from to : ℕ) (m : Bool) (l : ℕ) (o : Named limit s address key from to m n l) (e : b ≡ among (take (n - 0) (drop 0 address)) recipients) where
@@ -128,7 +133,7 @@ module _ (limit : ℕ) (recipients : List (List ℕ)) (s address key : List ℕ)
       }
 
 pub ruleset accepting =
-    (accept-spoiled, accept-no-room, accept-within, accept-named, accept-not, accept-listed, told-from, told-upto, needs)
+    (accept-spoiled, accept-no-room, accept-within, accept-named, accept-canonical, accept-not, accept-listed, told-from, told-upto, needs)
 
 -- as a caller asks it of an answer r
 module _ (limit : ℕ) (o : Option Gossiped) (address key : List ℕ) (r : Accepted) (p : AcceptedAs limit o address key r) where

@@ -1,6 +1,7 @@
 -- From the rules to what the code answers and leaves in lent memory.
 --     OwnAt, OwnAs                a field of the sender, its key in lent memory
---     AcceptedAt, AcceptedAs      a gossip field that is accepted, its address and its key in lent memory
+--     Accepts                     a gossip field that may be accepted: what the roll of the recipients and lent memory have to be
+--     AcceptedAt, AcceptedAs      one that is accepted, its address and its key in lent memory
 use Prim.Native.Nat.{ℕ, _≤_}
 use mathlib.Core.Path.{_≡_}
 use mathlib.Core.Bool.{Bool, true}
@@ -8,8 +9,10 @@ use mathlib.Core.List.{List}
 use mathlib.Core.Option.{Option, some, none}
 use lib.ListN.{length, take}
 use Rattle.address.specs.Address.{isCanonical}
+use Rattle.slots.specs.Slot.{addressRoom}
 use Rattle.keyfield.specs.Field.{Field}
 use Rattle.keyfield.specs.Answers.{Opens}
+use Rattle.roll.specs.Index.{Indexed}
 use Rattle.update.specs.Message.{Gossiped}
 use Rattle.keyowner.specs.declared.Own.{Own}
 use Rattle.keyowner.specs.declared.Own.the-variants.{Key, NoKey}
@@ -24,6 +27,12 @@ pub record OwnAt (limit : ℕ) (sender : List ℕ) (field : Option Field) (key :
 unfoldable pub OwnAs : ℕ → List ℕ → Option Field → List ℕ → Own → Type 0
 OwnAs limit sender field key (Key m n) = OwnAt limit sender field key m n
 OwnAs limit sender field key NoKey = field ≡ none
+
+-- The roll of the recipients has its index, and the two lent memories have room.
+pub record Accepts (limit : ℕ) (recipients tags places address key : List ℕ) : Type 0 where
+  pub index : Indexed recipients tags places
+  pub address-room : addressRoom ≤ length address
+  pub key-room : limit ≤ length key
 
 -- The gossip has this address, in canonical form, and this key, which open the two lent memories.
 pub record AcceptedAt (limit : ℕ) (gossip : Option Gossiped) (address key : List ℕ) (n k : ℕ) : Type 0 where

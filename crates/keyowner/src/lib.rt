@@ -7,11 +7,10 @@ ghost use mathlib.Core.Path.{_≡_};
 ghost use mathlib.Core.Bool.{true};
 ghost use lib.ListN.{length};
 ghost use Rattle.address.specs.Address.{isCanonical};
-ghost use Rattle.slots.specs.Slot.{addressRoom};
 ghost use Rattle.keyfield.specs.Field.{validFor};
 ghost use Rattle.roll.specs.Roll.{unrolled};
 ghost use Rattle.keyowner.specs.Owners.{acceptedFor};
-ghost use Rattle.keyowner.specs.Answers.{OwnAs, AcceptedAs};
+ghost use Rattle.keyowner.specs.Answers.{OwnAs, Accepts, AcceptedAs};
 use keyfield::Read;
 
 // The preference and the length of the key of a field of the sender; or there is none.
@@ -54,10 +53,12 @@ pub fn accept(
     value: &[u8],
     limit: usize,
     recipients: &[u8],
+    tags: &[u32],
+    places: &[u16],
     address: &mut [u8],
     key: &mut [u8],
 ) -> Accepted
-    requires { ⌜ (addressRoom ≤ length (now address)) × (limit ≤ length (now key)) ⌝ }
+    requires { ⌜ Accepts limit (now recipients) (now tags) (now places) (now address) (now key) ⌝ }
     ensures { λ r. ⌜ AcceptedAs limit (acceptedFor limit (unrolled (now (recipients .entry))) (now (value .entry)))
         (now (address .exit)) (now (key .exit)) r ⌝ }
 {
@@ -69,7 +70,7 @@ pub fn accept(
             key: length,
         } => match address::canonical(&value[from..to], address) {
             address::Fitted::Length(n) => {
-                if roll::holds(recipients, &address[0..n]) {
+                if roll::holds(recipients, tags, places, &address[0..n]) {
                     return Accepted::Gossip {
                         address: n,
                         key: length,

@@ -1,5 +1,5 @@
 -- The next accepted gossip: the walk over the gossip fields.
---     hear-begin .. hear-found          the loop's steps
+--     hear-accepts .. hear-found        the loop's steps
 --     gossip-all                        all accepted gossip of a readable payload
 --     heard-at, heard-less, heard-over  what a caller asks of the answer
 -- Assumes nothing.
@@ -16,7 +16,7 @@ use Rattle.fields.specs.Fields.{fieldsIn}
 use Rattle.fields.specs.declared.Kind.the-variants.{AutocryptGossip}
 use Rattle.fields.proofs.Values.{values-all, values-end}
 use Rattle.keyowner.specs.Owners.{acceptedFor}
-use Rattle.keyowner.specs.Answers.{AcceptedAt, AcceptedAs}
+use Rattle.keyowner.specs.Answers.{Accepts, AcceptedAt, AcceptedAs}
 use Rattle.keyowner.specs.declared.Accepted.{Accepted}
 use Rattle.keyowner.specs.declared.Accepted.the-variants.{Gossip, NotAccepted}
 use Rattle.keyowner.proofs.Accepting.{accepted-at, accepted-nothing}
@@ -28,8 +28,19 @@ use Rattle.keys.specs.declared.Heard.{Heard}
 use Rattle.keys.specs.declared.Heard.the-variants.{Next, Over}
 use Rattle.keys.proofs.Walking.{Past, past-begin, past-takes, past-end, past-next, past-found, past-later, taken-within, taken-upto, taken-readable, taken-less}
 
+-- what asking for a field asks for, in memory of the same length
+pub hear-accepts :
+    (limit : ℕ) (s : List ℕ) (at : ℕ) (roll tags places text address key : List ℕ) → Hears limit s at roll tags places text address key
+    → (a o : List ℕ) → length a ≡ length address → length o ≡ length key → Accepts limit roll tags places a o
+hear-accepts limit s at roll tags places text address key k a o l m =
+    record {
+      index = k .index;
+      address-room = omega (arith, k .address-room);
+      key-room = omega (arith, k .key-room);
+    }
+
 module _ (limit : ℕ) (recipients : List (List ℕ)) (s : List ℕ) (at : ℕ) where
-  module _ (text address key : List ℕ) (k : Hears limit s at text address key) where
+  module _ (roll tags places text address key : List ℕ) (k : Hears limit s at roll tags places text address key) where
     pub hear-begin : Past (acceptedFor limit recipients) AutocryptGossip s at at
     hear-begin = past-begin (acceptedFor limit recipients) AutocryptGossip s at (k .clear)
 
@@ -78,7 +89,7 @@ pub gossip-all :
 unfolding gossipFrom gossipIn
 gossip-all limit recipients s c = ap (accepted limit recipients) (values-all AutocryptGossip s c)
 
-pub ruleset hearing = (hear-begin, hear-takes, hear-end, hear-next, hear-found, taken-within, taken-less, needs)
+pub ruleset hearing = (hear-accepts, hear-begin, hear-takes, hear-end, hear-next, hear-found, taken-within, taken-less, needs)
 
 -- as a caller asks it of an answer r
 module _ (limit : ℕ) (recipients : List (List ℕ)) (s : List ℕ) (at : ℕ) (address key : List ℕ) (r : Heard) (p : HeardAs limit recipients s at address key r) where

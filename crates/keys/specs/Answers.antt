@@ -17,6 +17,7 @@ use Rattle.slots.specs.Slot.{addressRoom, keyLimit}
 use Rattle.keyfield.specs.Field.{Field, validFields}
 use Rattle.keyfield.specs.Answers.{Opens}
 use Rattle.roll.specs.Roll.{unrolled}
+use Rattle.roll.specs.Index.{Indexed}
 use Rattle.update.specs.Message.{Gossiped}
 use Rattle.fields.specs.Fields.{fieldsIn}
 use Rattle.fields.specs.Answers.{valuesFrom}
@@ -84,9 +85,10 @@ gossipFrom limit recipients payload at = accepted limit recipients (valuesFrom A
 abbrev pub gossipOf : ℕ → List ℕ → List ℕ → List Gossiped
 gossipOf limit recipients payload = gossipIn limit (unrolled recipients) (fieldsIn payload)
 
--- The fields of the payload are readable from `at` on, and the three memories have room.
-pub record Hears (limit : ℕ) (payload : List ℕ) (at : ℕ) (text address key : List ℕ) : Type 0 where
+-- The fields of the payload are readable from `at` on, the roll of the recipients has its index, and the three memories have room.
+pub record Hears (limit : ℕ) (payload : List ℕ) (at : ℕ) (recipients tags places text address key : List ℕ) : Type 0 where
   pub clear : isSome (fieldsFrom payload at) ≡ true
+  pub index : Indexed recipients tags places
   pub room : length payload ≤ length text
   pub address-room : addressRoom ≤ length address
   pub key-room : limit ≤ length key

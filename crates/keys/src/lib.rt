@@ -129,18 +129,20 @@ pub fn next_gossip(
     limit: usize,
     at: usize,
     recipients: &[u8],
+    tags: &[u32],
+    places: &[u16],
     text: &mut [u8],
     address: &mut [u8],
     key: &mut [u8],
 ) -> Heard
-    requires { ⌜ Hears limit (now payload) at (now text) (now address) (now key) ⌝ }
+    requires { ⌜ Hears limit (now payload) at (now recipients) (now tags) (now places) (now text) (now address) (now key) ⌝ }
     ensures { λ r. ⌜ HeardAs limit (unrolled (now (recipients .entry))) (now (payload .entry)) at (now (address .exit)) (now (key .exit)) r ⌝ }
 {
     let mut place = at;
     loop {
         match take_value(payload, place, payload.len(), Kind::AutocryptGossip, text) {
             Taken::Value { length: n, end } => {
-                match keyowner::accept(&text[0..n], limit, recipients, address, key) {
+                match keyowner::accept(&text[0..n], limit, recipients, tags, places, address, key) {
                     Accepted::Gossip {
                         address: length,
                         key: octets,

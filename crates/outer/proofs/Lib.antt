@@ -2,5 +2,4 @@ pub mod Texts
 pub mod Senders
 pub mod Reports
 pub mod Dates
-pub mod RecipientRoll
 pub mod Worked

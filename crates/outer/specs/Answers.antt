@@ -1,14 +1,10 @@
 -- From the rules to what the code answers and leaves in lent memory.
 --     senderOf, leftBySender     the sender's address
---     rollOf                     the roll of the recipients
 use Prim.Native.Nat.{ℕ}
 use mathlib.Core.List.{List}
 use mathlib.Core.Option.{Option, some, none}
 use lib.ListN.{length}
 use Rattle.octets.specs.Written.{onto}
-use Rattle.roll.specs.Roll.{rolled}
-use Rattle.fields.specs.Fields.{fieldsIn}
-use Rattle.outer.specs.Outer.{recipientsIn}
 use Rattle.outer.specs.declared.Sender.{Sender}
 use Rattle.outer.specs.declared.Sender.the-variants.{Address, NotOne}
 
@@ -19,6 +15,3 @@ senderOf (some a) = Address (length a)
 unfoldable pub leftBySender : Option (List ℕ) → List ℕ → List ℕ
 leftBySender none out = out
 leftBySender (some a) out = onto a out
-
-abbrev pub rollOf : List ℕ → List ℕ
-rollOf block = rolled (recipientsIn (fieldsIn block))

@@ -1,17 +1,17 @@
-// What the outer block of a message says besides keys: its sender, whether it is a report, its Date and its recipients.
+// What the outer block of a message says besides keys: its sender, whether it is a report, and its Date. Its recipients are
+// read by the crate recipients.
 // What is right is said by specs/Outer.antt.
 //
 // Values are unfolded into a lent text, which has to be as long as the block. What it holds afterwards means nothing.
 ghost use Prim.Native.Nat.{_≤_};
 ghost use mathlib.Core.Path.{_≡_};
 ghost use lib.ListN.{length};
-ghost use Rattle.octets.specs.Written.{onto};
 ghost use Rattle.slots.specs.Slot.{addressRoom};
 ghost use Rattle.date.specs.Answers.{datedOf};
 ghost use Rattle.fields.specs.Fields.{fieldsIn};
 ghost use Rattle.fields.specs.Spans.{SurveyAs};
 ghost use Rattle.outer.specs.Outer.{senderIn, isReported, saidDate};
-ghost use Rattle.outer.specs.Answers.{senderOf, leftBySender, rollOf};
+ghost use Rattle.outer.specs.Answers.{senderOf, leftBySender};
 use date::Dated;
 use fields::Kind;
 use fields::Named;
@@ -81,27 +81,5 @@ pub fn date(block: &[u8], survey: Survey, text: &mut [u8]) -> Dated
             date::date(&text[0..n])
         }
         Only::Other => Dated::Unavailable,
-    }
-}
-
-// Writes the roll of all recipients to the front of `roll`, and answers where it ends.
-pub fn recipients(block: &[u8], survey: Survey, text: &mut [u8], roll: &mut [u8]) -> usize
-    requires { ⌜ SurveyAs (now block) survey × (length (now block) ≤ length (now text)) × (length (now block) ≤ length (now roll)) ⌝ }
-    ensures { λ r. ⌜ r ≡ length (rollOf (now (block .entry))) ⌝ }
-    ensures { λ _. ⌜ now (roll .exit) ≡ onto (rollOf (now (block .entry))) (now (roll .entry)) ⌝ }
-{
-    let span = survey.recipients;
-    let last = span.last;
-    let mut filled = 0;
-    let mut at = span.first;
-    loop {
-        match fields::find(block, at, last, Kind::Recipients) {
-            Named::Field { value, end } => {
-                let n = header::unfold(&block[value..end], text);
-                filled = roll::add_list(roll, filled, &text[0..n]);
-                at = end;
-            }
-            Named::Nothing => return filled,
-        }
     }
 }

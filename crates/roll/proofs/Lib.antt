@@ -1,4 +1,5 @@
 pub mod Rolls
+pub mod Index
 pub mod Room
 pub mod Growing
 mod Adding

@@ -2,30 +2,35 @@
 --     entry-length                    an entry has an octet more than its address
 --     rolled-none .. rolled-length    the equations of `rolled`, of one address alone, and how long it is
 --     rolled-append .. rolled-add     the roll of two lists, and of one address more
---     unrolled-none, unrolled-one     the equations of `unrolled`, with no count of entries
---     unrolled-entry                  an entry in front
---     unrolled-rolled, unrolled-taken     a roll gives back what was rolled, and so does a roll at the front of memory
---     plain-enters                    a plain address may be added
---     listed-readable, listed-unreadable      what a list adds
+--     not-ender                       no octet of an address is the one that ends it
+--     unrolled-none, unrolled-entry   the equations of `unrolled`
+--     unrolled-rolled                 a roll of plain addresses gives back what was rolled
+--     Opens, opens                    the first address of a roll: its octets, where it ends, and the others
+--     listed-readable, listed-unreadable, listed-plain    what a list adds
 -- Assumes nothing.
-use Prim.Native.Nat.{ℕ, zero, suc, _+_, _<_, _≤_}
-use mathlib.Core.Path.{_≡_, refl, sym, ap}
-use mathlib.Core.Bool.{true}
+use Prim.Native.Nat.{ℕ, suc, _+_, _<_}
+use mathlib.Core.Path.{_≡_, refl, sym, _∙_}
+use mathlib.Core.Bool.{true, false, false≢true}
 use mathlib.Core.List.{List, [], _∷_, _++_, append-assoc, append-nil}
-use mathlib.Core.Option.{some, none}
-use native.Mathlib.Numerals.{add-one}
+use mathlib.Core.Option.{Option, some, none}
 use native.Mathlib.Omega.{arith}
-use lib.ListN.{length, take, drop, length-append, length-drop}
-use lib.Seq.{take-append-seam, drop-append-seam}
+use borrow.Author.Tests.{eqb-true, ne-eqb}
+use lib.Dec.{eqb}
+use lib.ListN.{length, getD, take, drop, length-append}
 use Rattle.octets.specs.Options.{orElse}
-use Rattle.address.specs.Address.{plain}
-use Rattle.address.proofs.Sides.{plain-most}
+use Rattle.octets.specs.Tests.{every}
+use Rattle.octets.specs.Finding.{lengthBefore}
+use Rattle.octets.proofs.Tests.{by-test, and-left, and-right}
+use Rattle.octets.proofs.Finding.{before-here, before-on}
+use Rattle.address.specs.Address.{addressOctet, plain}
+use Rattle.address.proofs.Sides.{plain-octets, low-apart}
 use Rattle.addresslist.specs.List.{addresses}
-use Rattle.roll.specs.Roll.{entry, rolled, unrolledWithin, unrolled, listedIn}
+use Rattle.addresslist.proofs.Readable.{readable-at}
+use Rattle.roll.specs.Roll.{entry, rolled, lengthened, unrolled, listedIn}
 
 pub entry-length : (a : List ℕ) → length (entry a) ≡ length a + 1
 unfolding entry
-entry-length a = sym (add-one (length a))
+entry-length a = length-append a (0 ∷ [])
 
 pub rolled-none : rolled [] ≡ []
 unfolding rolled
@@ -53,41 +58,78 @@ rolled-append-length xs ys = rw (rolled-append xs ys, length-append)
 pub rolled-add : (xs : List (List ℕ)) (a : List ℕ) → rolled (xs ++ (a ∷ [])) ≡ rolled xs ++ entry a
 rolled-add xs a = rw (rolled-append xs (a ∷ []), rolled-alone a)
 
--- how many entries are counted does not matter, if they are enough
-enough : (k m : ℕ) (s : List ℕ) → length s ≤ k → length s ≤ m → unrolledWithin k s ≡ unrolledWithin m s
-unfolding unrolledWithin
-enough zero zero s p q = refl
-enough zero (suc m) [] p q = refl
-enough zero (suc m) (n ∷ s) p q = absurd (omega arith)
-enough (suc k) zero [] p q = refl
-enough (suc k) zero (n ∷ s) p q = absurd (omega arith)
-enough (suc k) (suc m) [] p q = refl
-enough (suc k) (suc m) (n ∷ s) p q =
-    rw (enough k m (drop n s) (omega (arith, length-drop n s)) (omega (arith, length-drop n s)))
+-- what can stand in an address does not end it
+pub not-ender : (x : ℕ) → addressOctet x ≡ true → eqb x 0 ≡ false
+not-ender x o = ne-eqb x 0 (λ e. false≢true (sym (low-apart 0 (omega arith)) ∙ rw e at o))
+
+-- an address of such octets, and what stands behind its entry
+module _ (s : List ℕ) where
+  unrolled-octets : (a : List ℕ) → every addressOctet a ≡ true → unrolled (entry a ++ s) ≡ a ∷ unrolled s
+  unfolding every entry unrolled lengthened
+  unrolled-octets [] e = refl
+  unrolled-octets (x ∷ a) e =
+      rw (
+        unrolled,
+        not-ender x (and-left (addressOctet x) (every addressOctet a) e),
+        unrolled-octets a (and-right (addressOctet x) (every addressOctet a) e),
+      )
+
+  pub unrolled-entry : (a : List ℕ) → plain a ≡ true → unrolled (entry a ++ s) ≡ a ∷ unrolled s
+  unrolled-entry a p = unrolled-octets a (plain-octets a p)
 
 pub unrolled-none : unrolled [] ≡ []
-unfolding unrolled unrolledWithin
+unfolding unrolled
 unrolled-none = refl
 
-pub unrolled-one : (n : ℕ) (s : List ℕ) → unrolled (n ∷ s) ≡ take n s ∷ unrolled (drop n s)
-unfolding unrolled unrolledWithin
-unrolled-one n s = ap (λ (l : List (List ℕ)). take n s ∷ l) (enough (length s) (length (drop n s)) (drop n s) (omega (arith, length-drop n s)) (omega arith))
+pub unrolled-rolled : (list : List (List ℕ)) → every plain list ≡ true → unrolled (rolled list) ≡ list
+unfolding rolled every
+unrolled-rolled [] e = unrolled-none
+unrolled-rolled (a ∷ rest) e =
+    rw (unrolled-entry (rolled rest) a (and-left (plain a) (every plain rest) e), unrolled-rolled rest (and-right (plain a) (every plain rest) e))
 
-pub unrolled-entry : (a s : List ℕ) → unrolled (entry a ++ s) ≡ a ∷ unrolled s
-unfolding entry
-unrolled-entry a s = rw (unrolled-one (length a) (a ++ s), take-append-seam a s, drop-append-seam a s)
+-- a roll s that has addresses: a is the first of them
+pub record Opens (s a : List ℕ) (rest : List (List ℕ)) : Type 0 where
+  pub there : 0 < length s
+  pub text : take (length a) s ≡ a
+  pub ends : lengthBefore 0 s ≡ length a
+  pub others : unrolled (drop (suc (length a)) s) ≡ rest
 
-pub unrolled-rolled : (list : List (List ℕ)) → unrolled (rolled list) ≡ list
-unfolding rolled
-unrolled-rolled [] = unrolled-none
-unrolled-rolled (a ∷ rest) = rw (unrolled-entry a (rolled rest), unrolled-rolled rest)
+-- an octet that ends the empty address
+opens-here : (x : ℕ) (s a : List ℕ) (rest : List (List ℕ)) → x ≡ 0 → [] ∷ unrolled s ≡ a ∷ rest → Opens (x ∷ s) a rest
+opens-here x s a rest e q =
+    let n : a ≡ [] = cc in
+    let m : unrolled s ≡ rest = cc in
+    rw (n, e) (record { there = omega arith; text = refl; ends = before-here 0 s; others = m })
 
-pub unrolled-taken : (n : ℕ) (roll : List ℕ) (list : List (List ℕ)) → take n roll ≡ rolled list → unrolled (take n roll) ≡ list
-unrolled-taken n roll list e = rw e (unrolled-rolled list)
+-- an octet in front of an address
+module _ (x : ℕ) (s : List ℕ) (o : eqb x 0 ≡ false) where
+  opens-on : (b : List ℕ) (rest : List (List ℕ)) → Opens s b rest → Opens (x ∷ s) (x ∷ b) rest
+  opens-on b rest h =
+      record {
+        there = omega arith;
+        text = rw (h .text);
+        ends = before-on 0 x s o ∙ rw (h .ends);
+        others = h .others;
+      }
 
--- a plain address is short enough for the octet in front of it
-pub plain-enters : (a : List ℕ) → plain a ≡ true → length a < 256
-plain-enters a p = omega (arith, plain-most a p)
+pub opens : (s a : List ℕ) (rest : List (List ℕ)) → unrolled s ≡ a ∷ rest → Opens s a rest
+unfolding unrolled lengthened
+opens [] a rest e = let z : _≡_ {A = ℕ} 0 1 = cc in absurd (omega arith)
+opens (x ∷ s) a rest e =
+    by-test (eqb x 0)
+    (λ p. opens-here x s a rest (eqb-true x 0 p) (rw (unrolled, p) at e))
+    (λ p. go p (λ b r q. opens s b r q) (unrolled s) refl)
+  where
+    go : eqb x 0 ≡ false → ((b : List ℕ) (r : List (List ℕ)) → unrolled s ≡ b ∷ r → Opens s b r) → (l : List (List ℕ)) → unrolled s ≡ l → Opens (x ∷ s) a rest
+    go p h [] q =
+        let f : [] ≡ a ∷ rest = rw (unrolled, p, q) at e in
+        let z : _≡_ {A = ℕ} 0 1 = cc in
+        absurd (omega arith)
+    go p h (b ∷ r) q =
+        let f : (x ∷ b) ∷ r ≡ a ∷ rest = rw (unrolled, p, q) at e in
+        let n : a ≡ x ∷ b = cc in
+        let m : rest ≡ r = cc in
+        rw (n, m) (opens-on x s p b r (h b r q))
 
 module _ (s : List ℕ) where
   pub listed-readable : (list : List (List ℕ)) → addresses s ≡ some list → listedIn s ≡ list
@@ -97,3 +139,16 @@ module _ (s : List ℕ) where
   pub listed-unreadable : addresses s ≡ none → listedIn s ≡ []
   unfolding listedIn orElse
   listed-unreadable e = rw (listedIn, e)
+
+every-plain : (list : List (List ℕ)) → ((i : ℕ) → i < length list → plain (getD list i []) ≡ true) → every plain list ≡ true
+unfolding every
+every-plain [] h = refl
+every-plain (a ∷ list) h = rw (h 0 (omega arith)) (every-plain list (λ i l. h (suc i) (omega arith)))
+
+pub listed-plain : (s : List ℕ) → every plain (listedIn s) ≡ true
+unfolding every
+listed-plain s = go (addresses s) refl
+  where
+    go : (o : Option (List (List ℕ))) → addresses s ≡ o → every plain (listedIn s) ≡ true
+    go none e = rw (listed-unreadable s e)
+    go (some list) e = rw (listed-readable s list e) (every-plain list (readable-at s list e))

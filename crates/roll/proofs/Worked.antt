@@ -1,4 +1,4 @@
--- Rolls that are worked out: what is rolled, what is read back, what an entry gives that says more than there is, and lists. Assumes nothing.
+-- Rolls that are worked out: what is rolled and its index, what is read back, a rest that nothing ends, and lists. Assumes nothing.
 use Prim.Native.Nat.{ℕ}
 use Prim.Native.String.{String}
 use mathlib.Core.Path.{_≡_, refl}
@@ -6,34 +6,42 @@ use mathlib.Core.Bool.{true, false}
 use mathlib.Core.List.{List, [], _∷_, _++_, map}
 use Rattle.octets.specs.Octets.{ascii, sameOctets, lower, lowered, blank}
 use Rattle.octets.specs.Options.{inFront, orElse}
-use Rattle.octets.specs.Finding.{holds}
+use Rattle.octets.specs.Finding.{holds, lengthBefore}
 use Rattle.octets.specs.Tests.{every}
 use Rattle.runs.specs.Runs.{belongs, run}
 use Rattle.tokens.specs.Tokens.{control, kindOf, past, afterQuote}
+use Rattle.tags.specs.Tags.{tagAfter, tagOf}
 use Rattle.address.specs.Pieces.{onFirst, pieces, before, behind}
 use Rattle.address.specs.Address.{atom, localPart, freeEnds, label, domain, plain, canonical}
 use Rattle.grammar.specs.Grammar.{afterAddress, after}
 use Rattle.addresslist.specs.List.{openingOf, runToken, quotedToken, tokenAt, firstToken, listedBy, listed, addresses, among}
-use Rattle.roll.specs.Roll.{entry, rolled, unrolledWithin, unrolled, listedIn}
+use Rattle.roll.specs.Roll.{entry, rolled, lengthened, unrolled, listedIn}
+use Rattle.roll.specs.Index.{tagsOf, placesFrom, addressAt}
 
 abbrev two : List ℕ
-two = 3 ∷ ascii "a@b" ++ 4 ∷ ascii "c@de"
+two = ascii "a@b" ++ 0 ∷ ascii "C@de" ++ 0 ∷ []
+
+abbrev pair : List (List ℕ)
+pair = ascii "a@b" ∷ ascii "C@de" ∷ []
 
 abbrev Lists : String → List String → Type 0
 Lists s list = listedIn (ascii s) ≡ map ascii list
 
 pub worked :
     (rolled [] ≡ [])
-    × (rolled (ascii "a@b" ∷ ascii "c@de" ∷ []) ≡ two)
-    × (unrolled two ≡ ascii "a@b" ∷ ascii "c@de" ∷ [])
-    × (unrolled (4 ∷ ascii "a@b") ≡ ascii "a@b" ∷ [])
-    × (unrolled (0 ∷ two) ≡ [] ∷ ascii "a@b" ∷ ascii "c@de" ∷ [])
-    × (unrolled (two ++ (9 ∷ [])) ≡ ascii "a@b" ∷ ascii "c@de" ∷ [] ∷ [])
-    × (among (ascii "C@De") (unrolled two) ≡ true)
+    × (rolled pair ≡ two)
+    × (unrolled two ≡ pair)
+    × (unrolled (ascii "a@b") ≡ [])
+    × (unrolled (0 ∷ two) ≡ [] ∷ pair)
+    × (unrolled (two ++ ascii "e@f") ≡ pair)
+    × (tagsOf pair ≡ tagOf (ascii "a@b") ∷ tagOf (ascii "c@de") ∷ [])
+    × (placesFrom 0 pair ≡ 0 ∷ 4 ∷ [])
+    × (addressAt two 4 ≡ ascii "C@de")
+    × (among (ascii "c@de") (unrolled two) ≡ true)
     × (among (ascii "c@d") (unrolled two) ≡ false)
-    × (among (ascii "a@b") (unrolled (2 ∷ ascii "a@b")) ≡ false)
+    × (among (ascii "@b") (unrolled two) ≡ false)
     × Lists "A <a@b>, c@de" ("a@b" ∷ "c@de" ∷ [])
     × Lists "g:;" []
     × Lists "a@b," []
-unfolding entry rolled unrolledWithin unrolled listedIn among orElse canonical sameOctets lower lowered openingOf holds runToken quotedToken tokenAt firstToken afterAddress after inFront listedBy listed addresses belongs atom localPart freeEnds label domain plain every onFirst pieces before behind run control blank kindOf past afterQuote
-worked = (refl, refl, refl, refl, refl, refl, refl, refl, refl, refl, refl, refl)
+unfolding entry rolled lengthened unrolled listedIn tagsOf placesFrom addressAt tagAfter tagOf lengthBefore among orElse canonical sameOctets lower lowered openingOf holds runToken quotedToken tokenAt firstToken afterAddress after inFront listedBy listed addresses belongs atom localPart freeEnds label domain plain every onFirst pieces before behind run control blank kindOf past afterQuote
+worked = (refl, refl, refl, refl, refl, refl, refl, refl, refl, refl, refl, refl, refl, refl, refl)

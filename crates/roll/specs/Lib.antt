@@ -1,1 +1,3 @@
 pub mod Roll
+pub mod Index
+pub mod Growing

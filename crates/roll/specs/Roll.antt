@@ -1,30 +1,34 @@
--- A roll: addresses in lent memory, each behind an octet that says its length. The recipients of a message are kept so, and the addresses that
+-- A roll: addresses in lent memory, each ended by an octet that no address has. The recipients of a message are kept so, and the addresses that
 -- are new with it. Addresses stand there as they were given; they are compared in canonical form (`among` of the crate addresslist).
+--     ender              the octet that ends an address
 --     entry, rolled      the roll of a list of addresses
 --     unrolled           the addresses of a roll, whatever octets it has
 --     listedIn           the addresses of a list, none where it is unreadable
-use Prim.Native.Nat.{ℕ, zero, suc}
+use Prim.Native.Nat.{ℕ}
+use mathlib.Core.Bool.{true, false}
 use mathlib.Core.List.{List, [], _∷_, _++_}
-use lib.ListN.{length, take, drop}
+use lib.Dec.{eqb}
 use Rattle.octets.specs.Options.{orElse}
 use Rattle.addresslist.specs.List.{addresses}
 
+abbrev pub ender : ℕ
+ender = 0
+
 unfoldable pub entry : List ℕ → List ℕ
-entry a = length a ∷ a
+entry a = a ++ (ender ∷ [])
 
 unfoldable pub rolled : List (List ℕ) → List ℕ
 rolled [] = []
 rolled (a ∷ rest) = entry a ++ rolled rest
 
--- of at most so many entries
-unfoldable pub unrolledWithin : ℕ → List ℕ → List (List ℕ)
-unrolledWithin zero s = []
-unrolledWithin (suc k) [] = []
-unrolledWithin (suc k) (n ∷ s) = take n s ∷ unrolledWithin k (drop n s)
+-- an octet more in front of the first address; with no address it stands before a rest that nothing ends, which is none
+unfoldable pub lengthened : ℕ → List (List ℕ) → List (List ℕ)
+lengthened x [] = []
+lengthened x (a ∷ rest) = (x ∷ a) ∷ rest
 
--- each entry has an octet at least
 unfoldable pub unrolled : List ℕ → List (List ℕ)
-unrolled s = unrolledWithin (length s) s
+unrolled [] = []
+unrolled (x ∷ s) = elim (eqb x ender) [ true ↦ [] ∷ unrolled s | false ↦ lengthened x (unrolled s) ]
 
 -- the addresses of a list, none where it is unreadable
 unfoldable pub listedIn : List ℕ → List (List ℕ)

@@ -11,14 +11,14 @@ use Rattle.keys.proofs.next_gossip.Tie as tie
 use Rattle.keys.proofs.GossipFields.{hearing}
 
 abbrev Inv-loop : tie.InvT-loop
-Inv-loop payload limit at recipients text₀ address₀ key₀ place₀ text address key place =
+Inv-loop payload limit at recipients tags places text₀ address₀ key₀ place₀ text address key place =
     (Past (acceptedFor limit (unrolled recipients)) AutocryptGossip payload at place)
     × (length text ≡ length text₀)
     × (length address ≡ length address₀)
     × (length key ≡ length key₀)
 
 abbrev μ-loop : tie.MeasureT-loop
-μ-loop payload limit at recipients text₀ address₀ key₀ place₀ text address key place = length payload - place
+μ-loop payload limit at recipients tags places text₀ address₀ key₀ place₀ text address key place = length payload - place
 
 loop-holds : tie.Need-loop-holds Inv-loop μ-loop
 loop-holds c = search hearing
