@@ -17,8 +17,7 @@ use Rattle.refusals.specs.Rows.{firstOf, answerOf}
 use Rattle.refusals.specs.declared.Refusal.the-variants.{NoFreeSlot}
 use Rattle.refusals.specs.declared.Answer.the-variants.{Done, Refused}
 use Rattle.refusals.proofs.Rows.{denied-refuses, denied-passes, no-row}
-use Rattle.table.specs.Table.{checked}
-use Rattle.table.specs.declared.Checked.the-variants.{Sound}
+use Rattle.table.specs.Tagged.{Open}
 use Rattle.update.specs.Update.{updated, put}
 use Rattle.update.specs.Message.{Message, Gossiped, gossipAddresses, addressesOf, hasRoom, heardAll, applied}
 use Rattle.keys.specs.Answers.{gossipOf}
@@ -30,17 +29,24 @@ use Rattle.room.proofs.Beside.{beside-message}
 use Rattle.delivery.specs.Delivery.{roomRows, delivered}
 use Rattle.delivery.specs.Sending.{Listens, Sends, Carries}
 
-module _ (t sender key : List ℕ) (b : Brought) (payload text : List ℕ) (h : Carries t sender key b payload text) where
-  pub carries-seeks : Seeks t sender payload text
-  carries-seeks = record { sound = h .sends .sound; canonical = h .sends .ready .canonical; reads = h .reads }
+module _ (t tags sender key : List ℕ) (b : Brought) (payload : List ℕ) (limit : ℕ) (recipients listed places text : List ℕ)
+    (h : Carries t tags sender key b payload limit recipients listed places text) where
+  pub carries-seeks : Seeks t tags limit sender payload recipients listed places text
+  carries-seeks =
+      record { open = h .sends .open; canonical = h .sends .ready .canonical; reads = h .reads; index = h .index; most = h .most }
 
-  pub carries-listens : (u : List ℕ) → checked u ≡ Sound → Listens u (b .date) payload text
-  carries-listens u s = record { sound = s; in-range = h .sends .ready .in-range; reads = h .reads }
+  pub carries-listens : (u vs : List ℕ) → Open u vs → Listens u vs (b .date) payload limit recipients listed places text
+  carries-listens u vs o = record { open = o; in-range = h .sends .ready .in-range; reads = h .reads; index = h .index; most = h .most }
 
   -- another text of the same length
-  pub carries-on : (later : List ℕ) → length later ≡ length text → Carries t sender key b payload later
+  pub carries-on : (later : List ℕ) → length later ≡ length text → Carries t tags sender key b payload limit recipients listed places later
   carries-on later l =
-      record { sends = h .sends; reads = record { readably = h .reads .readably; room = omega (arith, h .reads .room, l) } }
+      record {
+        sends = h .sends;
+        reads = record { readably = h .reads .readably; room = omega (arith, h .reads .room, l) };
+        index = h .index;
+        most = h .most;
+      }
 
 pub ruleset carrying = (carries-seeks, carries-on, needs)
 
@@ -78,28 +84,28 @@ module _ (t sender key : List ℕ) (b : Brought) where
       unfolding delivered
       whole q u v = rw (delivered, ← told, not-false c q) v
 
-  module _ (recipients payload : List ℕ) where
+  module _ (limit : ℕ) (recipients payload : List ℕ) where
     pub put-all : (u v : List ℕ) → u ≡ put t sender (updated (b .date) (directFrom (b .date) key (b .own)))
-        → v ≡ heardAll (b .date) (gossipOf recipients payload) u → v ≡ applied t (mailOf sender key b (gossipOf recipients payload))
-    put-all u v x y = (rw x at y) ∙ put-heard (gossipOf recipients payload)
+        → v ≡ heardAll (b .date) (gossipOf limit recipients payload) u → v ≡ applied t (mailOf sender key b (gossipOf limit recipients payload))
+    put-all u v x y = (rw x at y) ∙ put-heard (gossipOf limit recipients payload)
 
-    module _ (c : Bool) (e : c ≡ roomBeside t [] (sender ∷ gossipedIn recipients payload)) where
-      pub full-answered : not c ≡ true → Refused NoFreeSlot ≡ answerOf (firstOf (roomRows t (mailOf sender key b (gossipOf recipients payload))))
+    module _ (c : Bool) (e : c ≡ roomBeside t [] (sender ∷ gossipedIn limit recipients payload)) where
+      pub full-answered : not c ≡ true → Refused NoFreeSlot ≡ answerOf (firstOf (roomRows t (mailOf sender key b (gossipOf limit recipients payload))))
       unfolding gossipedIn
-      full-answered = refused (gossipOf recipients payload) c e
+      full-answered = refused (gossipOf limit recipients payload) c e
 
-      pub full-left : not c ≡ true → t ≡ delivered t (mailOf sender key b (gossipOf recipients payload))
+      pub full-left : not c ≡ true → t ≡ delivered t (mailOf sender key b (gossipOf limit recipients payload))
       unfolding gossipedIn
-      full-left = untouched (gossipOf recipients payload) c e
+      full-left = untouched (gossipOf limit recipients payload) c e
 
-      pub put-answered : not c ≡ false → Done ≡ answerOf (firstOf (roomRows t (mailOf sender key b (gossipOf recipients payload))))
+      pub put-answered : not c ≡ false → Done ≡ answerOf (firstOf (roomRows t (mailOf sender key b (gossipOf limit recipients payload))))
       unfolding gossipedIn
-      put-answered = done (gossipOf recipients payload) c e
+      put-answered = done (gossipOf limit recipients payload) c e
 
-      pub put-left : not c ≡ false → (u : List ℕ) → u ≡ applied t (mailOf sender key b (gossipOf recipients payload))
-          → u ≡ delivered t (mailOf sender key b (gossipOf recipients payload))
+      pub put-left : not c ≡ false → (u : List ℕ) → u ≡ applied t (mailOf sender key b (gossipOf limit recipients payload))
+          → u ≡ delivered t (mailOf sender key b (gossipOf limit recipients payload))
       unfolding gossipedIn
-      put-left = whole (gossipOf recipients payload) c e
+      put-left = whole (gossipOf limit recipients payload) c e
 
   -- no gossip
   module _ (c : Bool) (e : c ≡ roomBeside t [] (sender ∷ [])) where

@@ -3,8 +3,7 @@
 ghost use mathlib.Core.Path.{_≡_};
 ghost use mathlib.Core.List.{[]};
 ghost use Rattle.refusals.specs.Rows.{firstOf, answerOf};
-ghost use Rattle.table.specs.Table.{checked};
-ghost use Rattle.table.specs.declared.Checked.the-variants.{Sound};
+ghost use Rattle.table.specs.Tagged.{Open};
 ghost use Rattle.update.specs.Update.{updated, put};
 ghost use Rattle.update.specs.Message.{heardAll, applied};
 ghost use Rattle.keys.specs.Answers.{gossipOf};
@@ -19,21 +18,41 @@ use refusals::Refusal;
 use slots::Slot;
 
 // Puts the gossip of the payload into the table, field by field.
-fn hear_all(table: &mut [u8], date: u64, payload: &[u8], recipients: &[u8], text: &mut [u8])
-    requires { ⌜ Listens (now table) date (now payload) (now text) ⌝ }
-    ensures { λ _. ⌜ now (table .exit) ≡ heardAll date (gossipOf (now (recipients .entry)) (now (payload .entry))) (now (table .entry)) ⌝ }
+fn hear_all(
+    table: &mut [u8],
+    tags: &mut [u32; Slot::MOST],
+    date: u64,
+    payload: &[u8],
+    limit: usize,
+    recipients: &[u8],
+    listed: &[u32],
+    places: &[u16],
+    text: &mut [u8],
+)
+    requires { ⌜ Listens (now table) (now tags) date (now payload) limit (now recipients) (now listed) (now places) (now text) ⌝ }
+    ensures { λ _. ⌜ now (table .exit) ≡ heardAll date (gossipOf limit (now (recipients .entry)) (now (payload .entry))) (now (table .entry)) ⌝ }
 {
     let mut address = [0u8; Slot::ADDRESS_ROOM];
     let mut key = [0u8; Slot::KEY_LIMIT];
     let mut at = 0;
     loop {
-        match keys::next_gossip(payload, at, recipients, text, &mut address, &mut key) {
+        match keys::next_gossip(
+            payload,
+            limit,
+            at,
+            recipients,
+            listed,
+            places,
+            text,
+            &mut address,
+            &mut key,
+        ) {
             Heard::Next {
                 end,
                 address: n,
                 key: length,
             } => {
-                update::hear(table, &address[0..n], date, &key[0..length]);
+                update::hear(table, tags, &address[0..n], date, &key[0..length]);
                 at = end;
             }
             Heard::Over => return,
@@ -42,71 +61,123 @@ fn hear_all(table: &mut [u8], date: u64, payload: &[u8], recipients: &[u8], text
 }
 
 // Updates the entry of the sender.
-fn update_sender(table: &mut [u8], brought: Brought, sender: &[u8], key: &[u8])
-    requires { ⌜ Sends (now table) (now sender) (now key) brought ⌝ }
+fn update_sender(
+    table: &mut [u8],
+    tags: &mut [u32; Slot::MOST],
+    brought: Brought,
+    sender: &[u8],
+    key: &[u8],
+)
+    requires { ⌜ Sends (now table) (now tags) (now sender) (now key) brought ⌝ }
     ensures { λ _. ⌜ now (table .exit) ≡ put (now (table .entry)) (now (sender .entry)) (updated (brought .date) (directFrom (brought .date) (now (key .entry)) (brought .own))) ⌝ }
-    ensures { λ _. ⌜ checked (now (table .exit)) ≡ Sound ⌝ }
+    ensures { λ _. ⌜ Open (now (table .exit)) (now (tags .exit)) ⌝ }
 {
     let date = brought.date;
     let own = brought.own;
     match own {
         Own::Key { mutual, length } => {
-            update::update_with_key(table, sender, date, &key[0..length], mutual);
+            update::update_with_key(table, tags, sender, date, &key[0..length], mutual);
         }
-        Own::NoKey => update::update_keyless(table, sender, date),
+        Own::NoKey => update::update_keyless(table, tags, sender, date),
     }
 }
 
 // Writes the message into the table, which has room for it.
 fn put_message(
     table: &mut [u8],
+    tags: &mut [u32; Slot::MOST],
     brought: Brought,
     sender: &[u8],
     key: &[u8],
     payload: &[u8],
+    limit: usize,
     recipients: &[u8],
+    listed: &[u32],
+    places: &[u16],
     text: &mut [u8],
 )
-    requires { ⌜ Carries (now table) (now sender) (now key) brought (now payload) (now text) ⌝ }
+    requires { ⌜ Carries (now table) (now tags) (now sender) (now key) brought (now payload) limit (now recipients) (now listed) (now places) (now text) ⌝ }
     ensures { λ _. ⌜ now (table .exit)
-        ≡ applied (now (table .entry)) (mailOf (now (sender .entry)) (now (key .entry)) brought (gossipOf (now (recipients .entry)) (now (payload .entry)))) ⌝ }
+        ≡ applied (now (table .entry)) (mailOf (now (sender .entry)) (now (key .entry)) brought (gossipOf limit (now (recipients .entry)) (now (payload .entry)))) ⌝ }
 {
-    update_sender(table, brought, sender, key);
-    hear_all(table, brought.date, payload, recipients, text);
+    update_sender(table, tags, brought, sender, key);
+    hear_all(
+        table,
+        tags,
+        brought.date,
+        payload,
+        limit,
+        recipients,
+        listed,
+        places,
+        text,
+    );
 }
 
 // Delivers the message of the sender, with the roll of those whom gossip of the payload may be about, if there is room for it.
 pub fn deliver(
     table: &mut [u8],
+    tags: &mut [u32; Slot::MOST],
     brought: Brought,
     sender: &[u8],
     key: &[u8],
     payload: &[u8],
+    limit: usize,
     recipients: &[u8],
+    listed: &[u32],
+    places: &[u16],
     text: &mut [u8],
 ) -> Answer
-    requires { ⌜ Carries (now table) (now sender) (now key) brought (now payload) (now text) ⌝ }
+    requires { ⌜ Carries (now table) (now tags) (now sender) (now key) brought (now payload) limit (now recipients) (now listed) (now places) (now text) ⌝ }
     ensures { λ r. ⌜ r ≡ answerOf (firstOf (roomRows (now (table .entry))
-        (mailOf (now (sender .entry)) (now (key .entry)) brought (gossipOf (now (recipients .entry)) (now (payload .entry)))))) ⌝ }
+        (mailOf (now (sender .entry)) (now (key .entry)) brought (gossipOf limit (now (recipients .entry)) (now (payload .entry)))))) ⌝ }
     ensures { λ _. ⌜ now (table .exit)
-        ≡ delivered (now (table .entry)) (mailOf (now (sender .entry)) (now (key .entry)) brought (gossipOf (now (recipients .entry)) (now (payload .entry)))) ⌝ }
+        ≡ delivered (now (table .entry)) (mailOf (now (sender .entry)) (now (key .entry)) brought (gossipOf limit (now (recipients .entry)) (now (payload .entry)))) ⌝ }
 {
-    if !room::has_room(table, sender, payload, recipients, text) {
+    if !room::has_room(
+        table,
+        tags,
+        limit,
+        sender,
+        payload,
+        recipients,
+        listed,
+        places,
+        text,
+    ) {
         return Answer::Refused(Refusal::NoFreeSlot);
     }
-    put_message(table, brought, sender, key, payload, recipients, text);
+    put_message(
+        table,
+        tags,
+        brought,
+        sender,
+        key,
+        payload,
+        limit,
+        recipients,
+        listed,
+        places,
+        text,
+    );
     Answer::Done
 }
 
 // Delivers a message in which no gossip is looked for: nobody asks for its recipients.
-pub fn deliver_alone(table: &mut [u8], brought: Brought, sender: &[u8], key: &[u8]) -> Answer
-    requires { ⌜ Sends (now table) (now sender) (now key) brought ⌝ }
+pub fn deliver_alone(
+    table: &mut [u8],
+    tags: &mut [u32; Slot::MOST],
+    brought: Brought,
+    sender: &[u8],
+    key: &[u8],
+) -> Answer
+    requires { ⌜ Sends (now table) (now tags) (now sender) (now key) brought ⌝ }
     ensures { λ r. ⌜ r ≡ answerOf (firstOf (roomRows (now (table .entry)) (mailOf (now (sender .entry)) (now (key .entry)) brought []))) ⌝ }
     ensures { λ _. ⌜ now (table .exit) ≡ delivered (now (table .entry)) (mailOf (now (sender .entry)) (now (key .entry)) brought []) ⌝ }
 {
-    if !room::has_room_alone(table, sender) {
+    if !room::has_room_alone(table, tags, sender) {
         return Answer::Refused(Refusal::NoFreeSlot);
     }
-    update_sender(table, brought, sender, key);
+    update_sender(table, tags, brought, sender, key);
     Answer::Done
 }

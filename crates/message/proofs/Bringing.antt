@@ -23,6 +23,7 @@ use Rattle.fields.specs.declared.Survey.{Survey}
 use Rattle.address.specs.Address.{isCanonical}
 use Rattle.heads.specs.Head.{timeLimit}
 use Rattle.keyfield.specs.Field.{Field}
+use Rattle.slots.specs.Slot.{keyLimit}
 use Rattle.outer.specs.Outer.{saidDate, dateIn, recipientsIn}
 use Rattle.outer.proofs.Senders.{sender-canonical}
 use Rattle.outer.proofs.Dates.{date-effective, date-in-range}
@@ -38,30 +39,30 @@ use Rattle.message.specs.declared.Brought.{Brought}
 pub block-short : (s : List ℕ) → readable s ≡ true → length s ≤ limit
 block-short s h = clear-fits s true (sym h) refl
 
-module _ (sender : List ℕ) (field : Option Field) (key : List ℕ) where
-  pub own-in : (o : Own) → OwnAs sender field key o → OwnIn key o
+module _ (most : ℕ) (sender : List ℕ) (field : Option Field) (key : List ℕ) where
+  pub own-in : most ≤ keyLimit → (o : Own) → OwnAs most sender field key o → OwnIn key o
   unfolding OwnAs OwnIn
-  own-in (Key m n) h = record { some-octet = h .some-octet; most = h .most; within = h .within }
-  own-in NoKey h = tt
+  own-in l (Key m n) h = record { some-octet = h .opens .some-octet; most = omega (arith, h .opens .most); within = h .opens .within }
+  own-in l NoKey h = tt
 
-  pub own-direct : (date : ℕ) (o : Own) → OwnAs sender field key o → directFrom date key o ≡ directBy date field
+  pub own-direct : (date : ℕ) (o : Own) → OwnAs most sender field key o → directFrom date key o ≡ directBy date field
   unfolding OwnAs directFrom directBy
   own-direct date (Key m n) h = rw (h .is)
   own-direct date NoKey h = rw h
 
-module _ (receipt : ℕ) (outer : List ℕ) (survey : Survey) (text sender old : List ℕ) (h : Sent receipt outer survey text sender old) where
+module _ (most receipt : ℕ) (outer : List ℕ) (survey : Survey) (text sender old : List ℕ) (h : Sent most receipt outer survey text sender old) where
   pub sent-canonical : isCanonical sender ≡ true
   sent-canonical = sender-canonical (fieldsIn outer) sender (h .sent)
 
   module _ (r : Dated) (said : r ≡ datedOf (saidDate (fieldsIn outer))) (date : ℕ) (e : date ≡ effectiveDate (optionOf r) receipt)
-      (key : List ℕ) (own : Own) (o : OwnAs sender (countedIn (fieldsIn outer) sender) key own) where
+      (key : List ℕ) (own : Own) (o : OwnAs most sender (countedIn most (fieldsIn outer) sender) key own) where
     dated : date ≡ dateIn (fieldsIn outer) receipt
     dated = e ∙ date-effective (fieldsIn outer) receipt r said
 
-    direct : directFrom date key own ≡ directBy (dateIn (fieldsIn outer) receipt) (countedIn (fieldsIn outer) sender)
-    direct = own-direct sender (countedIn (fieldsIn outer) sender) key date own o ∙ rw dated
+    direct : directFrom date key own ≡ directBy (dateIn (fieldsIn outer) receipt) (countedIn most (fieldsIn outer) sender)
+    direct = own-direct most sender (countedIn most (fieldsIn outer) sender) key date own o ∙ rw dated
 
-    pub brings-as : BringsAs receipt outer sender key (record { sender = length sender; date = date; own = own })
+    pub brings-as : BringsAs most receipt outer sender key (record { sender = length sender; date = date; own = own })
     unfolding mailOf messageBy
     brings-as =
         record {
@@ -70,13 +71,13 @@ module _ (receipt : ℕ) (outer : List ℕ) (survey : Survey) (text sender old :
               record {
                 canonical = sent-canonical;
                 in-range = rw dated (date-in-range (fieldsIn outer) receipt (h .in-time));
-                own = own-in sender (countedIn (fieldsIn outer) sender) key own o;
+                own = own-in most sender (countedIn most (fieldsIn outer) sender) key (h .key-most) own o;
               };
           is = λ fs. λ i. record {
             sender = sender;
             date = dated i;
             direct = direct i;
-            gossip = gossipIn (recipientsIn (fieldsIn outer)) fs;
+            gossip = gossipIn most (recipientsIn (fieldsIn outer)) fs;
           };
         }
 

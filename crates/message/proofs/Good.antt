@@ -12,6 +12,7 @@ use Rattle.header.specs.Header.{FieldText, fieldsOf}
 use Rattle.header.proofs.Values.{ValuesOctets}
 use Rattle.keyfield.specs.Field.{Field}
 use Rattle.heads.specs.Head.{timeLimit}
+use Rattle.slots.specs.Slot.{keyLimit}
 use Rattle.update.specs.Message.{GoodBrought, GoodMessage}
 use Rattle.fields.specs.Fields.{fieldsIn}
 use Rattle.fields.proofs.Values.{fields-are}
@@ -22,26 +23,27 @@ use Rattle.keys.specs.Keys.{countedIn}
 use Rattle.keys.proofs.GoodKeys.{counted-key, gossip-good}
 use Rattle.message.specs.Message.{directBy, messageBy}
 
-pub direct-good : (date : ℕ) (fs : List FieldText) (sender : List ℕ) → IfSome (GoodBrought date) (directBy date (countedIn fs sender))
+pub direct-good : (most : ℕ) → most ≤ keyLimit → (date : ℕ) (fs : List FieldText) (sender : List ℕ)
+    → IfSome (GoodBrought date) (directBy date (countedIn most fs sender))
 unfolding directBy
-direct-good date fs sender = go (countedIn fs sender) refl
+direct-good most l date fs sender = go (countedIn most fs sender) refl
   where
-    go : (o : Option Field) → countedIn fs sender ≡ o → IfSome (GoodBrought date) (directBy date (countedIn fs sender))
+    go : (o : Option Field) → countedIn most fs sender ≡ o → IfSome (GoodBrought date) (directBy date (countedIn most fs sender))
     go none e = rw e tt
-    go (some f) e = rw e (record { dated = refl; key = counted-key fs sender f e })
+    go (some f) e = rw e (record { dated = refl; key = counted-key most l fs sender f e })
 
-module _ (receipt : ℕ) (h : receipt ≤ timeLimit) (outer : List ℕ) (o : AllOctets outer) (fs : List FieldText) (e : fieldsOf outer ≡ some fs)
+module _ (most : ℕ) (l : most ≤ keyLimit) (receipt : ℕ) (h : receipt ≤ timeLimit) (outer : List ℕ) (o : AllOctets outer) (fs : List FieldText) (e : fieldsOf outer ≡ some fs)
     (sender : List ℕ) (s : senderIn fs ≡ some sender) where
   sent : senderIn (fieldsIn outer) ≡ some sender
   sent = ap senderIn (fields-are outer fs e) ∙ s
 
-  pub brought-good : (payload : List FieldText) → ValuesOctets payload → GoodMessage (messageBy receipt sender fs payload)
+  pub brought-good : (payload : List FieldText) → ValuesOctets payload → GoodMessage (messageBy most receipt sender fs payload)
   unfolding messageBy
   brought-good payload p =
       record {
         canonical = sender-canonical fs sender s;
         octets = sender-octets outer sender o sent;
         in-range = date-in-range fs receipt h;
-        direct = direct-good (dateIn fs receipt) fs sender;
-        gossip = gossip-good (recipientsIn fs) payload p;
+        direct = direct-good most l (dateIn fs receipt) fs sender;
+        gossip = gossip-good most l (recipientsIn fs) payload p;
       }

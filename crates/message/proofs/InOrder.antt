@@ -22,6 +22,7 @@ use Rattle.header.proofs.Values.{ValuesOctets, block-octets}
 use Rattle.fields.specs.Fields.{fieldsIn}
 use Rattle.fields.proofs.Values.{fields-read}
 use Rattle.heads.specs.Head.{timeLimit}
+use Rattle.slots.specs.Slot.{keyLimit}
 use Rattle.update.specs.Message.{GoodMessage}
 use Rattle.outer.specs.Outer.{senderIn, isReported}
 use Rattle.message.specs.Message.{payloadIn, messageRows, messageOf}
@@ -67,8 +68,8 @@ module _ (receipt : ℕ) (outer payload : List ℕ) (g : Gossip) where
             let r : readable payload ≡ true = not-false (readable payload) (subst (λ (x : Bool). (x && not (readable payload)) ≡ false) k (h .payload-read)) in
             block-octets payload v (fieldsIn payload) (fields-read payload r)
 
-    pub message-good : AllOctets outer → AllOctets payload → GoodMessage (messageOf receipt outer payload g)
+    pub message-good : (most : ℕ) → most ≤ keyLimit → AllOctets outer → AllOctets payload → GoodMessage (messageOf most receipt outer payload g)
     unfolding messageOf
-    message-good u v =
-        brought-good receipt (h .in-time) outer u (fieldsIn outer) (fields-read outer (h .outer-read)) (orElse [] (senderIn (fieldsIn outer))) (h .sent)
+    message-good most l u v =
+        brought-good most l receipt (h .in-time) outer u (fieldsIn outer) (fields-read outer (h .outer-read)) (orElse [] (senderIn (fieldsIn outer))) (h .sent)
         (payloadIn g payload) (payload-octets v)

@@ -77,14 +77,14 @@ pub record Ready (sender key : List ℕ) (b : Brought) : Type 0 where
   pub in-range : b .date ≤ timeLimit
   pub own : OwnIn key (b .own)
 
-abbrev pub heardIn : List ℕ → List ℕ → List Gossiped
-heardIn outer payload = gossipIn (recipientsIn (fieldsIn outer)) (fieldsIn payload)
+abbrev pub heardIn : ℕ → List ℕ → List ℕ → List Gossiped
+heardIn most outer payload = gossipIn most (recipientsIn (fieldsIn outer)) (fieldsIn payload)
 
 -- its date and its direct half are those of the outer block, with any payload
-pub record BringsAs (receipt : ℕ) (outer sender key : List ℕ) (b : Brought) : Type 0 where
+pub record BringsAs (most receipt : ℕ) (outer sender key : List ℕ) (b : Brought) : Type 0 where
   pub long : b .sender ≡ length sender
   pub ready : Ready sender key b
-  pub is : (fs : List FieldText) → mailOf sender key b (gossipIn (recipientsIn (fieldsIn outer)) fs) ≡ messageBy receipt sender (fieldsIn outer) fs
+  pub is : (fs : List FieldText) → mailOf sender key b (gossipIn most (recipientsIn (fieldsIn outer)) fs) ≡ messageBy most receipt sender (fieldsIn outer) fs
 
 -- the answer brings the message m, with this gossip
 pub record Brings (sender key : List ℕ) (b : Brought) (gossip : List Gossiped) (m : Message) : Type 0 where
@@ -92,17 +92,17 @@ pub record Brings (sender key : List ℕ) (b : Brought) (gossip : List Gossiped)
   pub ready : Ready (take (b .sender) sender) key b
   pub is : mailOf (take (b .sender) sender) key b gossip ≡ m
 
-pub record AloneAs (receipt : ℕ) (outer payload : List ℕ) (g : Gossip) (sender key : List ℕ) (b : Brought) : Type 0 where
+pub record AloneAs (most receipt : ℕ) (outer payload : List ℕ) (g : Gossip) (sender key : List ℕ) (b : Brought) : Type 0 where
   pub in-order : firstOf (messageRows receipt outer payload g) ≡ none
-  pub brings : Brings sender key b [] (messageOf receipt outer payload g)
+  pub brings : Brings sender key b [] (messageOf most receipt outer payload g)
 
-pub record CarryingAs (receipt : ℕ) (outer payload : List ℕ) (g : Gossip) (sender key : List ℕ) (b : Brought) (survey : Survey) : Type 0 where
+pub record CarryingAs (most receipt : ℕ) (outer payload : List ℕ) (g : Gossip) (sender key : List ℕ) (b : Brought) (survey : Survey) : Type 0 where
   pub in-order : firstOf (messageRows receipt outer payload g) ≡ none
   pub surveyed : SurveyAs outer survey
   pub readably : readable payload ≡ true
-  pub brings : Brings sender key b (heardIn outer payload) (messageOf receipt outer payload g)
+  pub brings : Brings sender key b (heardIn most outer payload) (messageOf most receipt outer payload g)
 
-unfoldable pub ReadAs : ℕ → List ℕ → List ℕ → Gossip → List ℕ → List ℕ → Reading → Type 0
-ReadAs receipt outer payload g sender key (Alone b) = AloneAs receipt outer payload g sender key b
-ReadAs receipt outer payload g sender key (Carrying b v) = CarryingAs receipt outer payload g sender key b v
-ReadAs receipt outer payload g sender key (Refused r) = firstOf (messageRows receipt outer payload g) ≡ some r
+unfoldable pub ReadAs : ℕ → ℕ → List ℕ → List ℕ → Gossip → List ℕ → List ℕ → Reading → Type 0
+ReadAs most receipt outer payload g sender key (Alone b) = AloneAs most receipt outer payload g sender key b
+ReadAs most receipt outer payload g sender key (Carrying b v) = CarryingAs most receipt outer payload g sender key b v
+ReadAs most receipt outer payload g sender key (Refused r) = firstOf (messageRows receipt outer payload g) ≡ some r

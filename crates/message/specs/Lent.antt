@@ -1,5 +1,5 @@
 -- What the reading of a message asks for, and what it knows between its tests.
---     Lent       room for the values of the outer block, for an address and for a key
+--     Lent       room for the values of the outer block, for an address and for a key of at most so many octets
 --     Walked     the outer block is readable, its survey is known, and there is room for its values
 --     Opened     .. and the receipt time is in range
 --     Sent       .. and this is the sender
@@ -16,23 +16,26 @@ use Rattle.heads.specs.Head.{timeLimit}
 use Rattle.slots.specs.Slot.{addressRoom, keyLimit}
 use Rattle.outer.specs.Outer.{senderIn}
 
-pub record Lent (outer text sender key : List ℕ) : Type 0 where
+pub record Lent (most : ℕ) (outer text sender key : List ℕ) : Type 0 where
   pub room : min (length outer) limit ≤ length text
   pub sender-room : addressRoom ≤ length sender
-  pub key-room : keyLimit ≤ length key
+  pub key-room : most ≤ length key
+  pub key-most : most ≤ keyLimit
 
 pub record Walked (outer : List ℕ) (survey : Survey) (text : List ℕ) : Type 0 where
   pub surveyed : SurveyAs outer survey
   pub room : length outer ≤ length text
 
-pub record Opened (receipt : ℕ) (outer : List ℕ) (survey : Survey) (text sender key : List ℕ) : Type 0 where
+pub record Opened (most receipt : ℕ) (outer : List ℕ) (survey : Survey) (text sender key : List ℕ) : Type 0 where
   pub in-time : receipt ≤ timeLimit
   pub walked : Walked outer survey text
   pub sender-room : addressRoom ≤ length sender
-  pub key-room : keyLimit ≤ length key
+  pub key-room : most ≤ length key
+  pub key-most : most ≤ keyLimit
 
-pub record Sent (receipt : ℕ) (outer : List ℕ) (survey : Survey) (text sender key : List ℕ) : Type 0 where
+pub record Sent (most receipt : ℕ) (outer : List ℕ) (survey : Survey) (text sender key : List ℕ) : Type 0 where
   pub in-time : receipt ≤ timeLimit
   pub walked : Walked outer survey text
   pub sent : senderIn (fieldsIn outer) ≡ some sender
-  pub key-room : keyLimit ≤ length key
+  pub key-room : most ≤ length key
+  pub key-most : most ≤ keyLimit

@@ -43,15 +43,16 @@ unfoldable pub directBy : ℕ → Option Field → Option Direct
 directBy date none = none
 directBy date (some f) = some (record { timestamp = date; key = f .key; «mutual» = f .isMutual })
 
--- the sender, the effective date, the counted field and the accepted gossip, of the fields of the outer block and of the payload
-unfoldable pub messageBy : ℕ → List ℕ → List FieldText → List FieldText → Message
-messageBy receipt sender outer payload =
+-- the sender, the effective date, the counted field and the accepted gossip, of the fields of the outer block and of the payload, with keys of at most so
+-- many octets
+unfoldable pub messageBy : ℕ → ℕ → List ℕ → List FieldText → List FieldText → Message
+messageBy most receipt sender outer payload =
     record {
       sender = sender;
       date = dateIn outer receipt;
-      direct = directBy (dateIn outer receipt) (countedIn outer sender);
-      gossip = gossipIn (recipientsIn outer) payload;
+      direct = directBy (dateIn outer receipt) (countedIn most outer sender);
+      gossip = gossipIn most (recipientsIn outer) payload;
     }
 
-unfoldable pub messageOf : ℕ → List ℕ → List ℕ → Gossip → Message
-messageOf receipt outer payload g = messageBy receipt (orElse [] (senderIn (fieldsIn outer))) (fieldsIn outer) (payloadIn g payload)
+unfoldable pub messageOf : ℕ → ℕ → List ℕ → List ℕ → Gossip → Message
+messageOf most receipt outer payload g = messageBy most receipt (orElse [] (senderIn (fieldsIn outer))) (fieldsIn outer) (payloadIn g payload)

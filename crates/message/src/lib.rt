@@ -78,16 +78,17 @@ fn judge(
 fn bring(
     receipt: u64,
     outer: &[u8],
+    limit: usize,
     survey: Survey,
     text: &mut [u8],
     sender: &[u8],
     key: &mut [u8],
 ) -> Brought
-    requires { ⌜ Sent receipt (now outer) survey (now text) (now sender) (now key) ⌝ }
-    ensures { λ r. ⌜ BringsAs receipt (now (outer .entry)) (now (sender .entry)) (now (key .exit)) r ⌝ }
+    requires { ⌜ Sent limit receipt (now outer) survey (now text) (now sender) (now key) ⌝ }
+    ensures { λ r. ⌜ BringsAs limit receipt (now (outer .entry)) (now (sender .entry)) (now (key .exit)) r ⌝ }
 {
     let date = date::effective_date(outer::date(outer, survey, text), receipt);
-    let own = keys::counted_field(outer, survey, sender, text, key);
+    let own = keys::counted_field(outer, limit, survey, sender, text, key);
     Brought {
         sender: sender.len(),
         date,
@@ -106,15 +107,24 @@ fn read_sent(
     sender: &[u8],
     key: &mut [u8],
 ) -> Reading
-    requires { ⌜ Sent receipt (now outer) survey (now text) (now sender) (now key) ⌝ }
-    ensures { λ r. ⌜ ReadAs receipt (now (outer .entry)) (now (payload .entry)) (settings .gossip) (now (sender .entry)) (now (key .exit)) r ⌝ }
+    requires { ⌜ Sent (settings .«key_limit») receipt (now outer) survey (now text) (now sender) (now key) ⌝ }
+    ensures { λ r. ⌜ ReadAs (settings .«key_limit») receipt (now (outer .entry)) (now (payload .entry)) (settings .gossip) (now (sender .entry)) (now (key .exit)) r ⌝ }
 {
+    let limit = settings.key_limit;
     match judge(outer, survey, payload, settings, text) {
         Judged::Report => Reading::Refused(Refusal::Report),
         Judged::Unreadable => Reading::Refused(Refusal::PayloadBlock),
-        Judged::Passed => Reading::Alone(bring(receipt, outer, survey, text, sender, key)),
+        Judged::Passed => Reading::Alone(bring(
+            receipt,
+            outer,
+            limit,
+            survey,
+            text,
+            sender,
+            key,
+        )),
         Judged::Searched => Reading::Carrying(
-            bring(receipt, outer, survey, text, sender, key),
+            bring(receipt, outer, limit, survey, text, sender, key),
             survey,
         ),
     }
@@ -131,8 +141,8 @@ fn read_on(
     sender: &mut [u8],
     key: &mut [u8],
 ) -> Reading
-    requires { ⌜ Opened receipt (now outer) survey (now text) (now sender) (now key) ⌝ }
-    ensures { λ r. ⌜ ReadAs receipt (now (outer .entry)) (now (payload .entry)) (settings .gossip) (now (sender .exit)) (now (key .exit)) r ⌝ }
+    requires { ⌜ Opened (settings .«key_limit») receipt (now outer) survey (now text) (now sender) (now key) ⌝ }
+    ensures { λ r. ⌜ ReadAs (settings .«key_limit») receipt (now (outer .entry)) (now (payload .entry)) (settings .gossip) (now (sender .exit)) (now (key .exit)) r ⌝ }
 {
     match outer::sender_of(outer, survey, text, sender) {
         Sender::Address(n) => read_sent(
@@ -160,8 +170,8 @@ pub fn read(
     sender: &mut [u8],
     key: &mut [u8],
 ) -> Reading
-    requires { ⌜ Lent (now outer) (now text) (now sender) (now key) ⌝ }
-    ensures { λ r. ⌜ ReadAs receipt (now (outer .entry)) (now (payload .entry)) (settings .gossip) (now (sender .exit)) (now (key .exit)) r ⌝ }
+    requires { ⌜ Lent (settings .«key_limit») (now outer) (now text) (now sender) (now key) ⌝ }
+    ensures { λ r. ⌜ ReadAs (settings .«key_limit») receipt (now (outer .entry)) (now (payload .entry)) (settings .gossip) (now (sender .exit)) (now (key .exit)) r ⌝ }
 {
     if Head::TIME_LIMIT < receipt {
         return Reading::Refused(Refusal::ReceiptTime);

@@ -23,6 +23,7 @@ use Rattle.inspect.specs.Inspecting.{tableRows}
 use Rattle.inspect.proofs.Tables.{rows-sound}
 use Rattle.update.specs.Message.{Message, GoodMessage, hasRoom}
 use Rattle.delivery.specs.Delivery.{delivered}
+use Rattle.slots.specs.Slot.{keyLimit}
 use Rattle.message.specs.Message.{messageRows, messageOf}
 use Rattle.message.proofs.InOrder.{in-order, message-good}
 use Rattle.process.specs.Processing.{refusedProcessing}
@@ -39,7 +40,7 @@ module _ (c : Call) where
   early = firstOf (messageRows (c .receipt) (c .outer) (c .payload) (c .setting))
 
   abbrev message : Message
-  message = messageOf (c .receipt) (c .outer) (c .payload) (c .setting)
+  message = messageOf keyLimit (c .receipt) (c .outer) (c .payload) (c .setting)
 
   brings-none : (r : Refusal) → early ≡ some r → messageIn c ≡ none
   unfolding messageIn
@@ -56,7 +57,7 @@ module _ (c : Call) where
       (λ q.
       let z : some message ≡ some m = sym (brings-message q) ∙ e in
       let p : message ≡ m = cc in
-      rw (sym p) (message-good (c .receipt) (c .outer) (c .payload) (c .setting) (in-order (c .receipt) (c .outer) (c .payload) (c .setting) q) (o .outer) (o .payload)))
+      rw (sym p) (message-good (c .receipt) (c .outer) (c .payload) (c .setting) (in-order (c .receipt) (c .outer) (c .payload) (c .setting) q) keyLimit (omega arith) (o .outer) (o .payload)))
 
   -- what it does to a sound table
   module _ (t : List ℕ) (s : checked t ≡ Sound) where

@@ -47,6 +47,7 @@ use Rattle.update.proofs.Applying.{applied-sound, applied-octets, applied-entry
 use Rattle.fields.specs.Fields as fields
 use Rattle.outer.specs.Outer as outer-specs
 use Rattle.keys.specs.Keys as keys
+use Rattle.slots.specs.Slot.{keyLimit}
 use Rattle.message.specs.Message as message
 use Rattle.message.specs.Message.{messageRows, messageOf}
 use Rattle.refusals.specs.Rows.{firstOf}
@@ -93,7 +94,7 @@ younger = mail "YmFy" 2000
 -- a call that none of 3 to 7 refuses, and what it brings
 pub record Reads (c : Call) (m : Message) : Type 0 where
   pub in-order : firstOf (messageRows (c .receipt) (c .outer) (c .payload) (c .setting)) ≡ none
-  pub brings : messageOf (c .receipt) (c .outer) (c .payload) (c .setting) ≡ m
+  pub brings : messageOf keyLimit (c .receipt) (c .outer) (c .payload) (c .setting) ≡ m
 
 reads : Reads older (bringing "foo" 1000) × Reads younger (bringing "bar" 2000)
 unfolding messageRows messageOf firstOf isSome orElse message.payloadIn settings.taken message.messageBy message.directBy bind octets.lower octets.lowered octets.sameName octets.sameOctets octets.startsWith blank tokens.past tokens.kindOf tokens.control runs.belongs runs.run tokens.afterQuote base64.decode base64.follow base64.before base64.atEnd base64.grouped base64.closed base64.signOf tests.without header.fieldsOf header.fields header.fieldsWithin inFront header.unfolded header.over header.ofEnding header.opensField header.rawLength header.closes header.isReport tests.every pieces.onFirst pieces.pieces pieces.before pieces.behind address.atom address.localPart address.freeEnds address.label address.domain address.plain address.canonical list.openingOf holds list.runToken list.quotedToken list.tokenAt list.firstToken grammar.afterAddress grammar.after list.listedBy list.listed list.addresses onlyOne date.effectiveDate keyfield.trimmedFront keyfield.trimmedBack keyfield.trimmed keyfield.nameOf keyfield.attribute keyfield.attributeOf keyfield.withAddress keyfield.withPreference keyfield.step keyfield.saidWith keyfield.ifLast keyfield.saidFrom keyfield.saidOf keyfield.limited keyfield.keyOf keyfield.withKey keyfield.fieldBy keyfield.fieldOf keyfield.naming keyfield.validFields keyfield.counted fields.fieldsIn fields.isKind fields.valuesOf outer-specs.canonicalOf outer-specs.senderBy outer-specs.senderIn outer-specs.anyReport outer-specs.isReported outer-specs.dateBy outer-specs.dateIn keys.countedIn keys.accepted keys.gossipIn list.afterAddress list.after

@@ -14,6 +14,7 @@ use Rattle.octets.specs.Octets.{AllOctets}
 use Rattle.refusals.specs.Rows.{firstOf, answerOf, unlessRefused}
 use Rattle.refusals.specs.declared.Answer.{Answer}
 use Rattle.update.specs.Message.{Message}
+use Rattle.slots.specs.Slot.{keyLimit}
 use Rattle.message.specs.Message.{messageRows, messageOf}
 use Rattle.process.specs.Processing.{refusedProcessing, leftByProcessing}
 use Rattle.settings.specs.declared.Gossip.{Gossip}
@@ -51,7 +52,7 @@ leftBy t c = leftByProcessing t (c .receipt) (c .outer) (c .payload) (c .setting
 unfoldable pub messageIn : Call → Option Message
 messageIn c =
     unlessRefused (firstOf (messageRows (c .receipt) (c .outer) (c .payload) (c .setting))) none
-    (some (messageOf (c .receipt) (c .outer) (c .payload) (c .setting)))
+    (some (messageOf keyLimit (c .receipt) (c .outer) (c .payload) (c .setting)))
 
 abbrev pub slotCalling : Calling (List ℕ)
 slotCalling = record { answer = answerTo; left = leftBy; brings = messageIn }

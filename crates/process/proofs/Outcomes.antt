@@ -13,6 +13,7 @@ use mathlib.Core.Path.{_≡_, refl, sym, ap, subst, _∙_}
 use mathlib.Core.Bool.{true, false}
 use mathlib.Core.List.{List, [], _++_}
 use mathlib.Core.Option.{Option, some, none}
+use native.Mathlib.Omega.{arith}
 use borrow.Author.Tests.{not-false}
 use Rattle.octets.specs.Octets.{AllOctets}
 use Rattle.octets.proofs.Tests.{by-test}
@@ -30,6 +31,7 @@ use Rattle.inspect.proofs.Tables.{sound-rows, rows-sound, lowest-broken}
 use Rattle.update.specs.Message.{Message, GoodMessage, hasRoom, applied, entryAfter}
 use Rattle.update.proofs.Applying.{applied-sound, applied-octets, applied-entry}
 use Rattle.settings.specs.declared.Gossip.{Gossip}
+use Rattle.slots.specs.Slot.{keyLimit}
 use Rattle.message.specs.Message.{messageRows, messageOf}
 use Rattle.message.proofs.InOrder.{InOrder, in-order, message-good}
 use Rattle.delivery.specs.Delivery.{roomRows, delivered}
@@ -40,7 +42,7 @@ module _ (t : List ℕ) (receipt : ℕ) (outer payload : List ℕ) (g : Gossip) 
   refusal = refusedProcessing t receipt outer payload g
 
   abbrev message : Message
-  message = messageOf receipt outer payload g
+  message = messageOf keyLimit receipt outer payload g
 
   pub sound-first : checked t ≡ Sound → refusal ≡ firstOf (messageRows receipt outer payload g ++ roomRows t message)
   unfolding refusedProcessing processingRows
@@ -113,7 +115,7 @@ module _ (t : List ℕ) (receipt : ℕ) (outer payload : List ℕ) (g : Gossip) 
     after P p more =
         by-refusal refusal
         (λ r e. subst P (sym (refused-left r e)) p)
-        (λ e. subst P (sym (done-left e)) (more (message-good receipt outer payload g (done-in-order e) u v)))
+        (λ e. subst P (sym (done-left e)) (more (message-good receipt outer payload g (done-in-order e) keyLimit (omega arith) u v)))
 
     module _ (s : checked t ≡ Sound) where
       pub processed-keeps : checked (leftByProcessing t receipt outer payload g) ≡ Sound
@@ -127,4 +129,4 @@ module _ (t : List ℕ) (receipt : ℕ) (outer payload : List ℕ) (g : Gossip) 
     done-entry a b =
         let e : refusal ≡ none = answer-done refusal a in
         ap (λ (x : List ℕ). entryIn x b) (done-left e)
-        ∙ applied-entry t message (message-good receipt outer payload g (done-in-order e) u v) (done-sound e) o (done-room e) b
+        ∙ applied-entry t message (message-good receipt outer payload g (done-in-order e) keyLimit (omega arith) u v) (done-sound e) o (done-room e) b

@@ -1,10 +1,10 @@
 -- Processing: the ways through the code.
---     outer-rolls .. carried-left       `deliver_carrying`: the roll of the recipients, and what is delivered by it
+--     gathers .. carried-left           `deliver_carrying`: the roll of the recipients, and what is delivered by it
 --     refused-answered, refused-done    `process_with`: the message is refused
 --     alone-within .. alone-done        .. it comes alone
 --     carrying-within .. carrying-done  .. it carries a payload
---     roomy-short, roomy-long           `process_sound`: a text that is as long as the blocks need
---     table-answered .. table-left      `process`: rows 1 and 2
+--     roomy-short, roomy-long           `process_open`: a text that is as long as the blocks need
+--     opened .. table-left              `process`: rows 1 and 2
 -- Assumes nothing.
 use Prim.Native.Nat.{ℕ, _-_, _≤_}
 use mathlib.Core.Path.{_≡_, refl, sym, ap, _∙_}
@@ -28,13 +28,13 @@ use Rattle.settings.specs.declared.Gossip.{Gossip}
 use Rattle.fields.specs.Fields.{fieldsIn}
 use Rattle.fields.specs.declared.Survey.{Survey}
 use Rattle.fields.proofs.Walking.{survey-readable}
-use Rattle.table.specs.Table.{checked}
-use Rattle.table.specs.declared.Checked.the-variants.{Sound}
-use Rattle.inspect.specs.Inspecting.{tableRows}
-use Rattle.inspect.proofs.Tables.{checked-sound}
+use Rattle.table.specs.Tagged.{Open}
+use Rattle.inspect.specs.Inspecting.{tableRows, Opens}
 use Rattle.update.specs.Message.{Message, Gossiped, applied}
-use Rattle.outer.specs.Answers.{rollOf}
-use Rattle.outer.proofs.RecipientRoll.{gathered, gathered-within}
+use Rattle.roll.specs.Index.{Indexed}
+use Rattle.roll.specs.declared.Rolled.{Rolled}
+use Rattle.recipients.specs.Answers.{Gathers, GatheredAs}
+use Rattle.recipients.proofs.RecipientRoll.{gathered, gathered-index, gathered-within, gathered-tags, gathered-places}
 use Rattle.keys.specs.Keys.{gossipIn}
 use Rattle.keys.specs.Answers.{gossipOf}
 use Rattle.message.specs.Message.{messageRows, messageOf}
@@ -50,43 +50,56 @@ use Rattle.process.specs.Stages.{Roomy, Readied}
 use Rattle.process.proofs.Outcomes.{message-refused, room-first, room-left, refused-left}
 
 -- `deliver_carrying`
-module _ (t : List ℕ) (b : Brought) (sender key outer : List ℕ) (survey : Survey) (payload text : List ℕ)
-    (h : Readied t b sender key outer survey payload text) where
-  pub outer-rolls : (roll : List ℕ) → length roll ≡ 65536 → length outer ≤ length roll
-  outer-rolls roll l = omega (arith, block-short outer (survey-readable outer survey (h .surveyed)), l)
-
-  pub carries-on : (later : List ℕ) → length later ≡ length text → Carries t sender key b payload later
-  carries-on later l =
+module _ (t tags : List ℕ) (b : Brought) (sender key outer : List ℕ) (survey : Survey) (payload text : List ℕ)
+    (h : Readied t tags b sender key outer survey payload text) where
+  pub gathers : (roll listed places : List ℕ) → length roll ≡ 65536 → length listed ≡ 16384 → length places ≡ 16384
+      → Gathers outer survey text roll listed places
+  gathers roll listed places r l p =
+      let n : length outer ≤ 65536 = block-short outer (survey-readable outer survey (h .surveyed)) in
       record {
-        sends = h .carries .sends;
-        reads = record { readably = h .carries .reads .readably; room = omega (arith, h .carries .reads .room, l) };
+        surveyed = h .surveyed;
+        texts = h .outer-fits;
+        octets = omega (arith, n, r);
+        short = omega (arith, r);
+        numbers = omega (arith, n, l);
+        spots = omega (arith, n, p);
       }
 
-module _ (t : List ℕ) (b : Brought) (sender key outer payload d roll : List ℕ) (n : ℕ)
-    (c : n ≡ length (rollOf outer)) (w : roll ≡ onto (rollOf outer) d) where
-  heard-is : gossipOf (take (n - 0) (drop 0 roll)) payload ≡ heardIn outer payload
-  heard-is = rw (gathered outer d roll n c w)
+  pub carries-on : (later : List ℕ) → length later ≡ length text → (recipients listed places : List ℕ) → Indexed recipients listed places
+      → Carries t tags sender key b payload 2048 recipients listed places later
+  carries-on later l recipients listed places x =
+      record {
+        sends = h .sends;
+        reads = record { readably = h .reads .readably; room = omega (arith, h .reads .room, l) };
+        index = x;
+        most = omega arith;
+      }
+
+module _ (outer roll listed places : List ℕ) (r : Rolled) (h : GatheredAs outer roll listed places r)
+    (t : List ℕ) (b : Brought) (sender key payload : List ℕ) where
+  heard-is : gossipOf 2048 (take (r .end - 0) (drop 0 roll)) payload ≡ heardIn 2048 outer payload
+  heard-is = rw (gathered outer roll listed places r h)
 
   pub carried-answered : (a : Answer)
-      → a ≡ answerOf (firstOf (roomRows t (mailOf sender key b (gossipOf (take (n - 0) (drop 0 roll)) payload))))
-      → a ≡ answerOf (firstOf (roomRows t (mailOf sender key b (heardIn outer payload))))
+      → a ≡ answerOf (firstOf (roomRows t (mailOf sender key b (gossipOf 2048 (take (r .end - 0) (drop 0 roll)) payload))))
+      → a ≡ answerOf (firstOf (roomRows t (mailOf sender key b (heardIn 2048 outer payload))))
   carried-answered a e = e ∙ ap (λ (gs : List Gossiped). answerOf (firstOf (roomRows t (mailOf sender key b gs)))) heard-is
 
-  pub carried-left : (u : List ℕ) → u ≡ delivered t (mailOf sender key b (gossipOf (take (n - 0) (drop 0 roll)) payload))
-      → u ≡ delivered t (mailOf sender key b (heardIn outer payload))
+  pub carried-left : (u : List ℕ) → u ≡ delivered t (mailOf sender key b (gossipOf 2048 (take (r .end - 0) (drop 0 roll)) payload))
+      → u ≡ delivered t (mailOf sender key b (heardIn 2048 outer payload))
   carried-left u e = e ∙ ap (λ (gs : List Gossiped). delivered t (mailOf sender key b gs)) heard-is
 
-pub ruleset rolling = (outer-rolls, gathered-within, carries-on, needs)
+pub ruleset rolling = (gathers, gathered-within, gathered-tags, gathered-places, gathered-index, carries-on, needs)
 
 pub ruleset carried = (carried-answered, carried-left, needs)
 
 -- `process_with`: r is what the message was read as
-module _ (t : List ℕ) (receipt : ℕ) (outer payload : List ℕ) (g : Gossip) (text₀ : List ℕ) (y : Roomy t outer payload text₀)
-    (sender key : List ℕ) (r : Reading) (h : ReadAs receipt outer payload g sender key r) where
+module _ (t tags : List ℕ) (receipt : ℕ) (outer payload : List ℕ) (g : Gossip) (text₀ : List ℕ) (y : Roomy t tags outer payload text₀)
+    (sender key : List ℕ) (r : Reading) (h : ReadAs 2048 receipt outer payload g sender key r) where
   module _ (x : Refusal) (q : r ≡ Unread x) where
     first : refusedProcessing t receipt outer payload g ≡ some x
     unfolding ReadAs
-    first = message-refused t receipt outer payload g (y .sound) x (rw q at h)
+    first = message-refused t receipt outer payload g (y .open .sound) x (rw q at h)
 
     pub refused-answered : Refused x ≡ answerOf (refusedProcessing t receipt outer payload g)
     refused-answered = sym (refused-is Refused Done (refusedProcessing t receipt outer payload g) x first)
@@ -95,28 +108,28 @@ module _ (t : List ℕ) (receipt : ℕ) (outer payload : List ℕ) (g : Gossip) 
     refused-done = sym (refused-left t receipt outer payload g x first)
 
   -- what it brings is the message of both blocks
-  module _ (b : Brought) (gs : List Gossiped) (m : Brings sender key b gs (messageOf receipt outer payload g))
+  module _ (b : Brought) (gs : List Gossiped) (m : Brings sender key b gs (messageOf 2048 receipt outer payload g))
       (e : firstOf (messageRows receipt outer payload g) ≡ none) where
     answered : (a : Answer) → a ≡ answerOf (firstOf (roomRows t (mailOf (take (b .sender - 0) (drop 0 sender)) key b gs)))
         → a ≡ answerOf (refusedProcessing t receipt outer payload g)
     answered a w =
-        (rw (sub-zero, m .is) at w) ∙ ap (λ (o : Option Refusal). answerOf o) (sym (room-first t receipt outer payload g (y .sound) e))
+        (rw (sub-zero, m .is) at w) ∙ ap (λ (o : Option Refusal). answerOf o) (sym (room-first t receipt outer payload g (y .open .sound) e))
 
     left : (u : List ℕ) → u ≡ delivered t (mailOf (take (b .sender - 0) (drop 0 sender)) key b gs) → u ≡ leftByProcessing t receipt outer payload g
-    left u w = (rw (sub-zero, m .is) at w) ∙ room-left t receipt outer payload g (y .sound) e
+    left u w = (rw (sub-zero, m .is) at w) ∙ room-left t receipt outer payload g (y .open .sound) e
 
-    sends : Sends t (take (b .sender - 0) (drop 0 sender)) key b
-    sends = record { sound = y .sound; ready = rw sub-zero (m .ready) }
+    sends : Sends t tags (take (b .sender - 0) (drop 0 sender)) key b
+    sends = record { open = y .open; ready = rw sub-zero (m .ready) }
 
   module _ (b : Brought) (q : r ≡ Alone b) where
-    alone : AloneAs receipt outer payload g sender key b
+    alone : AloneAs 2048 receipt outer payload g sender key b
     unfolding ReadAs
     alone = rw q at h
 
     pub alone-within : b .sender ≤ length sender
     alone-within = alone .brings .within
 
-    pub alone-sends : Sends t (take (b .sender - 0) (drop 0 sender)) key b
+    pub alone-sends : Sends t tags (take (b .sender - 0) (drop 0 sender)) key b
     alone-sends = sends b [] (alone .brings) (alone .in-order)
 
     pub alone-answered : (a : Answer) → a ≡ answerOf (firstOf (roomRows t (mailOf (take (b .sender - 0) (drop 0 sender)) key b [])))
@@ -127,7 +140,7 @@ module _ (t : List ℕ) (receipt : ℕ) (outer payload : List ℕ) (g : Gossip) 
     alone-done = left b [] (alone .brings) (alone .in-order)
 
   module _ (b : Brought) (v : Survey) (q : r ≡ Carrying b v) where
-    carrying : CarryingAs receipt outer payload g sender key b v
+    carrying : CarryingAs 2048 receipt outer payload g sender key b v
     unfolding ReadAs
     carrying = rw q at h
 
@@ -135,29 +148,23 @@ module _ (t : List ℕ) (receipt : ℕ) (outer payload : List ℕ) (g : Gossip) 
     carrying-within = carrying .brings .within
 
     pub carrying-readied : (text : List ℕ) → length text ≡ length text₀
-        → Readied t b (take (b .sender - 0) (drop 0 sender)) key outer v payload text
+        → Readied t tags b (take (b .sender - 0) (drop 0 sender)) key outer v payload text
     carrying-readied text l =
         record {
-          carries =
-              record {
-                sends = sends b (heardIn outer payload) (carrying .brings) (carrying .in-order);
-                reads =
-                    record {
-                      readably = carrying .readably;
-                      room = omega (arith, y .payload-fits, block-short payload (carrying .readably), l);
-                    };
-              };
+          sends = sends b (heardIn 2048 outer payload) (carrying .brings) (carrying .in-order);
+          reads =
+              record { readably = carrying .readably; room = omega (arith, y .payload-fits, block-short payload (carrying .readably), l) };
           surveyed = carrying .surveyed;
           outer-fits = omega (arith, y .outer-fits, block-short outer (survey-readable outer v (carrying .surveyed)), l);
         }
 
-    pub carrying-answered : (a : Answer) → a ≡ answerOf (firstOf (roomRows t (mailOf (take (b .sender - 0) (drop 0 sender)) key b (heardIn outer payload))))
+    pub carrying-answered : (a : Answer) → a ≡ answerOf (firstOf (roomRows t (mailOf (take (b .sender - 0) (drop 0 sender)) key b (heardIn 2048 outer payload))))
         → a ≡ answerOf (refusedProcessing t receipt outer payload g)
-    carrying-answered = answered b (heardIn outer payload) (carrying .brings) (carrying .in-order)
+    carrying-answered = answered b (heardIn 2048 outer payload) (carrying .brings) (carrying .in-order)
 
-    pub carrying-done : (u : List ℕ) → u ≡ delivered t (mailOf (take (b .sender - 0) (drop 0 sender)) key b (heardIn outer payload))
+    pub carrying-done : (u : List ℕ) → u ≡ delivered t (mailOf (take (b .sender - 0) (drop 0 sender)) key b (heardIn 2048 outer payload))
         → u ≡ leftByProcessing t receipt outer payload g
-    carrying-done = left b (heardIn outer payload) (carrying .brings) (carrying .in-order)
+    carrying-done = left b (heardIn 2048 outer payload) (carrying .brings) (carrying .in-order)
 
 pub ruleset telling = (alone-within, carrying-within, needs)
 
@@ -167,30 +174,33 @@ pub ruleset reading-carrying = (carrying-readied, carrying-answered, carrying-do
 
 pub ruleset refusing = (refused-answered, refused-done, needs)
 
--- `process_sound`
-module _ (t outer payload text : List ℕ) (s : checked t ≡ Sound) where
-  pub roomy-short : (leb (length outer) 8192 && leb (length payload) 8192) ≡ true → length text ≡ 8192 → Roomy t outer payload text
+-- `process_open`
+module _ (t tags outer payload text : List ℕ) (s : Open t tags) where
+  pub roomy-short : (leb (length outer) 8192 && leb (length payload) 8192) ≡ true → length text ≡ 8192 → Roomy t tags outer payload text
   roomy-short e l =
       record {
-        sound = s;
+        open = s;
         outer-fits = omega (arith, leb-true (length outer) 8192 (and-left (leb (length outer) 8192) (leb (length payload) 8192) e), l);
         payload-fits = omega (arith, leb-true (length payload) 8192 (and-right (leb (length outer) 8192) (leb (length payload) 8192) e), l);
       }
 
-  pub roomy-long : length text ≡ 65536 → Roomy t outer payload text
-  roomy-long l = record { sound = s; outer-fits = omega (arith, l); payload-fits = omega (arith, l) }
+  pub roomy-long : length text ≡ 65536 → Roomy t tags outer payload text
+  roomy-long l = record { open = s; outer-fits = omega (arith, l); payload-fits = omega (arith, l) }
 
 pub ruleset making-room = (roomy-short, roomy-long, needs)
 
 -- `process`
-module _ (t : List ℕ) (receipt : ℕ) (outer payload : List ℕ) (g : Gossip) (k : Answer) (e : k ≡ answerOf (firstOf (tableRows t)))
-    (r : Refusal) (q : k ≡ Refused r) where
-  pub table-answered : Refused r ≡ answerOf (refusedProcessing t receipt outer payload g)
-  unfolding refusedProcessing processingRows
-  table-answered = front-refuses Refused Done (tableRows t) _ k e (Refused r) r q refl
+module _ (t tags : List ℕ) (k : Answer) (h : Opens t tags k) where
+  pub opened : k ≡ Done → Open t tags
+  opened = h .opens
 
-  pub table-left : t ≡ leftByProcessing t receipt outer payload g
-  unfolding leftByProcessing refusedProcessing processingRows
-  table-left = front-refuses (λ (x : Refusal). t) (applied t (messageOf receipt outer payload g)) (tableRows t) _ k e t r q refl
+  module _ (receipt : ℕ) (outer payload : List ℕ) (g : Gossip) (r : Refusal) (q : k ≡ Refused r) where
+    pub table-answered : Refused r ≡ answerOf (refusedProcessing t receipt outer payload g)
+    unfolding refusedProcessing processingRows
+    table-answered = front-refuses Refused Done (tableRows t) _ k (h .answer) (Refused r) r q refl
 
-pub ruleset processing = (table-answered, table-left, checked-sound, needs)
+    pub table-left : t ≡ leftByProcessing t receipt outer payload g
+    unfolding leftByProcessing refusedProcessing processingRows
+    table-left = front-refuses (λ (x : Refusal). t) (applied t (messageOf 2048 receipt outer payload g)) (tableRows t) _ k (h .answer) t r q refl
+
+pub ruleset processing = (table-answered, table-left, opened, needs)

@@ -11,10 +11,11 @@ use Rattle.inspect.specs.Inspecting.{tableRows}
 use Rattle.update.specs.Message.{applied}
 use Rattle.message.specs.Message.{messageRows, messageOf}
 use Rattle.delivery.specs.Delivery.{roomRows}
+use Rattle.slots.specs.Slot.{keyLimit}
 
 unfoldable pub processingRows : List ℕ → ℕ → List ℕ → List ℕ → Gossip → List Row
 processingRows t receipt outer payload g =
-    tableRows t ++ (messageRows receipt outer payload g ++ roomRows t (messageOf receipt outer payload g))
+    tableRows t ++ (messageRows receipt outer payload g ++ roomRows t (messageOf keyLimit receipt outer payload g))
 
 unfoldable pub refusedProcessing : List ℕ → ℕ → List ℕ → List ℕ → Gossip → Option Refusal
 refusedProcessing t receipt outer payload g = firstOf (processingRows t receipt outer payload g)
@@ -22,4 +23,4 @@ refusedProcessing t receipt outer payload g = firstOf (processingRows t receipt 
 -- "A message is applied whole or refused whole."
 unfoldable pub leftByProcessing : List ℕ → ℕ → List ℕ → List ℕ → Gossip → List ℕ
 leftByProcessing t receipt outer payload g =
-    unlessRefused (refusedProcessing t receipt outer payload g) t (applied t (messageOf receipt outer payload g))
+    unlessRefused (refusedProcessing t receipt outer payload g) t (applied t (messageOf keyLimit receipt outer payload g))

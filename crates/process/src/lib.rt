@@ -2,8 +2,8 @@
 // left to be answered and written of the whole call, which is said by specs/Processing.antt.
 ghost use mathlib.Core.Path.{_≡_};
 ghost use Rattle.refusals.specs.Rows.{firstOf, answerOf};
-ghost use Rattle.table.specs.Table.{checked};
-ghost use Rattle.table.specs.declared.Checked.the-variants.{Sound};
+ghost use Rattle.slots.specs.Slot.{keyLimit};
+ghost use Rattle.table.specs.Tagged.{Open};
 ghost use Rattle.message.specs.Answers.{mailOf, heardIn};
 ghost use Rattle.delivery.specs.Delivery.{roomRows, delivered};
 ghost use Rattle.process.specs.Processing.{refusedProcessing, leftByProcessing};
@@ -20,9 +20,13 @@ use slots::Slot;
 // than half as long as all else of a short mail.
 const SHORT: usize = 8192;
 
+// The most addresses that a block can have: one takes three octets and what stands between it and the next.
+const MOST_RECIPIENTS: usize = header::LIMIT / 4;
+
 // Refusal 8 for a message with a payload: gossip counts that is about its recipients.
 fn deliver_carrying(
     table: &mut [u8],
+    tags: &mut [u32; Slot::MOST],
     brought: Brought,
     sender: &[u8],
     key: &[u8],
@@ -31,29 +35,53 @@ fn deliver_carrying(
     payload: &[u8],
     text: &mut [u8],
 ) -> Answer
-    requires { ⌜ Readied (now table) brought (now sender) (now key) (now outer) survey (now payload) (now text) ⌝ }
+    requires { ⌜ Readied (now table) (now tags) brought (now sender) (now key) (now outer) survey (now payload) (now text) ⌝ }
     ensures { λ r. ⌜ r ≡ answerOf (firstOf (roomRows (now (table .entry))
-        (mailOf (now (sender .entry)) (now (key .entry)) brought (heardIn (now (outer .entry)) (now (payload .entry)))))) ⌝ }
+        (mailOf (now (sender .entry)) (now (key .entry)) brought (heardIn keyLimit (now (outer .entry)) (now (payload .entry)))))) ⌝ }
     ensures { λ _. ⌜ now (table .exit)
-        ≡ delivered (now (table .entry)) (mailOf (now (sender .entry)) (now (key .entry)) brought (heardIn (now (outer .entry)) (now (payload .entry)))) ⌝ }
+        ≡ delivered (now (table .entry)) (mailOf (now (sender .entry)) (now (key .entry)) brought (heardIn keyLimit (now (outer .entry)) (now (payload .entry)))) ⌝ }
 {
     let mut roll = [0u8; header::LIMIT];
-    let filled = outer::recipients(outer, survey, text, &mut roll);
-    delivery::deliver(table, brought, sender, key, payload, &roll[0..filled], text)
+    let mut listed = [0u32; MOST_RECIPIENTS];
+    let mut places = [0u16; MOST_RECIPIENTS];
+    let rolled = recipients::gather(
+        outer,
+        survey,
+        text,
+        &mut roll,
+        &mut listed,
+        &mut places,
+    );
+    let end = rolled.end;
+    let many = rolled.many;
+    delivery::deliver(
+        table,
+        tags,
+        brought,
+        sender,
+        key,
+        payload,
+        Slot::KEY_LIMIT,
+        &roll[0..end],
+        &listed[0..many],
+        &places[0..many],
+        text,
+    )
 }
 
 // Refusals 3 to 8, with room for the values of both blocks.
 fn process_with(
     table: &mut [u8],
+    tags: &mut [u32; Slot::MOST],
     receipt: u64,
     outer: &[u8],
     payload: &[u8],
-    settings: Settings,
+    gossip: Gossip,
     text: &mut [u8],
 ) -> Answer
-    requires { ⌜ Roomy (now table) (now outer) (now payload) (now text) ⌝ }
-    ensures { λ r. ⌜ r ≡ answerOf (refusedProcessing (now (table .entry)) receipt (now (outer .entry)) (now (payload .entry)) (settings .gossip)) ⌝ }
-    ensures { λ _. ⌜ now (table .exit) ≡ leftByProcessing (now (table .entry)) receipt (now (outer .entry)) (now (payload .entry)) (settings .gossip) ⌝ }
+    requires { ⌜ Roomy (now table) (now tags) (now outer) (now payload) (now text) ⌝ }
+    ensures { λ r. ⌜ r ≡ answerOf (refusedProcessing (now (table .entry)) receipt (now (outer .entry)) (now (payload .entry)) gossip) ⌝ }
+    ensures { λ _. ⌜ now (table .exit) ≡ leftByProcessing (now (table .entry)) receipt (now (outer .entry)) (now (payload .entry)) gossip ⌝ }
 {
     let mut sender = [0u8; Slot::ADDRESS_ROOM];
     let mut key = [0u8; Slot::KEY_LIMIT];
@@ -61,19 +89,23 @@ fn process_with(
         receipt,
         outer,
         payload,
-        settings,
+        Settings {
+            gossip,
+            key_limit: Slot::KEY_LIMIT,
+        },
         text,
         &mut sender,
         &mut key,
     ) {
         Reading::Alone(brought) => {
             let n = brought.sender;
-            delivery::deliver_alone(table, brought, &sender[0..n], &key)
+            delivery::deliver_alone(table, tags, brought, &sender[0..n], &key)
         }
         Reading::Carrying(brought, survey) => {
             let n = brought.sender;
             deliver_carrying(
                 table,
+                tags,
                 brought,
                 &sender[0..n],
                 &key,
@@ -87,24 +119,25 @@ fn process_with(
     }
 }
 
-// Refusals 3 to 8, with the table checked, and as much room for values as the blocks need.
-fn process_sound(
+// Refusals 3 to 8, with the table open, and as much room for values as the blocks need.
+fn process_open(
     table: &mut [u8],
+    tags: &mut [u32; Slot::MOST],
     receipt: u64,
     outer: &[u8],
     payload: &[u8],
-    settings: Settings,
+    gossip: Gossip,
 ) -> Answer
-    requires { ⌜ checked (now table) ≡ Sound ⌝ }
-    ensures { λ r. ⌜ r ≡ answerOf (refusedProcessing (now (table .entry)) receipt (now (outer .entry)) (now (payload .entry)) (settings .gossip)) ⌝ }
-    ensures { λ _. ⌜ now (table .exit) ≡ leftByProcessing (now (table .entry)) receipt (now (outer .entry)) (now (payload .entry)) (settings .gossip) ⌝ }
+    requires { ⌜ Open (now table) (now tags) ⌝ }
+    ensures { λ r. ⌜ r ≡ answerOf (refusedProcessing (now (table .entry)) receipt (now (outer .entry)) (now (payload .entry)) gossip) ⌝ }
+    ensures { λ _. ⌜ now (table .exit) ≡ leftByProcessing (now (table .entry)) receipt (now (outer .entry)) (now (payload .entry)) gossip ⌝ }
 {
     if (outer.len() <= SHORT) & (payload.len() <= SHORT) {
         let mut text = [0u8; SHORT];
-        return process_with(table, receipt, outer, payload, settings, &mut text);
+        return process_with(table, tags, receipt, outer, payload, gossip, &mut text);
     }
     let mut text = [0u8; header::LIMIT];
-    process_with(table, receipt, outer, payload, settings, &mut text)
+    process_with(table, tags, receipt, outer, payload, gossip, &mut text)
 }
 
 // Processes a message: its outer header block, and the header block of its decrypted payload, empty where there is none.
@@ -118,8 +151,9 @@ pub fn process(
     ensures { λ r. ⌜ r ≡ answerOf (refusedProcessing (now (table .entry)) receipt (now (outer .entry)) (now (payload .entry)) gossip) ⌝ }
     ensures { λ _. ⌜ now (table .exit) ≡ leftByProcessing (now (table .entry)) receipt (now (outer .entry)) (now (payload .entry)) gossip ⌝ }
 {
-    match inspect::check(table) {
-        Answer::Done => process_sound(table, receipt, outer, payload, Settings { gossip }),
+    let mut tags = [0u32; Slot::MOST];
+    match inspect::open_table(table, &mut tags) {
+        Answer::Done => process_open(table, &mut tags, receipt, outer, payload, gossip),
         Answer::Refused(refusal) => Answer::Refused(refusal),
     }
 }

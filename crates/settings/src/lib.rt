@@ -10,9 +10,11 @@ pub enum Gossip {
     Unset,
 }
 
-// All that a caller chooses, as it travels down.
+// What is settled before a message is read, as it travels down: what the caller chose, and the longest key that is taken, which
+// the form of the table gives.
 pub struct Settings {
     pub gossip: Gossip,
+    pub key_limit: usize,
 }
 
 // "unset takes"

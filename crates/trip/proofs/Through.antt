@@ -23,6 +23,7 @@ use Rattle.fields.proofs.Values.{fields-read}
 use Rattle.outer.specs.Outer.{senderIn}
 use Rattle.settings.specs.Settings.{taken}
 use Rattle.settings.specs.declared.Gossip.{Gossip}
+use Rattle.slots.specs.Slot.{keyLimit}
 use Rattle.message.specs.Message.{payloadIn, messageBy, messageOf}
 use Rattle.message.proofs.InOrder.{InOrder}
 use Rattle.process.specs.Processing.{refusedProcessing, leftByProcessing}
@@ -37,7 +38,7 @@ pub record Through (t : List ℕ) (receipt : ℕ) (outer payload : List ℕ) (se
   pub sound : checked (leftByProcessing t receipt outer payload setting) ≡ Sound
   pub octets : AllOctets (leftByProcessing t receipt outer payload setting)
   pub entries : (b : List ℕ) → entryIn (leftByProcessing t receipt outer payload setting) b
-      ≡ entryAfter (messageBy receipt sender (fieldsIn outer) inner) b (entryIn t b)
+      ≡ entryAfter (messageBy keyLimit receipt sender (fieldsIn outer) inner) b (entryIn t b)
 
 module _ (t : List ℕ) (receipt : ℕ) (outer payload : List ℕ) (setting : Gossip) (o : AllOctets t) (u : AllOctets outer) (v : AllOctets payload) where
   -- a payload that is looked at is readable

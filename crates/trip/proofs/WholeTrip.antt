@@ -116,7 +116,7 @@ module _ (t : List ℕ) (receipt : ℕ) (outer payload : List ℕ) (setting : Go
   through = done-through t receipt outer payload setting table-octets outer-octets payload-octets done
 
   abbrev message : Message
-  message = messageBy receipt (through .sender) (fieldsIn outer) (through .inner)
+  message = messageBy keyLimit receipt (through .sender) (fieldsIn outer) (through .inner)
 
   pub left-sound : checked left ≡ Sound
   left-sound = through .sound

@@ -37,6 +37,7 @@ use Rattle.update.specs.Message as brought
 use Rattle.fields.specs.Fields as fields
 use Rattle.outer.specs.Outer as outer-specs
 use Rattle.keys.specs.Keys as keys
+use Rattle.slots.specs.Slot.{keyLimit}
 use Rattle.message.specs.Message as message
 use Rattle.message.specs.Message.{messageRows, messageOf}
 use Rattle.refusals.specs.Rows.{firstOf, answerOf}
@@ -104,11 +105,11 @@ sender-is : outer-specs.senderIn (fields.fieldsIn outer) ≡ some (ascii "a@b.ex
 unfolding octets.sameOctets octets.sameName octets.lowered octets.lower header.fieldsOf header.fields header.fieldsWithin inFront header.unfolded header.over header.ofEnding header.opensField runs.run header.rawLength runs.belongs header.closes header.isReport list.openingOf holds list.runToken list.quotedToken list.tokenAt list.firstToken grammar.afterAddress grammar.after list.listedBy list.listed list.addresses onlyOne orElse address.plain address.localPart address.atom address.domain address.label address.freeEnds address.canonical every pieces.onFirst pieces.pieces pieces.before pieces.behind blank tokens.past tokens.kindOf tokens.control tokens.afterQuote fields.fieldsIn fields.isKind fields.valuesOf outer-specs.canonicalOf outer-specs.senderBy outer-specs.senderIn outer-specs.anyReport outer-specs.isReported
 sender-is = refl
 
-room-for : brought.hasRoom free (message.messageBy 1000 (ascii "a@b.example") (fields.fieldsIn outer) []) ≡ true
+room-for : brought.hasRoom free (message.messageBy keyLimit 1000 (ascii "a@b.example") (fields.fieldsIn outer) []) ≡ true
 unfolding brought.hasRoom brought.newcomers brought.addressesOf brought.gossipAddresses message.messageBy keyfield.chosen keys.accepted keys.gossipIn fields.valuesOf table.found table.lowest table.hasAddress table.freeCount table.howMany table.unused table.slots table.slotAt slots.marked slots.addressOf number octets.sameOctets list.among
 room-for = refl
 
-room : brought.hasRoom free (messageOf 1000 outer [] Unset) ≡ true
+room : brought.hasRoom free (messageOf keyLimit 1000 outer [] Unset) ≡ true
 unfolding messageOf orElse message.payloadIn settings.taken fields.fieldsIn header.fieldsOf header.fields header.fieldsWithin header.over
 room = rw sender-is room-for
 

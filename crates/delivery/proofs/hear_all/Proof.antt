@@ -8,10 +8,10 @@ use Rattle.delivery.proofs.hear_all.Statement.{statement}
 use Rattle.delivery.proofs.hear_all.Tie as tie
 
 abbrev Inv-loop : tie.InvT-loop
-Inv-loop table₀ date payload recipients text₀ address₀ key₀ at₀ table text address key at = (Spreads date recipients payload table₀ table at) × (length table ≡ length table₀) × (length text ≡ length text₀) × (length address ≡ length address₀) × (length key ≡ length key₀)
+Inv-loop table₀ tags₀ date payload limit recipients listed places text₀ address₀ key₀ at₀ table tags text address key at = (Spreads limit date recipients payload table₀ table tags at) × (length table ≡ length table₀) × (length text ≡ length text₀) × (length address ≡ length address₀) × (length key ≡ length key₀)
 
 abbrev μ-loop : tie.MeasureT-loop
-μ-loop table₀ date payload recipients text₀ address₀ key₀ at₀ table text address key at = length payload - at
+μ-loop table₀ tags₀ date payload limit recipients listed places text₀ address₀ key₀ at₀ table tags text address key at = length payload - at
 
 loop-holds : tie.Need-loop-holds Inv-loop μ-loop
 loop-holds c = search spreading
@@ -23,7 +23,7 @@ slice-aggregate-next-gossip-2 : tie.Need-slice-aggregate-next-gossip-2 Inv-loop 
 slice-aggregate-next-gossip-2 c = search spreading
 
 next-gossip-requires : tie.Need-next-gossip-requires Inv-loop μ-loop
-next-gossip-requires c κs = record { clear = search spreading; room = search needs; address-room = search needs; key-room = search needs }
+next-gossip-requires c κs = record { clear = search spreading; index = search needs; room = search needs; address-room = search needs; key-room = search needs }
 
 enum-known-end : tie.Need-enum-known-end Inv-loop μ-loop
 enum-known-end c = search spreading
