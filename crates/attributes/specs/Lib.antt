@@ -1,2 +1,4 @@
 pub mod Attribute
+pub mod Step
 pub mod Answers
+pub mod Steps

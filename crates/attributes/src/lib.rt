@@ -1,8 +1,11 @@
 // One piece of the value of an Autocrypt or Autocrypt-Gossip field: its name, which stands before the first "=", and its
-// value, each without the blanks around it. What is right is said by specs/Attribute.antt.
+// value, each without the blanks around it; and what it comes to behind what was read before it. What is right is said by
+// specs/Attribute.antt and specs/Step.antt.
 ghost use mathlib.Core.Path.{_≡_};
 ghost use Rattle.attributes.specs.Attribute.{nameOf, attributeOf};
+ghost use Rattle.attributes.specs.Step.{withAddress, withPreference, step};
 ghost use Rattle.attributes.specs.Answers.{part, Within, FirstAt, TrimmedFrom, TrimmedTo, Trimmed, Tells};
+ghost use Rattle.attributes.specs.Steps.{addressAt, Stands, stated, Steps};
 use runs::Class;
 
 // Where something stands in the value: from the place `from` up to the place `to`.
@@ -21,12 +24,31 @@ enum Name {
 }
 
 // What a piece says, with the place of its value.
-pub enum Attribute {
+enum Attribute {
     Addr(usize, usize),
     PreferEncrypt(usize, usize),
     Keydata(usize, usize),
     Ignored,
     Spoiling,
+}
+
+// The address seen so far.
+pub enum AddressAt {
+    Unseen,
+    At(usize, usize),
+}
+
+// The preference seen so far: whether it was `mutual`, where one was stated.
+pub enum Preference {
+    Unstated,
+    Stated(bool),
+}
+
+// What a piece comes to: the reading goes on, it is at the key data, or the field is spoiled.
+pub enum NextPiece {
+    On(AddressAt, Preference),
+    Last(usize, usize),
+    Spoils,
 }
 
 // The first place from `from` on where an `x` stands; `to` where none stands before that.
@@ -95,7 +117,7 @@ fn name_of(name: &[u8]) -> Name
 }
 
 // What the piece from `from` up to `to` says.
-pub fn attribute_at(s: &[u8], from: usize, to: usize) -> Attribute
+fn attribute_at(s: &[u8], from: usize, to: usize) -> Attribute
     requires { ⌜ Within (now s) from to ⌝ }
     ensures { λ r. ⌜ Tells (now (s .entry)) r (attributeOf (part (now (s .entry)) from to)) ⌝ }
 {
@@ -113,5 +135,69 @@ pub fn attribute_at(s: &[u8], from: usize, to: usize) -> Attribute
         Name::Keydata => Attribute::Keydata(value.from, value.to),
         Name::Ignored => Attribute::Ignored,
         Name::Unknown => Attribute::Spoiling,
+    }
+}
+
+// "`addr`, a plain address, .. once"
+fn with_address(
+    s: &[u8],
+    from: usize,
+    to: usize,
+    address: AddressAt,
+    preference: Preference,
+) -> NextPiece
+    requires { ⌜ Within (now s) from to ⌝ }
+    ensures { λ r. ⌜ Steps (now (s .entry)) r (withAddress (addressAt (now (s .entry)) address) (stated preference) (part (now (s .entry)) from to)) ⌝ }
+{
+    match address {
+        AddressAt::Unseen => {
+            if address::is_plain(&s[from..to]) {
+                NextPiece::On(AddressAt::At(from, to), preference)
+            } else {
+                NextPiece::Spoils
+            }
+        }
+        AddressAt::At(_, _) => NextPiece::Spoils,
+    }
+}
+
+// "`prefer-encrypt` at most once, and any value but `mutual` means no preference"
+fn with_preference(
+    s: &[u8],
+    from: usize,
+    to: usize,
+    address: AddressAt,
+    preference: Preference,
+) -> NextPiece
+    requires { ⌜ Within (now s) from to × Stands (now s) address ⌝ }
+    ensures { λ r. ⌜ Steps (now (s .entry)) r (withPreference (addressAt (now (s .entry)) address) (stated preference) (part (now (s .entry)) from to)) ⌝ }
+{
+    match preference {
+        Preference::Unstated => {
+            let mutual = octets::same(&s[from..to], b"mutual");
+            NextPiece::On(address, Preference::Stated(mutual))
+        }
+        Preference::Stated(_) => NextPiece::Spoils,
+    }
+}
+
+// What the piece from `from` up to `to` comes to, behind the address and the preference seen so far.
+pub fn step_at(
+    s: &[u8],
+    from: usize,
+    to: usize,
+    address: AddressAt,
+    preference: Preference,
+) -> NextPiece
+    requires { ⌜ Within (now s) from to × Stands (now s) address ⌝ }
+    ensures { λ r. ⌜ Steps (now (s .entry)) r
+        (step (addressAt (now (s .entry)) address) (stated preference) (attributeOf (part (now (s .entry)) from to))) ⌝ }
+{
+    match attribute_at(s, from, to) {
+        Attribute::Addr(start, end) => with_address(s, start, end, address, preference),
+        Attribute::PreferEncrypt(start, end) => with_preference(s, start, end, address, preference),
+        Attribute::Keydata(start, end) => NextPiece::Last(start, end),
+        Attribute::Ignored => NextPiece::On(address, preference),
+        Attribute::Spoiling => NextPiece::Spoils,
     }
 }

@@ -27,8 +27,9 @@ use Rattle.address.specs.Pieces.{pieces}
 use Rattle.address.specs.Address.{plain, canonical, isCanonical}
 use Rattle.address.proofs.Spelling.{plain-is-canonical, canonical-octets}
 use Rattle.attributes.specs.Attribute.{Attribute, addr, preferEncrypt, keydata, ignored, spoiling, attributeOf}
+use Rattle.attributes.specs.Step.{Step, on, last, spoils, withAddress, withPreference, step}
 use Rattle.attributes.proofs.Elements.{every-pieces, every-named}
-use Rattle.keyfield.specs.Field.{Step, on, last, spoils, withAddress, withPreference, step, Said, saidWith, ifLast, saidFrom, saidOf, limited, keyOf, Field, withKey, fieldBy, fieldOf}
+use Rattle.keyfield.specs.Field.{Said, saidWith, ifLast, saidFrom, saidOf, limited, keyOf, Field, withKey, fieldBy, fieldOf}
 
 -- What holds of the address that is said, where it holds of each plain address that a piece of a kind names.
 module _ (Q : List ℕ → Type 0) (kind : List ℕ → Bool) (named : (p v : List ℕ) → kind p ≡ true → attributeOf p ≡ addr v → plain v ≡ true → Q v) where

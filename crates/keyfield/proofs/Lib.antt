@@ -1,4 +1,4 @@
-pub mod Stepping
+pub mod Ending
 pub mod Scanning
 pub mod Keying
 pub mod Reading

@@ -18,8 +18,9 @@ use Rattle.runs.specs.Runs.{belongs}
 use Rattle.address.specs.Address.{plain, canonical, addressOctet}
 use Rattle.address.proofs.Sides.{plain-octets, low-apart}
 use Rattle.attributes.specs.Attribute.{trimmed, attributeOf}
+use Rattle.attributes.specs.Step.{on, last, withAddress, withPreference, step}
 use Rattle.attributes.proofs.Joined.{other, piece-cut, piece-alone, trimmed-same, without-trimmed, address-joined, preference-joined, key-joined}
-use Rattle.keyfield.specs.Field.{on, last, withAddress, withPreference, step, saidWith, ifLast, saidFrom, saidOf, keyOf, withKey, fieldBy, fieldOf}
+use Rattle.keyfield.specs.Field.{saidWith, ifLast, saidFrom, saidOf, keyOf, withKey, fieldBy, fieldOf}
 
 pub key-trimmed : (limit : ℕ) (v : List ℕ) → keyOf limit (trimmed v) ≡ keyOf limit v
 unfolding keyOf

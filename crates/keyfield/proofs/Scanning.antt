@@ -13,17 +13,19 @@ use Rattle.octets.proofs.Lists.{lt-or-le}
 use Rattle.address.specs.Pieces.{pieces}
 use Rattle.address.proofs.Pieces.{pieces-first}
 use Rattle.attributes.specs.Attribute.{attributeOf}
+use Rattle.attributes.specs.Step.{step}
 use Rattle.attributes.specs.Answers.{part, Within, FirstAt}
+use Rattle.attributes.specs.Steps.{addressAt, Stands, stated, stepAt, NextWithin, Steps}
+use Rattle.attributes.specs.declared.AddressAt.{AddressAt}
+use Rattle.attributes.specs.declared.AddressAt.the-variants.{Unseen, At}
+use Rattle.attributes.specs.declared.Preference.{Preference}
+use Rattle.attributes.specs.declared.Preference.the-variants.{Unstated}
+use Rattle.attributes.specs.declared.NextPiece.{NextPiece}
+use Rattle.attributes.specs.declared.NextPiece.the-variants.{On, Last, Spoils}
 use Rattle.attributes.proofs.Parts.{part-rest}
 use Rattle.attributes.proofs.Cutting.{cut-pieces, cut-last}
-use Rattle.keyfield.specs.Field.{step, saidFrom, saidOf, saidWith, ifLast}
-use Rattle.keyfield.specs.Answers.{addressAt, Stands, stated, stepAt, NextWithin, Steps, wholeOf, saidAt, WholeWithin, Scans}
-use Rattle.keyfield.specs.declared.AddressAt.{AddressAt}
-use Rattle.keyfield.specs.declared.AddressAt.the-variants.{Unseen, At}
-use Rattle.keyfield.specs.declared.Preference.{Preference}
-use Rattle.keyfield.specs.declared.Preference.the-variants.{Unstated}
-use Rattle.keyfield.specs.declared.NextPiece.{NextPiece}
-use Rattle.keyfield.specs.declared.NextPiece.the-variants.{On, Last, Spoils}
+use Rattle.keyfield.specs.Field.{saidFrom, saidOf, saidWith, ifLast}
+use Rattle.keyfield.specs.Answers.{wholeOf, saidAt, WholeWithin, Scans}
 use Rattle.keyfield.specs.declared.Scanned.{Scanned}
 use Rattle.keyfield.specs.declared.Scanned.the-variants.{Broken}
 

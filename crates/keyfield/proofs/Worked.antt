@@ -14,7 +14,8 @@ use Rattle.letters.specs.Base64 as base64
 use Rattle.address.specs.Pieces.{onFirst, pieces, before, behind}
 use Rattle.address.specs.Address.{atom, localPart, freeEnds, label, domain, plain, canonical}
 use Rattle.attributes.specs.Attribute.{trimmedFront, trimmedBack, trimmed, nameOf, attribute, attributeOf}
-use Rattle.keyfield.specs.Field.{withAddress, withPreference, step, saidWith, ifLast, saidFrom, saidOf, limited, keyOf, Field, withKey, fieldBy, fieldOf, naming, validFor, chosen, validFields, counted}
+use Rattle.attributes.specs.Step.{withAddress, withPreference, step}
+use Rattle.keyfield.specs.Field.{saidWith, ifLast, saidFrom, saidOf, limited, keyOf, Field, withKey, fieldBy, fieldOf, naming, validFor, chosen, validFields, counted}
 
 -- the field of a@b.example with the key `foo`, and those of a@b with the key `f`
 abbrev pub foo : Field

@@ -1,7 +1,4 @@
 -- From the rules to what the code answers and leaves in lent memory. An answer gives places of the value; what they show stands between them.
---     addressAt, stated    the address and the preference seen so far
---     PlainAt, Stands      .. the address standing there
---     stepAt, Steps        the step that an answer shows
 --     wholeOf              what is answered where the key data stands
 --     saidAt, Scans        what the whole value says, as an answer shows it
 --     Opens                a key opens lent memory
@@ -9,59 +6,23 @@
 --     ReadAt, ReadAs       the answer on a field
 use Prim.Native.Nat.{ℕ, _-_, _≤_}
 use mathlib.Core.Path.{_≡_}
-use mathlib.Core.Bool.{Bool, true, false}
+use mathlib.Core.Bool.{Bool}
 use mathlib.Core.List.{List}
 use mathlib.Core.Option.{Option, some, none}
 use lib.ListN.{length, take, drop}
-use Rattle.address.specs.Address.{plain, canonical}
+use Rattle.address.specs.Address.{canonical}
 use Rattle.attributes.specs.Answers.{part, Within}
-use Rattle.keyfield.specs.Field.{Step, on, last, spoils, Said, mutualBy, saidOf, keyOf, fieldOf}
-use Rattle.keyfield.specs.declared.AddressAt.{AddressAt}
-use Rattle.keyfield.specs.declared.AddressAt.the-variants.{Unseen, At}
-use Rattle.keyfield.specs.declared.Preference.{Preference}
-use Rattle.keyfield.specs.declared.Preference.the-variants.{Unstated, Mutual, NotMutual}
-use Rattle.keyfield.specs.declared.NextPiece.{NextPiece}
-use Rattle.keyfield.specs.declared.NextPiece.the-variants.{On, Last, Spoils}
+use Rattle.attributes.specs.Steps.{PlainAt, stated}
+use Rattle.attributes.specs.declared.AddressAt.{AddressAt}
+use Rattle.attributes.specs.declared.AddressAt.the-variants.{Unseen, At}
+use Rattle.attributes.specs.declared.Preference.{Preference}
+use Rattle.keyfield.specs.Field.{Said, mutualBy, saidOf, keyOf, fieldOf}
 use Rattle.keyfield.specs.declared.Scanned.{Scanned}
 use Rattle.keyfield.specs.declared.Scanned.the-variants.{Whole, Broken}
 use Rattle.keyfield.specs.declared.Key.{Key}
 use Rattle.keyfield.specs.declared.Key.the-variants.{Length, NoKey}
 use Rattle.keyfield.specs.declared.Read.{Read}
 use Rattle.keyfield.specs.declared.Read.the-variants.{Valid, Spoiled}
-
-unfoldable pub addressAt : List ℕ → AddressAt → Option (List ℕ)
-addressAt s Unseen = none
-addressAt s (At from to) = some (part s from to)
-
--- a plain address stands there
-pub record PlainAt (s : List ℕ) (from to : ℕ) : Type 0 where
-  pub order : from ≤ to
-  pub upto : to ≤ length s
-  pub plainly : plain (part s from to) ≡ true
-
-unfoldable pub Stands : List ℕ → AddressAt → Type 0
-Stands s Unseen = Unit
-Stands s (At from to) = PlainAt s from to
-
-unfoldable pub stated : Preference → Option Bool
-stated Unstated = none
-stated Mutual = some true
-stated NotMutual = some false
-
-unfoldable pub stepAt : List ℕ → NextPiece → Step
-stepAt s (On place preference) = on (addressAt s place) (stated preference)
-stepAt s (Last from to) = last (part s from to)
-stepAt s Spoils = spoils
-
-unfoldable pub NextWithin : List ℕ → NextPiece → Type 0
-NextWithin s (On place preference) = Stands s place
-NextWithin s (Last from to) = Within s from to
-NextWithin s Spoils = Unit
-
--- an answer shows this step
-pub record Steps (s : List ℕ) (r : NextPiece) (x : Step) : Type 0 where
-  pub is : stepAt s r ≡ x
-  pub within : NextWithin s r
 
 -- where the key data stands between two places, behind what was seen before
 unfoldable pub wholeOf : AddressAt → Preference → ℕ → ℕ → Scanned

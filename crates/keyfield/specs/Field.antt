@@ -1,6 +1,5 @@
 -- The value of an Autocrypt or Autocrypt-Gossip field, unfolded, as paper 01 reads it in "The two fields and the update". How many octets a key may
 -- have is said by `limit`: 2,048 for the slots of the paper.
---     Step, step               what a piece comes to behind what was read before it
 --     Said, saidOf             what the whole value says, its key data still a text
 --     limited, keyOf           the key that key data stands for
 --     Field, fieldOf           what a valid field says; none where it is spoiled
@@ -16,33 +15,10 @@ use Rattle.octets.specs.Octets.{octet, sameOctets, withoutBlanks}
 use Rattle.octets.specs.Options.{onlyOne}
 use Rattle.octets.specs.Tests.{oneTo}
 use Rattle.letters.specs.Base64.{decode}
-use Rattle.names.specs.Names as names
 use Rattle.address.specs.Pieces.{pieces}
-use Rattle.address.specs.Address.{plain, canonical}
-use Rattle.attributes.specs.Attribute.{Attribute, addr, preferEncrypt, keydata, ignored, spoiling, attributeOf}
-
--- What a piece comes to: the reading goes on with the address and the preference seen so far, it is at the key data, or the field is spoiled.
-pub data Step : Type 0 where
-  on : Option (List ℕ) → Option Bool → Step
-  last : List ℕ → Step
-  spoils : Step
-
--- "`addr`, a plain address, .. once"
-unfoldable pub withAddress : Option (List ℕ) → Option Bool → List ℕ → Step
-withAddress none preference v = cond (plain v) (on (some v) preference) spoils
-withAddress (some a) preference v = spoils
-
--- "`prefer-encrypt` at most once, and any value but `mutual` means no preference"
-unfoldable pub withPreference : Option (List ℕ) → Option Bool → List ℕ → Step
-withPreference address none v = on address (some (sameOctets v names.preferring))
-withPreference address (some m) v = spoils
-
-unfoldable pub step : Option (List ℕ) → Option Bool → Attribute → Step
-step address preference (addr v) = withAddress address preference v
-step address preference (preferEncrypt v) = withPreference address preference v
-step address preference (keydata v) = last v
-step address preference ignored = on address preference
-step address preference spoiling = spoils
+use Rattle.address.specs.Address.{canonical}
+use Rattle.attributes.specs.Attribute.{attributeOf}
+use Rattle.attributes.specs.Step.{on, last, spoils, step}
 
 -- what a value says: the address as it stands there, the preference, and the text of the key data
 pub record Said : Type 0 where

@@ -3,32 +3,13 @@
 ghost use Prim.Native.Nat.{_≤_};
 ghost use mathlib.Core.Path.{_≡_};
 ghost use lib.ListN.{length};
-ghost use Rattle.attributes.specs.Attribute.{attributeOf};
-ghost use Rattle.attributes.specs.Answers.{part, Within};
-ghost use Rattle.keyfield.specs.Field.{withAddress, withPreference, step, mutualBy};
-ghost use Rattle.keyfield.specs.Answers.{addressAt, Stands, stated, Steps, wholeOf, Scans, KeyAs, ReadAs};
-use attributes::Attribute;
+ghost use Rattle.attributes.specs.Steps.{stated};
+ghost use Rattle.keyfield.specs.Field.{mutualBy};
+ghost use Rattle.keyfield.specs.Answers.{wholeOf, Scans, KeyAs, ReadAs};
+use attributes::AddressAt;
+use attributes::NextPiece;
+use attributes::Preference;
 use base64::Decoded;
-
-// The address seen so far.
-enum AddressAt {
-    Unseen,
-    At(usize, usize),
-}
-
-// The preference seen so far.
-enum Preference {
-    Unstated,
-    Mutual,
-    NotMutual,
-}
-
-// What a piece comes to: the reading goes on, it is at the key data, or the field is spoiled.
-enum NextPiece {
-    On(AddressAt, Preference),
-    Last(usize, usize),
-    Spoils,
-}
 
 // What the value says, its key data still a text.
 enum Scanned {
@@ -60,81 +41,12 @@ pub enum Read {
     Spoiled,
 }
 
-// "`addr`, a plain address, .. once"
-fn with_address(
-    s: &[u8],
-    from: usize,
-    to: usize,
-    address: AddressAt,
-    preference: Preference,
-) -> NextPiece
-    requires { ⌜ Within (now s) from to ⌝ }
-    ensures { λ r. ⌜ Steps (now (s .entry)) r (withAddress (addressAt (now (s .entry)) address) (stated preference) (part (now (s .entry)) from to)) ⌝ }
-{
-    match address {
-        AddressAt::Unseen => {
-            if address::is_plain(&s[from..to]) {
-                NextPiece::On(AddressAt::At(from, to), preference)
-            } else {
-                NextPiece::Spoils
-            }
-        }
-        AddressAt::At(_, _) => NextPiece::Spoils,
-    }
-}
-
-// "`prefer-encrypt` at most once, and any value but `mutual` means no preference"
-fn with_preference(
-    s: &[u8],
-    from: usize,
-    to: usize,
-    address: AddressAt,
-    preference: Preference,
-) -> NextPiece
-    requires { ⌜ Within (now s) from to × Stands (now s) address ⌝ }
-    ensures { λ r. ⌜ Steps (now (s .entry)) r (withPreference (addressAt (now (s .entry)) address) (stated preference) (part (now (s .entry)) from to)) ⌝ }
-{
-    match preference {
-        Preference::Unstated => {
-            if octets::same(&s[from..to], b"mutual") {
-                NextPiece::On(address, Preference::Mutual)
-            } else {
-                NextPiece::On(address, Preference::NotMutual)
-            }
-        }
-        Preference::Mutual => NextPiece::Spoils,
-        Preference::NotMutual => NextPiece::Spoils,
-    }
-}
-
-// What the piece from `from` up to `to` comes to, behind the address and the preference seen so far.
-fn step_at(
-    s: &[u8],
-    from: usize,
-    to: usize,
-    address: AddressAt,
-    preference: Preference,
-) -> NextPiece
-    requires { ⌜ Within (now s) from to × Stands (now s) address ⌝ }
-    ensures { λ r. ⌜ Steps (now (s .entry)) r
-        (step (addressAt (now (s .entry)) address) (stated preference) (attributeOf (part (now (s .entry)) from to))) ⌝ }
-{
-    match attributes::attribute_at(s, from, to) {
-        Attribute::Addr(start, end) => with_address(s, start, end, address, preference),
-        Attribute::PreferEncrypt(start, end) => with_preference(s, start, end, address, preference),
-        Attribute::Keydata(start, end) => NextPiece::Last(start, end),
-        Attribute::Ignored => NextPiece::On(address, preference),
-        Attribute::Spoiling => NextPiece::Spoils,
-    }
-}
-
 fn is_mutual(preference: Preference) -> bool
     ensures { λ r. ⌜ r ≡ mutualBy (stated preference) ⌝ }
 {
     match preference {
         Preference::Unstated => false,
-        Preference::Mutual => true,
-        Preference::NotMutual => false,
+        Preference::Stated(mutual) => mutual,
     }
 }
 
@@ -163,7 +75,7 @@ fn scan(s: &[u8]) -> Scanned
     let mut preference = Preference::Unstated;
     loop {
         let end = attributes::find(s, at, s.len(), b';');
-        match step_at(s, at, end, address, preference) {
+        match attributes::step_at(s, at, end, address, preference) {
             NextPiece::On(seen, stated) => {
                 if s.len() <= end {
                     return Scanned::Broken;

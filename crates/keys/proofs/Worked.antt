@@ -16,7 +16,8 @@ use Rattle.address.specs.Pieces.{onFirst, pieces, before, behind}
 use Rattle.address.specs.Address.{atom, localPart, freeEnds, label, domain, plain, canonical}
 use Rattle.addresslist.specs.List.{among}
 use Rattle.attributes.specs.Attribute.{trimmedFront, trimmedBack, trimmed, nameOf, attribute, attributeOf}
-use Rattle.keyfield.specs.Field.{Field, withAddress, withPreference, step, saidWith, ifLast, saidFrom, saidOf, limited, keyOf, withKey, fieldBy, fieldOf, naming, validFor, chosen, validFields, counted}
+use Rattle.attributes.specs.Step.{withAddress, withPreference, step}
+use Rattle.keyfield.specs.Field.{Field, saidWith, ifLast, saidFrom, saidOf, limited, keyOf, withKey, fieldBy, fieldOf, naming, validFor, chosen, validFields, counted}
 use Rattle.update.specs.Message.{Gossiped}
 use Rattle.fields.specs.Fields.{fieldsIn, isKind, valuesOf}
 use Rattle.keyowner.specs.Owners.{acceptedBy, acceptedFor}

@@ -1,7 +1,7 @@
--- `keyfield::whole` meets its contract: the laws of `Stepping` answer every need. Assumes nothing.
+-- `keyfield::whole` meets its contract: the laws of `Ending` answer every need. Assumes nothing.
 use Rattle.keyfield.proofs.whole.Statement.{statement}
 use Rattle.keyfield.proofs.whole.Tie as tie
-use Rattle.keyfield.proofs.Stepping.{ending}
+use Rattle.keyfield.proofs.Ending.{ending}
 
 enum-told : tie.Need-enum-told
 enum-told c = search ending

@@ -1,7 +1,7 @@
--- `keyfield::with_preference` meets its contract: the laws of `Stepping` answer every need. Assumes nothing.
-use Rattle.keyfield.proofs.with_preference.Statement.{statement}
-use Rattle.keyfield.proofs.with_preference.Tie as tie
-use Rattle.keyfield.proofs.Stepping.{preferring}
+-- `attributes::with_preference` meets its contract: the laws of `Stepping` answer every need. Assumes nothing.
+use Rattle.attributes.proofs.with_preference.Statement.{statement}
+use Rattle.attributes.proofs.with_preference.Tie as tie
+use Rattle.attributes.proofs.Stepping.{preferring}
 
 enum-told : tie.Need-enum-told
 enum-told c = search preferring
@@ -24,20 +24,11 @@ same-requires c κs = search preferring
 enum-told-2 : tie.Need-enum-told-2
 enum-told-2 c = search preferring
 
-enum-told-3 : tie.Need-enum-told-3
-enum-told-3 c = search preferring
-
 returns : tie.Need-returns
 returns c = search preferring
 
 returns-2 : tie.Need-returns-2
 returns-2 c = search preferring
-
-returns-3 : tie.Need-returns-3
-returns-3 c = search preferring
-
-returns-4 : tie.Need-returns-4
-returns-4 c = search preferring
 
 pub with-preference-spec : {M : Type 1} → statement M
 with-preference-spec =
@@ -50,8 +41,5 @@ with-preference-spec =
     slice-aggregate-same
     same-requires
     enum-told-2
-    enum-told-3
     returns
-    returns-2
-    returns-3
-    returns-4)
+    returns-2)

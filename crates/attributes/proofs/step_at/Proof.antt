@@ -1,7 +1,7 @@
--- `keyfield::step_at` meets its contract: the laws of `Stepping` answer every need. Assumes nothing.
-use Rattle.keyfield.proofs.step_at.Statement.{statement}
-use Rattle.keyfield.proofs.step_at.Tie as tie
-use Rattle.keyfield.proofs.Stepping.{stepping}
+-- `attributes::step_at` meets its contract: the laws of `Stepping` answer every need. Assumes nothing.
+use Rattle.attributes.proofs.step_at.Statement.{statement}
+use Rattle.attributes.proofs.step_at.Tie as tie
+use Rattle.attributes.proofs.Stepping.{stepping}
 
 attribute-at-requires : tie.Need-attribute-at-requires
 attribute-at-requires c κs = search stepping

@@ -1,7 +1,7 @@
--- `keyfield::with_address` meets its contract: the laws of `Stepping` answer every need. Assumes nothing.
-use Rattle.keyfield.proofs.with_address.Statement.{statement}
-use Rattle.keyfield.proofs.with_address.Tie as tie
-use Rattle.keyfield.proofs.Stepping.{addressing}
+-- `attributes::with_address` meets its contract: the laws of `Stepping` answer every need. Assumes nothing.
+use Rattle.attributes.proofs.with_address.Statement.{statement}
+use Rattle.attributes.proofs.with_address.Tie as tie
+use Rattle.attributes.proofs.Stepping.{addressing}
 
 enum-told : tie.Need-enum-told
 enum-told c = search addressing
