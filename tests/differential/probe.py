@@ -260,6 +260,7 @@ class Probe(Bound):
 
     def _slot(self, name: str, kinds: list, *words) -> int | None:
         r = self._call(name, Answer, kinds, *words)
+        assert r.kind in (0, 1)
         return r.value if r.kind == 0 else None
 
     def find(self, table: bytes, address: bytes) -> int | None:

@@ -87,7 +87,8 @@ pub fn print(input: &[u8], out: &mut [u8; ROOM]) -> usize
     if LONGEST < input.len() {
         return columns::put_text(out, 0, b"refused 1", b'\n');
     }
-    match table::check(input) {
+    let mut tags = [0u32; Slot::MOST];
+    match lookup::check(input, &mut tags) {
         Checked::Sound => put_lines(input, out),
         Checked::Length => columns::put_text(out, 0, b"refused 1", b'\n'),
         Checked::Slot(_) => columns::put_text(out, 0, b"refused 2", b'\n'),

@@ -395,9 +395,15 @@ fn slot_found(r: table::Found) -> Answer {
     }
 }
 
+// kind 0: the slot that holds the address; 1: none does; 2: the table is not sound, and nobody looks
 #[no_mangle]
 pub extern "C" fn probe_find(t: &[u8], address: &[u8]) -> Answer {
-    slot_found(table::find(t, address))
+    let mut tags = [0u32; Slot::MOST];
+    match lookup::check(t, &mut tags) {
+        table::Checked::Sound => slot_found(lookup::find(t, &tags, address)),
+        table::Checked::Length => Answer { kind: 2, value: 0 },
+        table::Checked::Slot(_) => Answer { kind: 2, value: 0 },
+    }
 }
 
 #[no_mangle]
