@@ -4,6 +4,7 @@
 --     Seek t a n i f              no slot before i holds the address, and f says so
 --     none-with                   a tag that is not there is that of an address in no slot
 --     find-seeks, found-is        the whole table
+--     could-is                    what `could_hold` answers
 --     the rulesets                searching, for `search`; sifting, for `lowest_with`; finding, for `find`
 -- Assumes nothing.
 use Prim.Native.Nat.{ℕ, _+_, _-_, _<_, _≤_}

@@ -6,7 +6,7 @@ ghost use mathlib.Core.Bool.{_&&_};
 ghost use lib.Dec.{eqb};
 ghost use lib.ListN.{length};
 ghost use Rattle.slots.specs.Slot.{slotLength, marked, addressOf};
-ghost use Rattle.table.specs.Table.{mostSlots, slots as slotsOf, slotAt, hasAddress, lowest, found, inLower, right, whole};
+ghost use Rattle.table.specs.Table.{mostSlots, slots as slotsOf, hasAddress, lowest, found, inLower, right, whole};
 ghost use Rattle.table.specs.Tagged.{tagAt, Tagged, Open};
 ghost use Rattle.lookup.specs.Looking.{Seeks, Judges, Compares, Checks};
 ghost use Rattle.lookup.specs.Held.{heldOf};

@@ -1,11 +1,10 @@
 -- The tag of an address.
 --     TagUpTo s k tag            the tag of the first k octets
 --     tag-begin .. tag-end       the loop over an address
---     tag-same                   the tag of an address is that of one that is equal to it
 --     tagging                    what `tag_of` asks
 -- Assumes nothing.
 use Prim.Native.Nat.{ℕ, _+_, _<_, _≤_}
-use mathlib.Core.Path.{_≡_, refl, sym, ap, _∙_}
+use mathlib.Core.Path.{_≡_, refl, sym, _∙_}
 use mathlib.Core.List.{List}
 use native.Mathlib.Omega.{arith}
 use borrow.Author.Needs.{needs}
@@ -31,6 +30,3 @@ module _ (s : List ℕ) (k tag : ℕ) (h : TagUpTo s k tag) where
   tag-end l = sym (h .so-far ∙ rw (drop-done s k l, tagAfter))
 
 pub ruleset tagging = (tag-begin, tag-next, tag-end, needs)
-
-pub tag-same : (a b : List ℕ) (tag : ℕ) → tag ≡ tagOf a → a ≡ b → tag ≡ tagOf b
-tag-same a b tag e p = e ∙ ap tagOf p
