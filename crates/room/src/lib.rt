@@ -81,16 +81,16 @@ fn has_room_for(
     known: &mut [u8],
     numbers: &mut [u32],
     spots: &mut [u16],
-    at: Rolled,
+    from: Rolled,
 ) -> bool
     requires { ⌜ Seats (now table) (now tags) free limit (now payload) (now recipients) (now listed) (now places) (now text)
-        (now known) (now numbers) (now spots) at ⌝ }
-    ensures { λ r. ⌜ r ≡ roomBeside (now (table .entry)) (inRoll at (now (known .entry)))
+        (now known) (now numbers) (now spots) from ⌝ }
+    ensures { λ r. ⌜ r ≡ roomBeside (now (table .entry)) (inRoll from (now (known .entry)))
         (gossipedIn limit (now (recipients .entry)) (now (payload .entry))) ⌝ }
 {
     let mut address = [0u8; Slot::ADDRESS_ROOM];
     let mut key = [0u8; Slot::KEY_LIMIT];
-    let mut so_far = at;
+    let mut at = from;
     let mut place = 0;
     loop {
         match keys::next_gossip(
@@ -108,18 +108,9 @@ fn has_room_for(
                 end,
                 address: n,
                 key: _,
-            } => match meet(
-                table,
-                tags,
-                free,
-                known,
-                numbers,
-                spots,
-                so_far,
-                &address[0..n],
-            ) {
+            } => match meet(table, tags, free, known, numbers, spots, at, &address[0..n]) {
                 Met::Seated(behind) => {
-                    so_far = behind;
+                    at = behind;
                     place = end;
                 }
                 Met::Full => return false,
