@@ -33,10 +33,10 @@ module _ (t tags sender key : List ℕ) (b : Brought) (payload : List ℕ) (limi
     (h : Carries t tags sender key b payload limit recipients listed places text) where
   pub carries-seeks : Seeks t tags limit sender payload recipients listed places text
   carries-seeks =
-      record { open = h .sends .open; canonical = h .sends .ready .canonical; reads = h .reads; index = h .index; most = h .most }
+      record { opened = h .sends .opened; canonical = h .sends .ready .canonical; reads = h .reads; index = h .index; most = h .most }
 
   pub carries-listens : (u vs : List ℕ) → Open u vs → Listens u vs (b .date) payload limit recipients listed places text
-  carries-listens u vs o = record { open = o; in-range = h .sends .ready .in-range; reads = h .reads; index = h .index; most = h .most }
+  carries-listens u vs o = record { opened = o; in-range = h .sends .ready .in-range; reads = h .reads; index = h .index; most = h .most }
 
   -- another text of the same length
   pub carries-on : (later : List ℕ) → length later ≡ length text → Carries t tags sender key b payload limit recipients listed places later

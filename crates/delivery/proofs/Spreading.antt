@@ -29,7 +29,7 @@ use Rattle.delivery.proofs.Fronts.{front-length}
 
 pub record Spreads (limit date : ℕ) (recipients payload t₀ t tags : List ℕ) (at : ℕ) : Type 0 where
   pub so-far : heardAll date (gossipOf limit recipients payload) t₀ ≡ heardAll date (gossipFrom limit (unrolled recipients) payload at) t
-  pub open : Open t tags
+  pub opened : Open t tags
   pub most : limit ≤ keyLimit
   pub in-range : date ≤ timeLimit
   pub clear : isSome (fieldsFrom payload at) ≡ true
@@ -39,7 +39,7 @@ pub spread-begin : (limit date : ℕ) (recipients listed places payload text t t
 spread-begin limit date recipients listed places payload text t tags h =
     record {
       so-far = ap (λ (gs : List Gossiped). heardAll date gs t) (sym (gossip-all limit (unrolled recipients) payload (h .reads .readably)));
-      open = h .open;
+      opened = h .opened;
       most = h .most;
       in-range = h .in-range;
       clear = block-begin payload (h .reads .readably);
@@ -47,7 +47,7 @@ spread-begin limit date recipients listed places payload text t tags h =
 
 module _ (limit date : ℕ) (recipients payload t₀ t tags : List ℕ) (at : ℕ) (h : Spreads limit date recipients payload t₀ t tags at) where
   pub spread-open : Open t tags
-  spread-open = h .open
+  spread-open = h .opened
 
   pub spread-date : date ≤ timeLimit
   spread-date = h .in-range
@@ -92,7 +92,7 @@ module _ (limit date : ℕ) (recipients payload t₀ t tags : List ℕ) (at : �
                 h .so-far
                 ∙ ap (λ (gs : List Gossiped). heardAll date gs t) (one .first)
                 ∙ rw (w, sub-zero n, sub-zero k);
-            open = s;
+            opened = s;
             most = h .most;
             in-range = h .in-range;
             clear = one .readable;

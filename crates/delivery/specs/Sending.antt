@@ -13,14 +13,14 @@ use Rattle.message.specs.declared.Brought.{Brought}
 use Rattle.room.specs.Counting.{Reads}
 
 pub record Listens (t tags : List ℕ) (date : ℕ) (payload : List ℕ) (limit : ℕ) (recipients listed places text : List ℕ) : Type 0 where
-  pub open : Open t tags
+  pub opened : Open t tags
   pub in-range : date ≤ timeLimit
   pub reads : Reads payload text
   pub index : Indexed recipients listed places
   pub most : limit ≤ keyLimit
 
 pub record Sends (t tags sender key : List ℕ) (b : Brought) : Type 0 where
-  pub open : Open t tags
+  pub opened : Open t tags
   pub ready : Ready sender key b
 
 pub record Carries (t tags sender key : List ℕ) (b : Brought) (payload : List ℕ) (limit : ℕ) (recipients listed places text : List ℕ) : Type 0 where

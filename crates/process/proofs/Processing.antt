@@ -1,8 +1,9 @@
 -- Processing: the ways through the code.
 --     gathers .. carried-left           `deliver_carrying`: the roll of the recipients, and what is delivered by it
---     refused-answered, refused-done    `process_with`: the message is refused
---     alone-within .. alone-done        .. it comes alone
---     carrying-within .. carrying-done  .. it carries a payload
+--     alone-within, carrying-within     `process_with`: the sender's address stands in lent memory
+--     refused-answered, refused-done    .. the message is refused
+--     alone-sends .. alone-done         .. it comes alone
+--     carrying-readied .. carrying-done .. it carries a payload
 --     roomy-short, roomy-long           `process_open`: a text that is as long as the blocks need
 --     opened .. table-left              `process`: rows 1 and 2
 -- Assumes nothing.
@@ -94,12 +95,29 @@ pub ruleset rolling = (gathers, gathered-within, gathered-tags, gathered-places,
 pub ruleset carried = (carried-answered, carried-left, needs)
 
 -- `process_with`: r is what the message was read as
+module _ (receipt : ℕ) (outer payload : List ℕ) (g : Gossip) (sender key : List ℕ) (r : Reading)
+    (h : ReadAs 2048 receipt outer payload g sender key r) (b : Brought) where
+  alone : r ≡ Alone b → AloneAs 2048 receipt outer payload g sender key b
+  unfolding ReadAs
+  alone q = rw q at h
+
+  pub alone-within : r ≡ Alone b → b .sender ≤ length sender
+  alone-within q = alone q .brings .within
+
+  carrying : (v : Survey) → r ≡ Carrying b v → CarryingAs 2048 receipt outer payload g sender key b v
+  unfolding ReadAs
+  carrying v q = rw q at h
+
+  pub carrying-within : (v : Survey) → r ≡ Carrying b v → b .sender ≤ length sender
+  carrying-within v q = carrying v q .brings .within
+
+-- and the table is open
 module _ (t tags : List ℕ) (receipt : ℕ) (outer payload : List ℕ) (g : Gossip) (text₀ : List ℕ) (y : Roomy t tags outer payload text₀)
     (sender key : List ℕ) (r : Reading) (h : ReadAs 2048 receipt outer payload g sender key r) where
   module _ (x : Refusal) (q : r ≡ Unread x) where
     first : refusedProcessing t receipt outer payload g ≡ some x
     unfolding ReadAs
-    first = message-refused t receipt outer payload g (y .open .sound) x (rw q at h)
+    first = message-refused t receipt outer payload g (y .opened .sound) x (rw q at h)
 
     pub refused-answered : Refused x ≡ answerOf (refusedProcessing t receipt outer payload g)
     refused-answered = sym (refused-is Refused Done (refusedProcessing t receipt outer payload g) x first)
@@ -113,58 +131,50 @@ module _ (t tags : List ℕ) (receipt : ℕ) (outer payload : List ℕ) (g : Gos
     answered : (a : Answer) → a ≡ answerOf (firstOf (roomRows t (mailOf (take (b .sender - 0) (drop 0 sender)) key b gs)))
         → a ≡ answerOf (refusedProcessing t receipt outer payload g)
     answered a w =
-        (rw (sub-zero, m .is) at w) ∙ ap (λ (o : Option Refusal). answerOf o) (sym (room-first t receipt outer payload g (y .open .sound) e))
+        (rw (sub-zero, m .is) at w) ∙ ap (λ (o : Option Refusal). answerOf o) (sym (room-first t receipt outer payload g (y .opened .sound) e))
 
     left : (u : List ℕ) → u ≡ delivered t (mailOf (take (b .sender - 0) (drop 0 sender)) key b gs) → u ≡ leftByProcessing t receipt outer payload g
-    left u w = (rw (sub-zero, m .is) at w) ∙ room-left t receipt outer payload g (y .open .sound) e
+    left u w = (rw (sub-zero, m .is) at w) ∙ room-left t receipt outer payload g (y .opened .sound) e
 
     sends : Sends t tags (take (b .sender - 0) (drop 0 sender)) key b
-    sends = record { open = y .open; ready = rw sub-zero (m .ready) }
+    sends = record { opened = y .opened; ready = rw sub-zero (m .ready) }
 
   module _ (b : Brought) (q : r ≡ Alone b) where
-    alone : AloneAs 2048 receipt outer payload g sender key b
-    unfolding ReadAs
-    alone = rw q at h
-
-    pub alone-within : b .sender ≤ length sender
-    alone-within = alone .brings .within
+    brought : AloneAs 2048 receipt outer payload g sender key b
+    brought = alone receipt outer payload g sender key r h b q
 
     pub alone-sends : Sends t tags (take (b .sender - 0) (drop 0 sender)) key b
-    alone-sends = sends b [] (alone .brings) (alone .in-order)
+    alone-sends = sends b [] (brought .brings) (brought .in-order)
 
     pub alone-answered : (a : Answer) → a ≡ answerOf (firstOf (roomRows t (mailOf (take (b .sender - 0) (drop 0 sender)) key b [])))
         → a ≡ answerOf (refusedProcessing t receipt outer payload g)
-    alone-answered = answered b [] (alone .brings) (alone .in-order)
+    alone-answered = answered b [] (brought .brings) (brought .in-order)
 
     pub alone-done : (u : List ℕ) → u ≡ delivered t (mailOf (take (b .sender - 0) (drop 0 sender)) key b []) → u ≡ leftByProcessing t receipt outer payload g
-    alone-done = left b [] (alone .brings) (alone .in-order)
+    alone-done = left b [] (brought .brings) (brought .in-order)
 
   module _ (b : Brought) (v : Survey) (q : r ≡ Carrying b v) where
-    carrying : CarryingAs 2048 receipt outer payload g sender key b v
-    unfolding ReadAs
-    carrying = rw q at h
-
-    pub carrying-within : b .sender ≤ length sender
-    carrying-within = carrying .brings .within
+    carried-so : CarryingAs 2048 receipt outer payload g sender key b v
+    carried-so = carrying receipt outer payload g sender key r h b v q
 
     pub carrying-readied : (text : List ℕ) → length text ≡ length text₀
         → Readied t tags b (take (b .sender - 0) (drop 0 sender)) key outer v payload text
     carrying-readied text l =
         record {
-          sends = sends b (heardIn 2048 outer payload) (carrying .brings) (carrying .in-order);
+          sends = sends b (heardIn 2048 outer payload) (carried-so .brings) (carried-so .in-order);
           reads =
-              record { readably = carrying .readably; room = omega (arith, y .payload-fits, block-short payload (carrying .readably), l) };
-          surveyed = carrying .surveyed;
-          outer-fits = omega (arith, y .outer-fits, block-short outer (survey-readable outer v (carrying .surveyed)), l);
+              record { readably = carried-so .readably; room = omega (arith, y .payload-fits, block-short payload (carried-so .readably), l) };
+          surveyed = carried-so .surveyed;
+          outer-fits = omega (arith, y .outer-fits, block-short outer (survey-readable outer v (carried-so .surveyed)), l);
         }
 
     pub carrying-answered : (a : Answer) → a ≡ answerOf (firstOf (roomRows t (mailOf (take (b .sender - 0) (drop 0 sender)) key b (heardIn 2048 outer payload))))
         → a ≡ answerOf (refusedProcessing t receipt outer payload g)
-    carrying-answered = answered b (heardIn 2048 outer payload) (carrying .brings) (carrying .in-order)
+    carrying-answered = answered b (heardIn 2048 outer payload) (carried-so .brings) (carried-so .in-order)
 
     pub carrying-done : (u : List ℕ) → u ≡ delivered t (mailOf (take (b .sender - 0) (drop 0 sender)) key b (heardIn 2048 outer payload))
         → u ≡ leftByProcessing t receipt outer payload g
-    carrying-done = left b (heardIn 2048 outer payload) (carrying .brings) (carrying .in-order)
+    carrying-done = left b (heardIn 2048 outer payload) (carried-so .brings) (carried-so .in-order)
 
 pub ruleset telling = (alone-within, carrying-within, needs)
 
@@ -179,13 +189,13 @@ module _ (t tags outer payload text : List ℕ) (s : Open t tags) where
   pub roomy-short : (leb (length outer) 8192 && leb (length payload) 8192) ≡ true → length text ≡ 8192 → Roomy t tags outer payload text
   roomy-short e l =
       record {
-        open = s;
+        opened = s;
         outer-fits = omega (arith, leb-true (length outer) 8192 (and-left (leb (length outer) 8192) (leb (length payload) 8192) e), l);
         payload-fits = omega (arith, leb-true (length payload) 8192 (and-right (leb (length outer) 8192) (leb (length payload) 8192) e), l);
       }
 
   pub roomy-long : length text ≡ 65536 → Roomy t tags outer payload text
-  roomy-long l = record { open = s; outer-fits = omega (arith, l); payload-fits = omega (arith, l) }
+  roomy-long l = record { opened = s; outer-fits = omega (arith, l); payload-fits = omega (arith, l) }
 
 pub ruleset making-room = (roomy-short, roomy-long, needs)
 

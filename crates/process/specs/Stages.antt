@@ -13,7 +13,7 @@ use Rattle.room.specs.Counting.{Reads}
 use Rattle.delivery.specs.Sending.{Sends}
 
 pub record Roomy (t tags outer payload text : List ℕ) : Type 0 where
-  pub open : Open t tags
+  pub opened : Open t tags
   pub outer-fits : min (length outer) limit ≤ length text
   pub payload-fits : min (length payload) limit ≤ length text
 

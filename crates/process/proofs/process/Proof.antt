@@ -4,14 +4,14 @@ use Rattle.process.proofs.Processing.{processing}
 use Rattle.process.proofs.process.Statement.{statement}
 use Rattle.process.proofs.process.Tie as tie
 
-check-requires : tie.Need-check-requires
-check-requires c κs = search processing
+open-table-requires : tie.Need-open-table-requires
+open-table-requires c κs = search processing
 
 enum-told : tie.Need-enum-told
 enum-told c = search processing
 
-process-sound-requires : tie.Need-process-sound-requires
-process-sound-requires c κs = search processing
+process-open-requires : tie.Need-process-open-requires
+process-open-requires c κs = search processing
 
 enum-known-refusal : tie.Need-enum-known-refusal
 enum-known-refusal c = search processing
@@ -32,9 +32,9 @@ pub process-spec : {M : Type 1} → statement M
 process-spec =
     tie.close
     (tie.spec
-    check-requires
+    open-table-requires
     enum-told
-    process-sound-requires
+    process-open-requires
     enum-known-refusal
     same-length
     returns

@@ -11,7 +11,7 @@ slice-aggregate-read-2 : tie.Need-slice-aggregate-read-2
 slice-aggregate-read-2 c = search telling
 
 read-requires : tie.Need-read-requires
-read-requires c κs = record { room = search needs; sender-room = search needs; key-room = search needs }
+read-requires c κs = record { room = search needs; sender-room = search needs; key-room = search needs; key-most = search needs }
 
 enum-known-brought : tie.Need-enum-known-brought
 enum-known-brought c = search telling
@@ -47,7 +47,7 @@ slice-aggregate-deliver-carrying : tie.Need-slice-aggregate-deliver-carrying
 slice-aggregate-deliver-carrying c = search telling
 
 deliver-carrying-requires : tie.Need-deliver-carrying-requires
-deliver-carrying-requires c κs = search (reading-carrying, c .before .before .before .before .before .before .before .before .before .before .before .before .before .before .before .before .before .before .before .before .pre)
+deliver-carrying-requires c κs = search (reading-carrying, c .before .before .before .before .before .before .before .before .before .before .before .before .before .before .before .before .before .before .before .before .before .pre)
 
 enum-known-refusal : tie.Need-enum-known-refusal
 enum-known-refusal c = search telling
@@ -68,7 +68,7 @@ same-length-4 : tie.Need-same-length-4
 same-length-4 c = search telling
 
 returns-2 : tie.Need-returns-2
-returns-2 c = (search (reading-carrying, c .before .before .before .before .before .before .before .before .before .before .before .before .before .before .before .before .before .before .before .before .before .before .before .before .before .pre), search (reading-carrying, c .before .before .before .before .before .before .before .before .before .before .before .before .before .before .before .before .before .before .before .before .before .before .before .before .before .pre))
+returns-2 c = (search (reading-carrying, c .before .before .before .before .before .before .before .before .before .before .before .before .before .before .before .before .before .before .before .before .before .before .before .before .before .before .pre), search (reading-carrying, c .before .before .before .before .before .before .before .before .before .before .before .before .before .before .before .before .before .before .before .before .before .before .before .before .before .before .pre))
 
 same-length-5 : tie.Need-same-length-5
 same-length-5 c = search telling

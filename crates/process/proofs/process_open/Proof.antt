@@ -1,8 +1,8 @@
--- `process::process_sound` meets its contract: the laws of `Processing` answer every need. Assumes nothing.
+-- `process::process_open` meets its contract: the laws of `Processing` answer every need. Assumes nothing.
 use borrow.Author.Needs.{needs}
 use Rattle.process.proofs.Processing.{making-room}
-use Rattle.process.proofs.process_sound.Statement.{statement}
-use Rattle.process.proofs.process_sound.Tie as tie
+use Rattle.process.proofs.process_open.Statement.{statement}
+use Rattle.process.proofs.process_open.Tie as tie
 
 slice-aggregate-process-with : tie.Need-slice-aggregate-process-with
 slice-aggregate-process-with c = search making-room
@@ -28,8 +28,8 @@ same-length-2 c = search making-room
 returns-2 : tie.Need-returns-2
 returns-2 c = search needs
 
-pub process-sound-spec : {M : Type 1} → statement M
-process-sound-spec =
+pub process-open-spec : {M : Type 1} → statement M
+process-open-spec =
     tie.close
     (tie.spec
     slice-aggregate-process-with
