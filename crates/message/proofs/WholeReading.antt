@@ -29,6 +29,7 @@ use Rattle.fields.specs.declared.Surveyed.the-variants as surveyed
 use Rattle.fields.proofs.Walking.{survey-readable, surveyed-as}
 use Rattle.heads.specs.Head.{timeLimit}
 use Rattle.update.specs.Message.{Gossiped, Message}
+use Rattle.keyfield.specs.Field.{chosen}
 use Rattle.outer.specs.Outer.{senderIn, isReported, recipientsIn}
 use Rattle.outer.specs.Answers.{senderOf, leftBySender}
 use Rattle.outer.specs.declared.Sender.{Sender}
@@ -163,7 +164,7 @@ module _ (most receipt : ℕ) (outer : List ℕ) (v : Survey) (text₀ sender ke
       in-order fs p = first-none receipt outer payload g (h .in-time) outer-read sender (h .sent) (p .no-report) (p .no-row)
 
       pub read-alone : j ≡ Passed → ReadAs most receipt outer payload g sender key (Alone b)
-      unfolding ReadAs JudgedAs gossipIn accepted valuesOf
+      unfolding ReadAs JudgedAs gossipIn accepted chosen valuesOf
       read-alone y = let p = rw y at judged in record { in-order = in-order [] p; brings = brings [] p }
 
       pub read-carrying : j ≡ Searched → ReadAs most receipt outer payload g sender key (Carrying b v)

@@ -307,25 +307,25 @@ pub extern "C" fn probe_canonical(s: &[u8], out: &mut [u8]) -> Answer {
     }
 }
 
-fn stage_of(n: u64) -> addresslist::grammar::Stage {
+fn stage_of(n: u64) -> grammar::Stage {
     match n {
-        0 => addresslist::grammar::Stage::Place,
-        1 => addresslist::grammar::Stage::Opened,
-        2 => addresslist::grammar::Stage::Phrase,
-        3 => addresslist::grammar::Stage::Angle,
-        4 => addresslist::grammar::Stage::Closing,
-        _ => addresslist::grammar::Stage::Behind,
+        0 => grammar::Stage::Place,
+        1 => grammar::Stage::Opened,
+        2 => grammar::Stage::Phrase,
+        3 => grammar::Stage::Angle,
+        4 => grammar::Stage::Closing,
+        _ => grammar::Stage::Behind,
     }
 }
 
-fn stage_number(stage: addresslist::grammar::Stage) -> u64 {
+fn stage_number(stage: grammar::Stage) -> u64 {
     match stage {
-        addresslist::grammar::Stage::Place => 0,
-        addresslist::grammar::Stage::Opened => 1,
-        addresslist::grammar::Stage::Phrase => 2,
-        addresslist::grammar::Stage::Angle => 3,
-        addresslist::grammar::Stage::Closing => 4,
-        addresslist::grammar::Stage::Behind => 5,
+        grammar::Stage::Place => 0,
+        grammar::Stage::Opened => 1,
+        grammar::Stage::Phrase => 2,
+        grammar::Stage::Angle => 3,
+        grammar::Stage::Closing => 4,
+        grammar::Stage::Behind => 5,
     }
 }
 
