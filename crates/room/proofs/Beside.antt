@@ -2,6 +2,7 @@
 --     beside-over      no address is left
 --     beside-known     one that has an entry or is known
 --     beside-new       one that is new is known behind it
+--     beside-one       the two in one
 --     beside-full      one that is new where those that are known take all free slots
 --     beside-message   beside none, for the addresses of a message
 -- Assumes nothing.
@@ -12,11 +13,12 @@ use mathlib.Core.List.{List, [], _∷_, _++_}
 use native.Mathlib.Omega.{arith}
 use borrow.Author.Tests.{le-leb, lt-leb, not-true, not-false}
 use lib.ListN.{length, length-append}
+use Rattle.octets.proofs.Tests.{by-test}
 use Rattle.addresslist.specs.List.{among}
 use Rattle.table.specs.Table.{found, isAt, freeCount}
 use Rattle.update.specs.Message.{Message, newcomers, addressesOf, hasRoom}
 use Rattle.update.proofs.Room.{newcomer-not, newcomer-one}
-use Rattle.room.specs.Room.{isNew, roomBeside}
+use Rattle.room.specs.Room.{isNew, withNew, roomBeside}
 
 module _ (t : List ℕ) (known : List (List ℕ)) where
   pub beside-over : length known ≤ freeCount t → roomBeside t known [] ≡ true
@@ -48,6 +50,10 @@ module _ (t : List ℕ) (known : List (List ℕ)) where
       beside-full f =
           lt-leb (length known + length (newcomers t known (a ∷ rest))) (freeCount t)
           (omega (arith, longer, length-append known (a ∷ []), f))
+
+    pub beside-one : roomBeside t known (a ∷ rest) ≡ roomBeside t (withNew t known a) rest
+    unfolding withNew
+    beside-one = by-test (isNew t known a) (λ e. rw (withNew, e) (beside-new e)) (λ e. rw (withNew, e) (beside-known e))
 
 pub beside-message : (t : List ℕ) (m : Message) → roomBeside t [] (addressesOf m) ≡ hasRoom t m
 unfolding roomBeside hasRoom

@@ -1,131 +1,155 @@
 -- One address, and the roll of those that are known to be new.
---     told-found, told-held       whether it is new
---     rolls-begin                 the roll of none
---     meet-filled .. meet-added   what comes of it
---     met-known .. met-rolls      what a caller asks of the answer
+--     told-found .. told-rolled    whether it is new
+--     rolls-begin                  the roll of none
+--     meet-asks .. meet-none       what comes of it
+--     met-list .. met-rolls        what a caller asks of the answer
 -- Assumes nothing.
-use Prim.Native.Nat.{ℕ, _+_, _-_, _<_, _≤_}
-use mathlib.Core.Path.{_≡_, refl, sym, ap, _∙_}
+use Prim.Native.Nat.{ℕ, _+_, _-_, _≤_}
+use mathlib.Core.Path.{_≡_, sym, ap, _∙_}
 use mathlib.Core.Bool.{Bool, true, false, not}
-use mathlib.Core.List.{List, [], _∷_, _++_}
+use mathlib.Core.List.{List, [], _∷_}
 use native.Mathlib.Omega.{arith}
-use native.Mathlib.Nat.{sub-zero}
 use borrow.Author.Needs.{needs}
 use borrow.Author.Tests.{not-true, not-false}
 use lib.ListN.{length, take, drop, length-append}
-use Rattle.octets.specs.Written.{putAt}
-use Rattle.address.specs.Address.{isCanonical}
+use Rattle.octets.specs.Octets.{sameOctets}
+use Rattle.octets.proofs.Tests.{and-left}
+use Rattle.address.specs.Address.{plain, canonical, isCanonical}
 use Rattle.addresslist.specs.List.{among}
-use Rattle.heads.proofs.Entries.{canonical-most}
 use Rattle.table.specs.Table.{found, freeCount, checked}
 use Rattle.table.specs.declared.Checked.the-variants.{Sound}
 use Rattle.table.specs.declared.Found.{Found}
 use Rattle.table.specs.declared.Found.the-variants.{At, Nothing}
 use Rattle.table.proofs.Entries.{slots-most}
 use Rattle.table.proofs.Lowest.{free-most}
-use Rattle.roll.specs.Roll.{entry, rolled, unrolled}
-use Rattle.roll.proofs.Rolls.{entry-length, rolled-none, unrolled-none, unrolled-taken}
-use Rattle.roll.proofs.Growing.{add-rolled}
-use Rattle.room.specs.Room.{inRoll, isNew}
-use Rattle.room.specs.Counting.{Rolls, Meets, IsKnown, IsAdded, IsTooMany, MetAs}
+use Rattle.roll.specs.Roll.{unrolled}
+use Rattle.roll.specs.Growing.{inRoll, Kept, Adds, Grew}
+use Rattle.roll.specs.declared.Rolled.{Rolled}
+use Rattle.roll.proofs.Growing.{kept-begin, kept-within, kept-tags, kept-places, kept-list, kept-index, adds-one}
+use Rattle.room.specs.Room.{isNew, withNew}
+use Rattle.room.specs.Counting.{Asks, Rolls, Meets, IsTooMany, MetAs, RollsAs}
 use Rattle.room.specs.declared.Met.{Met}
-use Rattle.room.specs.declared.Met.the-variants.{Known, New, Full}
+use Rattle.room.specs.declared.Met.the-variants.{Seated, Full}
 
-module _ (t a : List ℕ) (known : List (List ℕ)) (f : Found) (e : f ≡ found t a) where
-  pub told-found : (i : ℕ) → f ≡ At i → false ≡ isNew t known a
+module _ (t a : List ℕ) (f : Found) (e : f ≡ found t a) where
+  pub told-found : (old : List (List ℕ)) (i : ℕ) → f ≡ At i → false ≡ isNew t old a
   unfolding isNew
-  told-found i q = rw (← e, q)
+  told-found old i q = rw (← e, q)
 
-  pub told-held : f ≡ Nothing → (b : Bool) → b ≡ among a known → not b ≡ isNew t known a
+  pub told-held : (old : List (List ℕ)) → f ≡ Nothing → (b : Bool) → b ≡ among a old → not b ≡ isNew t old a
   unfolding isNew
-  told-held q b h = rw (← e, q, h)
+  told-held old q b h = rw (← e, q, h)
 
-pub ruleset telling = (told-found, told-held, needs)
+  -- by the part of the memory that is the roll
+  pub told-rolled :
+      (tags known numbers spots : List ℕ) (at : Rolled) → Asks t tags known numbers spots at a → f ≡ Nothing → (b : Bool)
+      → b ≡ among a (unrolled (take (at .end - 0) (drop 0 known))) → not b ≡ isNew t (inRoll at known) a
+  told-rolled tags known numbers spots at k q b h =
+      told-held (inRoll at known) q b (h ∙ ap (among a) (kept-list known numbers spots at (k .kept)))
 
-pub rolls-begin : (t roll : List ℕ) (free : ℕ) → free ≡ freeCount t → checked t ≡ Sound → length roll ≡ 65536 → Rolls t free roll 0
-rolls-begin t roll free f s l =
+pub ruleset telling = (told-found, told-rolled, kept-within, kept-tags, kept-places, kept-index, needs)
+
+pub rolls-begin :
+    (t known numbers spots : List ℕ) (free : ℕ) (at : Rolled) → at .end ≡ 0 → at .many ≡ 0 → free ≡ freeCount t → checked t ≡ Sound
+    → length known ≡ 65536 → length numbers ≡ 256 → length spots ≡ 256 → Rolls t free known numbers spots at
+rolls-begin t known numbers spots free at e n f s l m o =
     record {
-      is = ap rolled unrolled-none ∙ rolled-none;
-      shared = omega (arith, ap length unrolled-none, f);
-      short = omega arith;
-      few = omega (arith, free-most t, slots-most t s);
-      wide = l;
+      kept = kept-begin known numbers spots at e n;
+      counted = f;
+      shared = omega (arith, n);
+      few = omega (arith, f, free-most t, slots-most t s);
+      octets = l;
+      wide = m;
+      roomy = o;
     }
 
-pub meet-enters : (a : List ℕ) → isCanonical a ≡ true → length a < 256
-meet-enters a c = omega (arith, canonical-most a c)
+canonical-plain : (a : List ℕ) → isCanonical a ≡ true → plain a ≡ true
+unfolding isCanonical
+canonical-plain a c = and-left (plain a) (sameOctets (canonical a) a) c
 
-module _ (t : List ℕ) (left : ℕ) (roll : List ℕ) (filled : ℕ) (a : List ℕ) (m : Meets t left roll filled a) where
-  pub meet-filled : filled ≤ length roll
-  meet-filled = omega (arith, m .rolls .short, m .rolls .shared, m .rolls .few, m .rolls .wide)
+module _ (t tags : List ℕ) (free : ℕ) (known numbers spots : List ℕ) (at : Rolled) (a : List ℕ) (m : Meets t tags free known numbers spots at a) where
+  pub meet-asks : Asks t tags known numbers spots at a
+  meet-asks = record { tagged = m .tagged; kept = m .rolls .kept; canonical = m .canonical }
 
-  module _ (b : Bool) (e : b ≡ isNew t (unrolled (take (filled - 0) (drop 0 roll))) a) where
-    told : b ≡ isNew t (inRoll filled roll) a
-    told = rw sub-zero at e
+  pub meet-shared : at .many ≤ free
+  meet-shared = m .rolls .shared
 
-    pub meet-known : not b ≡ true → MetAs t left roll filled a roll Known
-    unfolding MetAs
-    meet-known y = record { known = sym told ∙ not-true b y; same = refl }
+  pub meet-stays : RollsAs t free known numbers spots (Seated at)
+  unfolding RollsAs
+  meet-stays = m .rolls
+
+  -- there is a free slot for one more
+  module _ (g : free - at .many ≡ 0 → ⊥) where
+    one-more : at .many + 1 ≤ free
+    one-more = omega (arith, m .rolls .shared, g)
+
+    pub meet-adds : Adds known numbers spots at (a ∷ [])
+    meet-adds =
+        adds-one known numbers spots at (m .rolls .kept) a (canonical-plain a (m .canonical))
+        (omega (arith, one-more, m .rolls .few))
+        (m .rolls .octets)
+        (omega (arith, m .rolls .wide))
+        (omega (arith, m .rolls .roomy))
+
+    pub meet-grown :
+        (out outs places : List ℕ) (r : Rolled) → Grew known at (a ∷ []) out r → Kept out outs places r → length out ≡ length known
+        → length outs ≡ length numbers → length places ≡ length spots → RollsAs t free out outs places (Seated r)
+    unfolding RollsAs
+    meet-grown out outs places r w k l n o =
+        record {
+          kept = k;
+          counted = m .rolls .counted;
+          shared =
+              omega (
+                arith,
+                one-more,
+                k .count,
+                ap length (w .grown),
+                length-append (inRoll at known) (a ∷ []),
+                m .rolls .kept .count,
+              );
+          few = m .rolls .few;
+          octets = l ∙ m .rolls .octets;
+          wide = n ∙ m .rolls .wide;
+          roomy = o ∙ m .rolls .roomy;
+        }
+
+  module _ (b : Bool) (e : b ≡ isNew t (inRoll at known) a) where
+    pub meet-known : not b ≡ true → MetAs t (inRoll at known) a known (Seated at)
+    unfolding MetAs withNew
+    meet-known y = rw (withNew, ← e, not-true b y)
 
     module _ (y : not b ≡ false) where
-      pub meet-full : left ≡ 0 → (out : List ℕ) → MetAs t left roll filled a out Full
+      pub meet-full : free - at .many ≡ 0 → (out : List ℕ) → MetAs t (inRoll at known) a out Full
       unfolding MetAs
-      meet-full g out = record { new = sym told ∙ not-false b y; full = g }
+      meet-full g out =
+          record {
+            new = sym e ∙ not-false b y;
+            full = omega (arith, g, m .rolls .shared, m .rolls .counted, m .rolls .kept .count);
+          }
 
-      module _ (g : left ≡ 0 → ⊥) where
-        pub meet-room : filled + length (entry a) ≤ length roll
-        meet-room =
-            omega (arith, canonical-most a (m .canonical), entry-length a, m .rolls .shared, m .rolls .short, m .rolls .few, m .rolls .wide)
+      pub meet-added : (out : List ℕ) (r : Rolled) → Grew known at (a ∷ []) out r → MetAs t (inRoll at known) a out (Seated r)
+      unfolding MetAs withNew
+      meet-added out r w = rw (withNew, ← e, not-false b y) (w .grown)
 
-        module _ (end : ℕ) (out : List ℕ) (u : end ≡ filled + length (entry a)) (w : out ≡ putAt roll filled (entry a)) where
-          grown : take end out ≡ rolled (inRoll filled roll ++ (a ∷ []))
-          grown = add-rolled roll out filled end meet-filled a u w (inRoll filled roll) (sym (m .rolls .is))
+pub meet-none : (t : List ℕ) (free : ℕ) (known numbers spots : List ℕ) → RollsAs t free known numbers spots Full
+unfolding RollsAs
+meet-none t free known numbers spots = tt
 
-          there : inRoll end out ≡ inRoll filled roll ++ (a ∷ [])
-          there = unrolled-taken end out (inRoll filled roll ++ (a ∷ [])) grown
-
-          one-more : length (inRoll end out) ≡ length (inRoll filled roll) + 1
-          one-more = rw there (simp length-append)
-
-          pub meet-added : length out ≡ length roll → MetAs t left roll filled a out (New end)
-          unfolding MetAs
-          meet-added l =
-              record {
-                new = sym told ∙ not-false b y;
-                added = there;
-                some-left = omega arith;
-                rolls =
-                    record {
-                      is = rw there (sym grown);
-                      shared = omega (arith, one-more, m .rolls .shared);
-                      short = omega (arith, one-more, m .rolls .short, u, entry-length a, canonical-most a (m .canonical));
-                      few = m .rolls .few;
-                      wide = omega (arith, l, m .rolls .wide);
-                    };
-              }
-
-pub ruleset meeting = (meet-filled, meet-known, meet-full, meet-enters, meet-room, meet-added, needs)
+pub ruleset meeting = (meet-asks, meet-shared, meet-stays, meet-adds, meet-grown, meet-known, meet-full, meet-added, meet-none, needs)
 
 -- as a caller asks it of an answer m
-module _ (t : List ℕ) (left : ℕ) (roll : List ℕ) (filled : ℕ) (a out : List ℕ) (m : Met) (p : MetAs t left roll filled a out m) where
-  pub met-known : m ≡ Known → IsKnown t roll filled a out
+module _ (t : List ℕ) (old : List (List ℕ)) (a known : List ℕ) (m : Met) (p : MetAs t old a known m) where
+  pub met-list : (r : Rolled) → m ≡ Seated r → inRoll r known ≡ withNew t old a
   unfolding MetAs
-  met-known q = rw q at p
+  met-list r q = rw q at p
 
-  pub met-full : m ≡ Full → IsTooMany t left roll filled a
+  pub met-full : m ≡ Full → IsTooMany t old a
   unfolding MetAs
   met-full q = rw q at p
 
-  pub met-same : m ≡ Known → Rolls t left roll filled → Rolls t left out filled
-  met-same q h = rw (met-known q .same) h
-
-  module _ (end : ℕ) (q : m ≡ New end) where
-    pub met-added : IsAdded t left roll filled a out end
-    unfolding MetAs
-    met-added = rw q at p
-
-    pub met-left : 1 ≤ left
-    met-left = met-added .some-left
-
-    pub met-rolls : Rolls t (left - 1) out end
-    met-rolls = met-added .rolls
+pub met-rolls :
+    (t : List ℕ) (free : ℕ) (known numbers spots : List ℕ) (m : Met) → RollsAs t free known numbers spots m → (r : Rolled) → m ≡ Seated r
+    → Rolls t free known numbers spots r
+unfolding RollsAs
+met-rolls t free known numbers spots m p r q = rw q at p

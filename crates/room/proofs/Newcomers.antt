@@ -1,9 +1,9 @@
 -- The count of the addresses that are new with a message.
---     Counts, count-begin .. count-over   the loop over the gossip
---     first-meets .. first-added          the sender first
+--     Counts, count-begin .. count-full   the loop over the gossip
+--     first-meets .. first-seated         the sender first
 --     alone-own, alone-free               the sender and no other
 -- Assumes nothing.
-use Prim.Native.Nat.{ℕ, _+_, _-_, _^_, _<_, _≤_}
+use Prim.Native.Nat.{ℕ, _-_, _<_, _≤_}
 use mathlib.Core.Path.{_≡_, refl, sym, ap, _∙_}
 use mathlib.Core.Bool.{Bool, true, false}
 use mathlib.Core.List.{List, [], _∷_}
@@ -14,169 +14,183 @@ use lib.Dec.{ltb}
 use lib.ListN.{length, take, drop}
 use Rattle.octets.specs.Options.{isSome}
 use Rattle.header.specs.Answers.{fieldsFrom}
-use Rattle.address.specs.Address.{isCanonical}
 use Rattle.addresslist.specs.List.{among}
 use Rattle.table.specs.Table.{found, freeCount}
 use Rattle.table.specs.declared.Found.{Found}
 use Rattle.table.specs.declared.Found.the-variants.{At, Nothing}
 use Rattle.roll.specs.Roll.{unrolled}
-use Rattle.roll.proofs.Rolls.{unrolled-none}
+use Rattle.roll.specs.Growing.{inRoll}
+use Rattle.roll.specs.declared.Rolled.{Rolled}
+use Rattle.roll.proofs.Growing.{begin-none}
 use Rattle.update.specs.Message.{Gossiped, gossipAddresses, newcomers}
 use Rattle.fields.proofs.Values.{block-begin}
-use Rattle.keys.specs.Answers.{gossipFrom, HeardAs}
+use Rattle.keys.specs.Answers.{gossipFrom, Hears, HeardAt, HeardAs}
 use Rattle.keys.specs.declared.Heard.{Heard}
 use Rattle.keys.specs.declared.Heard.the-variants.{Next, Over}
-use Rattle.keys.proofs.GossipFields.{gossip-all, heard-first, heard-canonical, heard-address-within, heard-readable, heard-less, heard-over}
-use Rattle.room.specs.Room.{inRoll, gossipedIn, roomBeside}
-use Rattle.room.specs.Counting.{Rolls, Meets, MetAs, Seats, Seeks}
+use Rattle.keys.proofs.GossipFields.{gossip-all, heard-at, heard-less, heard-over}
+use Rattle.room.specs.Room.{gossipedIn, roomBeside}
+use Rattle.room.specs.Counting.{Rolls, Meets, MetAs, RollsAs, Seats, Seeks}
 use Rattle.room.specs.declared.Met.{Met}
-use Rattle.room.specs.declared.Met.the-variants.{Known, New, Full}
-use Rattle.room.proofs.Beside.{beside-over, beside-known, beside-new, beside-full}
-use Rattle.room.proofs.Meeting.{told-found, told-held, rolls-begin, met-known, met-full, met-added, met-same, met-left, met-rolls}
+use Rattle.room.specs.declared.Met.the-variants.{Seated, Full}
+use Rattle.room.proofs.Beside.{beside-over, beside-known, beside-new, beside-one, beside-full}
+use Rattle.room.proofs.Meeting.{told-found, told-held, rolls-begin, met-list, met-full, met-rolls}
 
 -- the addresses of the gossip from a place of the payload on
-unfoldable pub gossipedFrom : List ℕ → List ℕ → ℕ → List (List ℕ)
-gossipedFrom recipients payload at = gossipAddresses (gossipFrom (unrolled recipients) payload at)
+unfoldable pub gossipedFrom : ℕ → List ℕ → List ℕ → ℕ → List (List ℕ)
+gossipedFrom limit recipients payload place = gossipAddresses (gossipFrom limit (unrolled recipients) payload place)
 
--- The gossip up to the place `at` is counted: there is room if there is room for the rest, beside those that are known now.
-pub record Counts (t recipients payload known₀ : List ℕ) (filled₀ left : ℕ) (known : List ℕ) (filled at : ℕ) : Type 0 where
+-- The gossip up to a place is counted: there is room beside the old ones if there is room for the rest, beside those that are known now.
+pub record Counts (t : List ℕ) (free limit : ℕ) (recipients payload : List ℕ) (old : List (List ℕ)) (known numbers spots : List ℕ) (at : Rolled) (place : ℕ) : Type 0 where
   pub so-far :
-      roomBeside t (inRoll filled₀ known₀) (gossipedIn recipients payload)
-      ≡ roomBeside t (inRoll filled known) (gossipedFrom recipients payload at)
-  pub rolls : Rolls t left known filled
-  pub clear : isSome (fieldsFrom payload at) ≡ true
+      roomBeside t old (gossipedIn limit recipients payload) ≡ roomBeside t (inRoll at known) (gossipedFrom limit recipients payload place)
+  pub rolls : Rolls t free known numbers spots at
+  pub clear : isSome (fieldsFrom payload place) ≡ true
 
-pub count-begin :
-    (t recipients : List ℕ) (left : ℕ) (payload text known : List ℕ) (filled : ℕ) → Seats t left payload text known filled
-    → Counts t recipients payload known filled left known filled 0
-unfolding gossipedIn gossipedFrom
-count-begin t recipients left payload text known filled h =
-    record {
-      so-far =
-          ap (λ (gs : List Gossiped). roomBeside t (inRoll filled known) (gossipAddresses gs))
-          (sym (gossip-all (unrolled recipients) payload (h .reads .readably)));
-      rolls = h .rolls;
-      clear = block-begin payload (h .reads .readably);
-    }
+module _ (t tags : List ℕ) (free limit : ℕ) (payload recipients listed places text known₀ numbers₀ spots₀ : List ℕ) (at₀ : Rolled)
+    (k : Seats t tags free limit payload recipients listed places text known₀ numbers₀ spots₀ at₀) where
+  pub count-begin : Counts t free limit recipients payload (inRoll at₀ known₀) known₀ numbers₀ spots₀ at₀ 0
+  unfolding gossipedIn gossipedFrom
+  count-begin =
+      record {
+        so-far =
+            ap (λ (gs : List Gossiped). roomBeside t (inRoll at₀ known₀) (gossipAddresses gs))
+            (sym (gossip-all limit (unrolled recipients) payload (k .reads .readably)));
+        rolls = k .rolls;
+        clear = block-begin payload (k .reads .readably);
+      }
 
-module _ (t recipients payload known₀ : List ℕ) (filled₀ left : ℕ) (known : List ℕ) (filled at : ℕ)
-    (h : Counts t recipients payload known₀ filled₀ left known filled at) where
-  pub count-clear : isSome (fieldsFrom payload at) ≡ true
-  count-clear = h .clear
+  module _ (old : List (List ℕ)) (known numbers spots : List ℕ) (at : Rolled) (place : ℕ)
+      (h : Counts t free limit recipients payload old known numbers spots at place) where
+    pub count-hears :
+        (u address key : List ℕ) → length u ≡ length text → length address ≡ 256 → length key ≡ 2048
+        → Hears limit payload place recipients listed places u address key
+    count-hears u address key l m n =
+        record {
+          clear = h .clear;
+          index = k .index;
+          room = omega (arith, k .reads .room, l);
+          address-room = omega (arith, m);
+          key-room = omega (arith, k .most, n);
+        }
 
-  module _ (address key : List ℕ) (r : Heard) (p : HeardAs (unrolled recipients) payload at address key r) where
-    pub count-over : r ≡ Over → true ≡ roomBeside t (inRoll filled₀ known₀) (gossipedIn recipients payload)
+    pub count-meets :
+        (address key : List ℕ) (r : Heard) → HeardAs limit (unrolled recipients) payload place address key r → (end n o : ℕ) → r ≡ Next end n o
+        → Meets t tags free known numbers spots at (take (n - 0) (drop 0 address))
+    count-meets address key r p end n o q =
+        record {
+          tagged = k .tagged;
+          rolls = h .rolls;
+          canonical = rw sub-zero (heard-at limit (unrolled recipients) payload place address key r p end n o q .canonical);
+        }
+
+module _ (t : List ℕ) (free limit : ℕ) (recipients payload : List ℕ) (old : List (List ℕ)) (known numbers spots : List ℕ) (at : Rolled) (place : ℕ)
+    (h : Counts t free limit recipients payload old known numbers spots at place) (address key : List ℕ) (r : Heard)
+    (p : HeardAs limit (unrolled recipients) payload place address key r) where
+  pub count-over : r ≡ Over → true ≡ roomBeside t old (gossipedIn limit recipients payload)
+  unfolding gossipedFrom gossipAddresses
+  count-over q =
+      sym
+      (h .so-far
+      ∙ ap (λ (gs : List Gossiped). roomBeside t (inRoll at known) (gossipAddresses gs))
+      (heard-over limit (unrolled recipients) payload place address key r p q)
+      ∙ beside-over t (inRoll at known) (omega (arith, h .rolls .shared, h .rolls .counted, h .rolls .kept .count)))
+
+  module _ (end n o : ℕ) (q : r ≡ Next end n o) where
+    heard : HeardAt limit (unrolled recipients) payload place address key end n o
+    heard = heard-at limit (unrolled recipients) payload place address key r p end n o q
+
+    pub count-within : n ≤ length address
+    count-within = heard .address-within
+
+    pub count-less : length payload - end < length payload - place
+    count-less = heard-less limit (unrolled recipients) payload place address key r p end n o q
+
+    abbrev a : List ℕ
+    a = take (n - 0) (drop 0 address)
+
+    abbrev rest : List (List ℕ)
+    rest = gossipedFrom limit recipients payload end
+
+    stands : roomBeside t old (gossipedIn limit recipients payload) ≡ roomBeside t (inRoll at known) (a ∷ rest)
     unfolding gossipedFrom gossipAddresses
-    count-over q =
-        sym
-        (h .so-far
-        ∙ ap (λ (gs : List Gossiped). roomBeside t (inRoll filled known) (gossipAddresses gs))
-        (heard-over (unrolled recipients) payload at address key r p q)
-        ∙ beside-over t (inRoll filled known) (omega (arith, h .rolls .shared)))
+    stands =
+        h .so-far
+        ∙ ap (λ (gs : List Gossiped). roomBeside t (inRoll at known) (gossipAddresses gs)) (heard .first)
+        ∙ rw sub-zero
 
-    module _ (next n k : ℕ) (q : r ≡ Next next n k) where
-      pub count-within : n ≤ length address
-      count-within = heard-address-within (unrolled recipients) payload at address key r p next n k q
+    module _ (out : List ℕ) (m : Met) (met : MetAs t (inRoll at known) (take (n - 0) (drop 0 address)) out m) where
+      pub count-full : m ≡ Full → false ≡ roomBeside t old (gossipedIn limit recipients payload)
+      count-full y =
+          let f = met-full t (inRoll at known) a out m met y in
+          sym (stands ∙ beside-full t (inRoll at known) a rest (f .new) (f .full))
 
-      pub count-less : length payload - next < length payload - at
-      count-less = heard-less (unrolled recipients) payload at address key r p next n k q
-
-      abbrev a : List ℕ
-      a = take (n - 0) (drop 0 address)
-
-      pub count-meets : Meets t left known filled (take (n - 0) (drop 0 address))
-      count-meets =
+      pub count-on :
+          (outs ends : List ℕ) → RollsAs t free out outs ends m → (behind : Rolled) → m ≡ Seated behind
+          → Counts t free limit recipients payload old out outs ends behind end
+      count-on outs ends w behind y =
           record {
-            rolls = h .rolls;
-            canonical = rw sub-zero (heard-canonical (unrolled recipients) payload at address key r p next n k q);
+            so-far = stands ∙ beside-one t (inRoll at known) a rest ∙ rw (met-list t (inRoll at known) a out m met behind y);
+            rolls = met-rolls t free out outs ends m w behind y;
+            clear = heard .readable;
           }
 
-      abbrev rest : List (List ℕ)
-      rest = gossipedFrom recipients payload next
-
-      stands :
-          roomBeside t (inRoll filled₀ known₀) (gossipedIn recipients payload) ≡ roomBeside t (inRoll filled known) (a ∷ rest)
-      unfolding gossipedFrom gossipAddresses
-      stands =
-          h .so-far
-          ∙ ap (λ (gs : List Gossiped). roomBeside t (inRoll filled known) (gossipAddresses gs))
-          (heard-first (unrolled recipients) payload at address key r p next n k q)
-          ∙ rw sub-zero
-
-      module _ (out : List ℕ) (m : Met) (met : MetAs t left known filled a out m) where
-        pub count-known : m ≡ Known → Counts t recipients payload known₀ filled₀ left out filled next
-        count-known y =
-            let o = met-known t left known filled a out m met y in
-            record {
-              so-far = stands ∙ beside-known t (inRoll filled known) a rest (o .known) ∙ rw (o .same);
-              rolls = met-same t left known filled a out m met y (h .rolls);
-              clear = heard-readable (unrolled recipients) payload at address key r p next n k q;
-            }
-
-        pub count-full : m ≡ Full → false ≡ roomBeside t (inRoll filled₀ known₀) (gossipedIn recipients payload)
-        count-full y =
-            let o = met-full t left known filled a out m met y in
-            sym (stands ∙ beside-full t (inRoll filled known) a rest (o .new) (omega (arith, h .rolls .shared, o .full)))
-
-        pub count-new : (end : ℕ) → m ≡ New end → Counts t recipients payload known₀ filled₀ (left - 1) out end next
-        count-new end y =
-            let o = met-added t left known filled a out m met end y in
-            record {
-              so-far = stands ∙ beside-new t (inRoll filled known) a rest (o .new) ∙ rw (o .added);
-              rolls = o .rolls;
-              clear = heard-readable (unrolled recipients) payload at address key r p next n k q;
-            }
-
 -- a ruleset for each kind of need
-pub ruleset counting = (count-begin, count-clear, count-within, count-less, needs)
+pub ruleset counting = (count-begin, count-hears, count-within, count-less, needs)
 
-pub ruleset meeting-gossip = (count-meets, met-left, needs)
+pub ruleset meeting-gossip = (count-meets, needs)
 
-pub ruleset ending = (count-over, count-full, needs)
+pub ruleset counted = (count-over, count-full, count-on, needs)
 
 -- the sender first
-pub first-meets : (t sender payload text roll : List ℕ) (free : ℕ) → Seeks t sender payload text → free ≡ freeCount t → length roll ≡ 65536
-    → Meets t free roll 0 sender
-first-meets t sender payload text roll free h f l =
-    record { rolls = rolls-begin t roll free f (h .sound) l; canonical = h .canonical }
+module _ (t tags : List ℕ) (limit : ℕ) (sender payload recipients listed places text : List ℕ)
+    (h : Seeks t tags limit sender payload recipients listed places text) (free : ℕ) where
+  pub first-meets :
+      (known numbers spots : List ℕ) (at : Rolled) → at .end ≡ 0 → at .many ≡ 0 → free ≡ freeCount t → length known ≡ 65536 → length numbers ≡ 256
+      → length spots ≡ 256 → Meets t tags free known numbers spots at sender
+  first-meets known numbers spots at e n f l m o =
+      record {
+        tagged = h .opened .tagged;
+        rolls = rolls-begin t known numbers spots free at e n f (h .opened .sound) l m o;
+        canonical = h .canonical;
+      }
 
-module _ (t : List ℕ) (free : ℕ) (known sender out : List ℕ) (m : Met) (met : MetAs t free known 0 sender out m) where
-  module _ (payload text : List ℕ) (h : Seeks t sender payload text) where
-    pub first-same : m ≡ Known → free ≡ freeCount t → length known ≡ 65536 → Seats t free payload text out 0
-    first-same q f l = record { rolls = met-same t free known 0 sender out m met q (rolls-begin t known free f (h .sound) l); reads = h .reads }
+  pub first-seats :
+      (known numbers spots : List ℕ) (m : Met) → RollsAs t free known numbers spots m → (at : Rolled) → m ≡ Seated at
+      → Seats t tags free limit payload recipients listed places text known numbers spots at
+  first-seats known numbers spots m w at q =
+      record {
+        tagged = h .opened .tagged;
+        rolls = met-rolls t free known numbers spots m w at q;
+        reads = h .reads;
+        index = h .index;
+        most = h .most;
+      }
 
-    pub first-one : (end : ℕ) → m ≡ New end → Seats t (free - 1) payload text out end
-    first-one end q = record { rolls = met-rolls t free known 0 sender out m met end q; reads = h .reads }
+module _ (t known : List ℕ) (none : Rolled) (e : none .end ≡ 0) (sender out : List ℕ) (m : Met) (met : MetAs t (inRoll none known) sender out m)
+    (gossiped : List (List ℕ)) where
+  pub first-full : m ≡ Full → false ≡ roomBeside t [] (sender ∷ gossiped)
+  first-full q =
+      let f = met-full t (inRoll none known) sender out m met q in
+      rw (← begin-none known none e) (sym (beside-full t (inRoll none known) sender gossiped (f .new) (f .full)))
 
-  module _ (gossiped : List (List ℕ)) where
-    pub first-full : free ≡ freeCount t → m ≡ Full → false ≡ roomBeside t [] (sender ∷ gossiped)
-    first-full f q =
-        let o = met-full t free known 0 sender out m met q in
-        sym (beside-full t [] sender gossiped (rw unrolled-none at (o .new)) (omega (arith, o .full, f)))
+  pub first-seated : (at : Rolled) → m ≡ Seated at → (b : Bool) → b ≡ roomBeside t (inRoll at out) gossiped → b ≡ roomBeside t [] (sender ∷ gossiped)
+  first-seated at q b r =
+      r
+      ∙ rw (met-list t (inRoll none known) sender out m met at q, ← begin-none known none e)
+      (sym (beside-one t (inRoll none known) sender gossiped))
 
-    pub first-known : m ≡ Known → (b : Bool) → b ≡ roomBeside t (inRoll 0 out) gossiped → b ≡ roomBeside t [] (sender ∷ gossiped)
-    first-known q b e =
-        let o = met-known t free known 0 sender out m met q in
-        e ∙ rw unrolled-none (sym (beside-known t [] sender gossiped (rw unrolled-none at (o .known))))
+pub ruleset seating = (first-meets, first-seats, needs)
 
-    pub first-added :
-        (end : ℕ) → m ≡ New end → (b : Bool) → b ≡ roomBeside t (inRoll end out) gossiped → b ≡ roomBeside t [] (sender ∷ gossiped)
-    first-added end q b e =
-        let o = met-added t free known 0 sender out m met end q in
-        e ∙ rw (o .added, unrolled-none) (sym (beside-new t [] sender gossiped (rw unrolled-none at (o .new))))
-
-pub ruleset seating = (first-meets, met-left, first-same, first-one, needs)
-
-pub ruleset seated = (first-full, first-known, first-added, needs)
+pub ruleset seated = (first-full, first-seated, needs)
 
 -- the sender and no other
 module _ (t sender : List ℕ) (f : Found) (e : f ≡ found t sender) where
   pub alone-own : (i : ℕ) → f ≡ At i → true ≡ roomBeside t [] (sender ∷ [])
   alone-own i q =
-      sym (beside-known t [] sender [] (sym (told-found t sender [] f e i q)) ∙ beside-over t [] (omega arith))
+      sym (beside-known t [] sender [] (sym (told-found t sender f e [] i q)) ∙ beside-over t [] (omega arith))
 
   pub alone-free : f ≡ Nothing → (free : ℕ) → free ≡ freeCount t → ltb 0 free ≡ roomBeside t [] (sender ∷ [])
   unfolding among roomBeside newcomers
-  alone-free q free h = rw h (sym (beside-new t [] sender [] (sym (told-held t sender [] f e q false refl))))
+  alone-free q free h = rw h (sym (beside-new t [] sender [] (sym (told-held t sender f e [] q false refl))))
 
 pub ruleset alone = (alone-own, alone-free, needs)

@@ -1,67 +1,77 @@
--- What the count of newcomers asks for, and what it knows between two steps.
---     Reads            a block that can be read, and a text for its values
---     Rolls            the roll of those that are known to be new, and the free slots that are left
---     Meets, MetAs     one more address, and what comes of it
---     Seats            the gossip of a payload, beside those that are known to be new
---     Seeks            a message, with a table, its sender and its payload
-use Prim.Native.Nat.{ℕ, _+_, _-_, _*_, _≤_}
+-- What the count of newcomers asks for, and what it knows between two steps. The roll of those that are known to be new is `known`, its index
+-- `numbers` and `spots`; `at` says how far they go.
+--     Reads                     a block that can be read, and a text for its values
+--     Asks                      whether an address is new
+--     Rolls                     the roll of those that are known to be new, and the free slots
+--     Meets, MetAs, RollsAs     one more address, what comes of it, and the roll then
+--     Seats                     the gossip of a payload, beside those that are known to be new
+--     Seeks                     a message, with a table, its sender, its payload and the roll of its recipients
+use Prim.Native.Nat.{ℕ, _≤_}
 use mathlib.Core.Path.{_≡_}
-use mathlib.Core.Bool.{true, false}
-use mathlib.Core.List.{List, [], _∷_, _++_}
-use lib.ListN.{length, take}
+use mathlib.Core.Bool.{true}
+use mathlib.Core.List.{List}
+use lib.ListN.{length}
 use Rattle.header.specs.Header.{readable}
 use Rattle.address.specs.Address.{isCanonical}
-use Rattle.table.specs.Table.{freeCount, checked}
-use Rattle.table.specs.declared.Checked.the-variants.{Sound}
-use Rattle.roll.specs.Roll.{rolled}
-use Rattle.room.specs.Room.{inRoll, isNew}
+use Rattle.slots.specs.Slot.{keyLimit}
+use Rattle.table.specs.Table.{mostSlots, freeCount}
+use Rattle.table.specs.Tagged.{Tagged, Open}
+use Rattle.roll.specs.Growing.{inRoll, Kept}
+use Rattle.roll.specs.Index.{Indexed}
+use Rattle.roll.specs.declared.Rolled.{Rolled}
+use Rattle.room.specs.Room.{isNew, withNew}
 use Rattle.room.specs.declared.Met.{Met}
-use Rattle.room.specs.declared.Met.the-variants.{Known, New, Full}
+use Rattle.room.specs.declared.Met.the-variants.{Seated, Full}
 
 pub record Reads (block text : List ℕ) : Type 0 where
   pub readably : readable block ≡ true
   pub room : length block ≤ length text
 
--- The first octets of the memory are the roll of addresses, each of which has at most 254 octets. Each of them takes a free slot, and so many are left;
--- the memory has room for as many as there may be slots.
-pub record Rolls (t : List ℕ) (left : ℕ) (roll : List ℕ) (filled : ℕ) : Type 0 where
-  pub is : rolled (inRoll filled roll) ≡ take filled roll
-  pub shared : length (inRoll filled roll) + left ≡ freeCount t
-  pub short : filled ≤ 255 * length (inRoll filled roll)
-  pub few : freeCount t ≤ 256
-  pub wide : length roll ≡ 65536
-
-pub record Meets (t : List ℕ) (left : ℕ) (roll : List ℕ) (filled : ℕ) (a : List ℕ) : Type 0 where
-  pub rolls : Rolls t left roll filled
+pub record Asks (t tags known numbers spots : List ℕ) (at : Rolled) (a : List ℕ) : Type 0 where
+  pub tagged : Tagged t tags
+  pub kept : Kept known numbers spots at
   pub canonical : isCanonical a ≡ true
 
--- it has an entry, or is known already
-pub record IsKnown (t roll : List ℕ) (filled : ℕ) (a out : List ℕ) : Type 0 where
-  pub known : isNew t (inRoll filled roll) a ≡ false
-  pub same : out ≡ roll
+-- Each of those in the roll takes one of the free slots; the memory has room for as many as there may be slots.
+pub record Rolls (t : List ℕ) (free : ℕ) (known numbers spots : List ℕ) (at : Rolled) : Type 0 where
+  pub kept : Kept known numbers spots at
+  pub counted : free ≡ freeCount t
+  pub shared : at .many ≤ free
+  pub few : free ≤ mostSlots
+  pub octets : length known ≡ 65536
+  pub wide : length numbers ≡ mostSlots
+  pub roomy : length spots ≡ mostSlots
 
--- it is new, and stands in the roll now
-pub record IsAdded (t : List ℕ) (left : ℕ) (roll : List ℕ) (filled : ℕ) (a out : List ℕ) (end : ℕ) : Type 0 where
-  pub new : isNew t (inRoll filled roll) a ≡ true
-  pub added : inRoll end out ≡ inRoll filled roll ++ (a ∷ [])
-  pub some-left : 1 ≤ left
-  pub rolls : Rolls t (left - 1) out end
+pub record Meets (t tags : List ℕ) (free : ℕ) (known numbers spots : List ℕ) (at : Rolled) (a : List ℕ) : Type 0 where
+  pub tagged : Tagged t tags
+  pub rolls : Rolls t free known numbers spots at
+  pub canonical : isCanonical a ≡ true
 
--- it is new, and there is no free slot for it
-pub record IsTooMany (t : List ℕ) (left : ℕ) (roll : List ℕ) (filled : ℕ) (a : List ℕ) : Type 0 where
-  pub new : isNew t (inRoll filled roll) a ≡ true
-  pub full : left ≡ 0
+-- it is new, and those that were known take all free slots
+pub record IsTooMany (t : List ℕ) (old : List (List ℕ)) (a : List ℕ) : Type 0 where
+  pub new : isNew t old a ≡ true
+  pub full : length old ≡ freeCount t
 
-unfoldable pub MetAs : List ℕ → ℕ → List ℕ → ℕ → List ℕ → List ℕ → Met → Type 0
-MetAs t left roll filled a out Known = IsKnown t roll filled a out
-MetAs t left roll filled a out (New end) = IsAdded t left roll filled a out end
-MetAs t left roll filled a out Full = IsTooMany t left roll filled a
+-- by those that were known, the address and the roll as it is then
+unfoldable pub MetAs : List ℕ → List (List ℕ) → List ℕ → List ℕ → Met → Type 0
+MetAs t old a known (Seated at) = inRoll at known ≡ withNew t old a
+MetAs t old a known Full = IsTooMany t old a
 
-pub record Seats (t : List ℕ) (left : ℕ) (payload text roll : List ℕ) (filled : ℕ) : Type 0 where
-  pub rolls : Rolls t left roll filled
+unfoldable pub RollsAs : List ℕ → ℕ → List ℕ → List ℕ → List ℕ → Met → Type 0
+RollsAs t free known numbers spots (Seated at) = Rolls t free known numbers spots at
+RollsAs t free known numbers spots Full = Unit
+
+-- a key has at most `limit` octets, for which there is room
+pub record Seats (t tags : List ℕ) (free limit : ℕ) (payload recipients listed places text known numbers spots : List ℕ) (at : Rolled) : Type 0 where
+  pub tagged : Tagged t tags
+  pub rolls : Rolls t free known numbers spots at
   pub reads : Reads payload text
+  pub index : Indexed recipients listed places
+  pub most : limit ≤ keyLimit
 
-pub record Seeks (t sender payload text : List ℕ) : Type 0 where
-  pub sound : checked t ≡ Sound
+pub record Seeks (t tags : List ℕ) (limit : ℕ) (sender payload recipients listed places text : List ℕ) : Type 0 where
+  pub opened : Open t tags
   pub canonical : isCanonical sender ≡ true
   pub reads : Reads payload text
+  pub index : Indexed recipients listed places
+  pub most : limit ≤ keyLimit
