@@ -200,8 +200,8 @@ class Names(unittest.TestCase):
 
     def test_rule(self):
         """Each form, with a name that is there, and with others that are not, or not there where it is said to be."""
-        row = "| `table::check` | it says .. | rules out (must-fail `twice_unseen`) |"
-        self.assertEqual(rows(row), [("table", "rules out (must-fail `twice_unseen`)")])
+        row = "| `lookup::check` | it says .. | rules out (must-fail `twice_unseen`) |"
+        self.assertEqual(rows(row), [("lookup", "rules out (must-fail `twice_unseen`)")])
         for form, right, *wrong in (
             (places, "see `table/specs/Table`", "see `table/specs/Tables`", "see tables/specs/Table", "tests/texts/test_name.py"),
             (parts, "`table/specs/Table: whole`", "`table/specs/Table: hole`", "`slots/specs/Slot: whole`"),
@@ -210,12 +210,12 @@ class Names(unittest.TestCase):
             (parts, "`checked`, `whole t` (`table/specs/Table`)", "`hole`, `whole t` (`table/specs/Table`)"),
             (parts, "| table/Table: `checked`, `whole` |", "| table/Table: `checked`, `hole` |", "| tables/Table: `whole` |"),
             (parts, "| table/proofs/Keeping | .. `whole` of `table`", "`hole_of_it` of `table`", "`whole` of `tables`"),
-            (functions, "`table::check`, `find`", "`table::check`, `find_it`", "`tables::check`", "`slots::check`"),
+            (functions, "`lookup::check`, `find`", "`lookup::check`, `find_it`", "`lookups::check`", "`slots::check`"),
             (functions, "`Slot::MARK`", "`Slot::MARKS`", "`Slots::MARK`"),
             (functions, "`tokens`: `comment` and `content`", "`tokens`: `comment` and `contents`"),
             (named_edits, "(must-fail `twice_unseen`)", "(must-fail `twice_seen`)", "(must-fail slots `twice_unseen`)"),
-            (named_edits, "table `twice_unseen`", "slots `twice_unseen`", "tables `twice_unseen`", "(slots, `twice_unseen`)"),
-            (lambda text: named_edits(text, "table"), "(`twice_unseen`)", "(slots, `twice_unseen`)", "(`padding_unseen`)"),
+            (named_edits, "lookup `twice_unseen`", "slots `twice_unseen`", "lookups `twice_unseen`", "(slots, `twice_unseen`)"),
+            (lambda text: named_edits(text, "lookup"), "(`twice_unseen`)", "(slots, `twice_unseen`)", "(`padding_unseen`)"),
             (words, "`has_room`, `applied-entry`, `hasRoom`, `HasDirect`", "`has_rooms`", "`applied-entries`", "`hasRooms`", "`HasDirects`"),
             (statements, "    pub fn number(refusal: Refusal) -> u32", "    pub fn number(refusal: Refusal) -> u64"),
         ):
