@@ -114,15 +114,7 @@ fn read_sent(
     match judge(outer, survey, payload, settings, text) {
         Judged::Report => Reading::Refused(Refusal::Report),
         Judged::Unreadable => Reading::Refused(Refusal::PayloadBlock),
-        Judged::Passed => Reading::Alone(bring(
-            receipt,
-            outer,
-            limit,
-            survey,
-            text,
-            sender,
-            key,
-        )),
+        Judged::Passed => Reading::Alone(bring(receipt, outer, limit, survey, text, sender, key)),
         Judged::Searched => Reading::Carrying(
             bring(receipt, outer, limit, survey, text, sender, key),
             survey,

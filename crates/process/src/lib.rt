@@ -44,14 +44,7 @@ fn deliver_carrying(
     let mut roll = [0u8; header::LIMIT];
     let mut listed = [0u32; MOST_RECIPIENTS];
     let mut places = [0u16; MOST_RECIPIENTS];
-    let rolled = recipients::gather(
-        outer,
-        survey,
-        text,
-        &mut roll,
-        &mut listed,
-        &mut places,
-    );
+    let rolled = recipients::gather(outer, survey, text, &mut roll, &mut listed, &mut places);
     let end = rolled.end;
     let many = rolled.many;
     delivery::deliver(

@@ -1,12 +1,7 @@
 -- `octets::is_blank` meets its contract, by computing. Assumes nothing.
 use borrow.Author.Needs.{needs}
 use Rattle.octets.specs.Octets.{blank}
-use Rattle.octets.proofs.is_blank.Statement.{statement}
-use Rattle.octets.proofs.is_blank.Tie as tie
+use Rattle.octets.proofs.is_blank as fn
 
-returns : tie.Need-returns
-unfolding blank
-returns c = search needs
-
-pub is-blank-spec : {M : Type 1} → statement M
-is-blank-spec = tie.close (tie.spec returns)
+pub is-blank-spec : {M : Type 1} → fn.Statement.statement M
+is-blank-spec = fn.Tie.close (fn.Tie.spec (λ c. unfold blank in search needs))

@@ -1,16 +1,6 @@
 -- `runs::label` meets its contract: the laws of `Telling` answer every need. Assumes nothing.
-use Rattle.runs.proofs.label.Statement.{statement}
-use Rattle.runs.proofs.label.Tie as tie
 use Rattle.runs.proofs.Telling.{telling}
+use Rattle.runs.proofs.label as fn
 
-returns : tie.Need-returns
-returns c = search telling
-
-digit-requires : tie.Need-digit-requires
-digit-requires c κs = search telling
-
-returns-2 : tie.Need-returns-2
-returns-2 c = search telling
-
-pub label-spec : {M : Type 1} → statement M
-label-spec = tie.close (tie.spec returns digit-requires returns-2)
+pub label-spec : {M : Type 1} → fn.Statement.statement M
+label-spec = fn.Tie.close (fn.Tie.spec (λ c. search telling) (λ c. search telling) (λ c. search telling))

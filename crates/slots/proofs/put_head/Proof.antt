@@ -1,27 +1,9 @@
 -- `slots::put_head` meets its contract: the laws of `Writing` answer every need. Assumes nothing.
 use Rattle.slots.proofs.Writing.{putting}
 use borrow.Author.Needs.{needs}
-use Rattle.slots.proofs.put_head.Statement.{statement}
-use Rattle.slots.proofs.put_head.Tie as tie
+use Rattle.slots.proofs.put_head as fn
 
-sub-put : tie.Need-sub-put
-sub-put c = search needs
-
-part-put-start : tie.Need-part-put-start
-part-put-start c = search needs
-
-part-put-end : tie.Need-part-put-end
-part-put-end c = search needs
-
-put-requires : tie.Need-put-requires
-put-requires c κs = search needs
-
-same-length : tie.Need-same-length
-same-length c = search needs
-
-returns : tie.Need-returns
-returns c = search putting
-
-pub put-head-spec : {M : Type 1} → statement M
+pub put-head-spec : {M : Type 1} → fn.Statement.statement M
 put-head-spec =
-    tie.close (tie.spec sub-put part-put-start part-put-end put-requires same-length returns)
+    fn.Tie.close (fn.Tie.spec (λ c. search needs) (λ c. search needs) (λ c. search needs) (λ c. search needs)
+    (λ c. search needs) (λ c. search putting))

@@ -1,34 +1,9 @@
 -- `slots::set_gossip` meets its contract: the laws of `Entries` answer every need. Assumes nothing.
 use Rattle.slots.proofs.Entries.{changing}
 use borrow.Author.Needs.{needs}
-use Rattle.slots.proofs.set_gossip.Statement.{statement}
-use Rattle.slots.proofs.set_gossip.Tie as tie
+use Rattle.slots.proofs.set_gossip as fn
 
-head-of-requires : tie.Need-head-of-requires
-head-of-requires c κs = search needs
-
-with-gossip-requires : tie.Need-with-gossip-requires
-with-gossip-requires c κs = search needs
-
-put-head-requires : tie.Need-put-head-requires
-put-head-requires c κs = search needs
-
-put-padded-requires : tie.Need-put-padded-requires
-put-padded-requires c κs = search needs
-
-same-length : tie.Need-same-length
-same-length c = search needs
-
-returns : tie.Need-returns
-returns c = search changing
-
-pub set-gossip-spec : {M : Type 1} → statement M
+pub set-gossip-spec : {M : Type 1} → fn.Statement.statement M
 set-gossip-spec =
-    tie.close
-    (tie.spec
-    head-of-requires
-    with-gossip-requires
-    put-head-requires
-    put-padded-requires
-    same-length
-    returns)
+    fn.Tie.close (fn.Tie.spec (λ c. search needs) (λ c. search needs) (λ c. search needs) (λ c. search needs)
+    (λ c. search needs) (λ c. search changing))

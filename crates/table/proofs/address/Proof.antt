@@ -1,16 +1,6 @@
 -- `table::address` meets its contract: the laws of `Slots` answer every need. Assumes nothing.
 use Rattle.table.proofs.Slots.{reaching}
-use Rattle.table.proofs.address.Statement.{statement}
-use Rattle.table.proofs.address.Tie as tie
+use Rattle.table.proofs.address as fn
 
-slot-at-requires : tie.Need-slot-at-requires
-slot-at-requires c κs = search reaching
-
-address-of-requires : tie.Need-address-of-requires
-address-of-requires c κs = search reaching
-
-returns : tie.Need-returns
-returns c = search reaching
-
-pub address-spec : {M : Type 1} → statement M
-address-spec = tie.close (tie.spec slot-at-requires address-of-requires returns)
+pub address-spec : {M : Type 1} → fn.Statement.statement M
+address-spec = fn.Tie.close (fn.Tie.spec (λ c. search reaching) (λ c. search reaching) (λ c. search reaching))

@@ -1,10 +1,6 @@
 -- `table::count` meets its contract: the laws of `Slots` answer every need. Assumes nothing.
 use Rattle.table.proofs.Slots.{reaching}
-use Rattle.table.proofs.count.Statement.{statement}
-use Rattle.table.proofs.count.Tie as tie
+use Rattle.table.proofs.count as fn
 
-returns : tie.Need-returns
-returns c = search reaching
-
-pub count-spec : {M : Type 1} → statement M
-count-spec = tie.close (tie.spec returns)
+pub count-spec : {M : Type 1} → fn.Statement.statement M
+count-spec = fn.Tie.close (fn.Tie.spec (λ c. search reaching))

@@ -1,12 +1,7 @@
 -- `tokens::is_control` meets its contract, by computing. Assumes nothing.
 use borrow.Author.Needs.{needs}
 use Rattle.tokens.specs.Tokens.{control}
-use Rattle.tokens.proofs.is_control.Statement.{statement}
-use Rattle.tokens.proofs.is_control.Tie as tie
+use Rattle.tokens.proofs.is_control as fn
 
-returns : tie.Need-returns
-unfolding control
-returns c = search needs
-
-pub is-control-spec : {M : Type 1} → statement M
-is-control-spec = tie.close (tie.spec returns)
+pub is-control-spec : {M : Type 1} → fn.Statement.statement M
+is-control-spec = fn.Tie.close (fn.Tie.spec (λ c. unfold control in search needs))

@@ -1,21 +1,9 @@
 -- `write::write_gossip` meets its contract. Assumes nothing.
 use borrow.Author.Needs.{needs}
 use Rattle.write.specs.Writing.{gossipField}
-use Rattle.write.proofs.write_gossip.Statement.{statement}
-use Rattle.write.proofs.write_gossip.Tie as tie
+use Rattle.write.proofs.write_gossip as fn
 
-slice-aggregate-write : tie.Need-slice-aggregate-write
-slice-aggregate-write c = search needs
-
-write-requires : tie.Need-write-requires
-write-requires c κs = search needs
-
-same-length : tie.Need-same-length
-same-length c = search needs
-
-returns : tie.Need-returns
-unfolding gossipField
-returns c = search needs
-
-pub write-gossip-spec : {M : Type 1} → statement M
-write-gossip-spec = tie.close (tie.spec slice-aggregate-write write-requires same-length returns)
+pub write-gossip-spec : {M : Type 1} → fn.Statement.statement M
+write-gossip-spec =
+    fn.Tie.close (fn.Tie.spec (λ c. search needs) (λ c. search needs) (λ c. search needs)
+    (λ c. unfold gossipField in search needs))

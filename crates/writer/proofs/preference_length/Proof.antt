@@ -1,13 +1,6 @@
 -- `writer::preference_length` meets its contract: the laws of `Parts` answer every need. Assumes nothing.
 use Rattle.writer.proofs.Parts.{preferring}
-use Rattle.writer.proofs.preference_length.Statement.{statement}
-use Rattle.writer.proofs.preference_length.Tie as tie
+use Rattle.writer.proofs.preference_length as fn
 
-returns : tie.Need-returns
-returns c = search preferring
-
-returns-2 : tie.Need-returns-2
-returns-2 c = search preferring
-
-pub preference-length-spec : {M : Type 1} → statement M
-preference-length-spec = tie.close (tie.spec returns returns-2)
+pub preference-length-spec : {M : Type 1} → fn.Statement.statement M
+preference-length-spec = fn.Tie.close (fn.Tie.spec (λ c. search preferring) (λ c. search preferring))

@@ -1,16 +1,7 @@
 -- `cabi::vienghulac_check` meets its contract: the laws of `Answering` answer every need. Assumes nothing.
-use Rattle.cabi.proofs.tables.vienghulac_check.Statement.{statement}
-use Rattle.cabi.proofs.tables.vienghulac_check.Tie as tie
 use Rattle.cabi.proofs.Answering.{answering}
+use Rattle.cabi.proofs.tables.vienghulac_check as fn
 
-check-requires : tie.Need-check-requires
-check-requires c κs = search answering
-
-in-numbers-requires : tie.Need-in-numbers-requires
-in-numbers-requires c κs = search answering
-
-returns : tie.Need-returns
-returns c = search answering
-
-pub vienghulac-check-spec : {M : Type 1} → statement M
-vienghulac-check-spec = tie.close (tie.spec check-requires in-numbers-requires returns)
+pub vienghulac-check-spec : {M : Type 1} → fn.Statement.statement M
+vienghulac-check-spec =
+    fn.Tie.close (fn.Tie.spec (λ c. search answering) (λ c. search answering) (λ c. search answering))

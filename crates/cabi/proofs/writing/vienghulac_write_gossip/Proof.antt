@@ -1,20 +1,8 @@
 -- `cabi::vienghulac_write_gossip` meets its contract: the laws of `Answering` answer every need. Assumes nothing.
-use Rattle.cabi.proofs.writing.vienghulac_write_gossip.Statement.{statement}
-use Rattle.cabi.proofs.writing.vienghulac_write_gossip.Tie as tie
 use Rattle.cabi.proofs.Answering.{answering}
+use Rattle.cabi.proofs.writing.vienghulac_write_gossip as fn
 
-write-gossip-requires : tie.Need-write-gossip-requires
-write-gossip-requires c κs = search answering
-
-written-in-numbers-requires : tie.Need-written-in-numbers-requires
-written-in-numbers-requires c κs = search answering
-
-same-length : tie.Need-same-length
-same-length c = search answering
-
-returns : tie.Need-returns
-returns c = search answering
-
-pub vienghulac-write-gossip-spec : {M : Type 1} → statement M
+pub vienghulac-write-gossip-spec : {M : Type 1} → fn.Statement.statement M
 vienghulac-write-gossip-spec =
-    tie.close (tie.spec write-gossip-requires written-in-numbers-requires same-length returns)
+    fn.Tie.close (fn.Tie.spec (λ c. search answering) (λ c. search answering) (λ c. search answering)
+    (λ c. search answering))

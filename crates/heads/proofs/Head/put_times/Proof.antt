@@ -1,25 +1,9 @@
 -- `heads::Head::put_times` meets its contract: the laws of `Writing` answer every need. Assumes nothing.
 use Rattle.heads.proofs.Writing.{putting}
 use borrow.Author.Needs.{needs}
-use Rattle.heads.proofs.Head.put_times.Statement.{statement}
-use Rattle.heads.proofs.Head.put_times.Tie as tie
+use Rattle.heads.proofs.Head.put_times as fn
 
-put-number-requires : tie.Need-put-number-requires
-put-number-requires c κs = search needs
-
-put-number-requires-2 : tie.Need-put-number-requires-2
-put-number-requires-2 c κs = search needs
-
-put-number-requires-3 : tie.Need-put-number-requires-3
-put-number-requires-3 c κs = search needs
-
-same-length : tie.Need-same-length
-same-length c = search needs
-
-returns : tie.Need-returns
-returns c = search putting
-
-pub put-times-spec : {M : Type 1} → statement M
+pub put-times-spec : {M : Type 1} → fn.Statement.statement M
 put-times-spec =
-    tie.close
-    (tie.spec put-number-requires put-number-requires-2 put-number-requires-3 same-length returns)
+    fn.Tie.close (fn.Tie.spec (λ c. search needs) (λ c. search needs) (λ c. search needs) (λ c. search needs)
+    (λ c. search putting))
