@@ -13,7 +13,7 @@ next-valid-spec =
     fn.Tie.close (fn.Tie.spec
     (λ block limit at last sender text₀ key₀ place₀ text key place. (Past (validFor limit sender) Autocrypt block at place) × (length text ≡ length text₀) × (length key ≡ length key₀))
     (λ block limit at last sender text₀ key₀ place₀ text key place. length block - place) (λ c. search trying)
-    (λ c. search trying) (λ c. search trying) (λ c. search trying) (λ c. search trying) (λ c. search trying)
-    (λ c. search trying) (λ c. search trying) (λ c. search trying) (λ c. search trying) (λ c. search trying)
+    (λ c κs. search trying) (λ c. search trying) (λ c. search trying) (λ c. search trying) (λ c. search trying)
+    (λ c κs. search trying) (λ c. search trying) (λ c. search trying) (λ c. search trying) (λ c. search trying)
     (λ c. search trying) (λ c. search trying) (λ c. (search trying, search trying, search trying)) (λ c. search trying)
     (λ c. search trying) (λ c. search trying) (λ c. search trying))
