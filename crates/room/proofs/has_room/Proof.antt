@@ -7,4 +7,5 @@ pub has-room-spec : {M : Type 1} → fn.Statement.statement M
 has-room-spec =
     fn.Tie.close (fn.Tie.spec (λ c. search seating) (λ c. search seating) (λ c. search seating) (λ c. search seating)
     (λ c. search seating) (λ c. search seating) (λ c. search seating) (λ c. search seating) (λ c. search seating)
-    (λ c κs. record { tagged = search needs; rolls = search first-rolls; reads = search needs; index = search needs; most = search needs }) (λ c. search seating) (λ c. search seating) (λ c. search seated) (λ c. search seated))
+    (λ c κs. record { tagged = search needs; rolls = search first-rolls; reads = search needs; index = search needs; most = search needs })
+    (λ c. search seating) (λ c. search seating) (λ c. search seated) (λ c. search seated))
