@@ -55,7 +55,7 @@ module _ (t tags : List ℕ) (free limit : ℕ) (payload recipients listed place
         so-far =
             ap (λ (gs : List Gossiped). roomBeside t (inRoll at₀ known₀) (gossipAddresses gs))
             (sym (gossip-all limit (unrolled recipients) payload (k .reads .readably)));
-        rolls = k .rolls;
+        rolls = met-rolls t free known₀ numbers₀ spots₀ (Seated at₀) (k .rolls) at₀ refl;
         clear = block-begin payload (k .reads .readably);
       }
 
@@ -142,29 +142,16 @@ pub ruleset meeting-gossip = (count-meets, needs)
 pub ruleset counted = (count-over, count-full, count-on, needs)
 
 -- the sender first
-module _ (t tags : List ℕ) (limit : ℕ) (sender payload recipients listed places text : List ℕ)
-    (h : Seeks t tags limit sender payload recipients listed places text) (free : ℕ) where
-  pub first-meets :
-      (known numbers spots : List ℕ) (at : Rolled) → at .end ≡ 0 → at .many ≡ 0 → free ≡ freeCount t → length known ≡ 65536 → length numbers ≡ 256
-      → length spots ≡ 256 → Meets t tags free known numbers spots at sender
-  first-meets known numbers spots at e n f l m o =
-      record {
-        tagged = h .opened .tagged;
-        rolls = rolls-begin t known numbers spots free at e n f (h .opened .sound) l m o;
-        canonical = h .canonical;
-      }
+pub first-meets :
+    (t tags : List ℕ) (limit : ℕ) (sender payload recipients listed places text : List ℕ) → Seeks t tags limit sender payload recipients listed places text
+    → (free : ℕ) (known numbers spots : List ℕ) (at : Rolled) → Rolls t free known numbers spots at → Meets t tags free known numbers spots at sender
+first-meets t tags limit sender payload recipients listed places text h free known numbers spots at k =
+    record { tagged = h .opened .tagged; rolls = k; canonical = h .canonical }
 
-  pub first-seats :
-      (known numbers spots : List ℕ) (m : Met) → RollsAs t free known numbers spots m → (at : Rolled) → m ≡ Seated at
-      → Seats t tags free limit payload recipients listed places text known numbers spots at
-  first-seats known numbers spots m w at q =
-      record {
-        tagged = h .opened .tagged;
-        rolls = met-rolls t free known numbers spots m w at q;
-        reads = h .reads;
-        index = h .index;
-        most = h .most;
-      }
+pub first-rolls :
+    (t : List ℕ) (free : ℕ) (known numbers spots : List ℕ) (m : Met) → RollsAs t free known numbers spots m → (at : Rolled) → m ≡ Seated at
+    → RollsAs t free known numbers spots (Seated at)
+first-rolls t free known numbers spots m w at q = rw q at w
 
 module _ (t known : List ℕ) (none : Rolled) (e : none .end ≡ 0) (sender out : List ℕ) (m : Met) (met : MetAs t (inRoll none known) sender out m)
     (gossiped : List (List ℕ)) where
@@ -179,7 +166,7 @@ module _ (t known : List ℕ) (none : Rolled) (e : none .end ≡ 0) (sender out 
       ∙ rw (met-list t (inRoll none known) sender out m met at q, ← begin-none known none e)
       (sym (beside-one t (inRoll none known) sender gossiped))
 
-pub ruleset seating = (first-meets, first-seats, needs)
+pub ruleset seating = (first-meets, rolls-begin, needs)
 
 pub ruleset seated = (first-full, first-seated, needs)
 

@@ -61,10 +61,10 @@ unfoldable pub RollsAs : List ℕ → ℕ → List ℕ → List ℕ → List ℕ
 RollsAs t free known numbers spots (Seated at) = Rolls t free known numbers spots at
 RollsAs t free known numbers spots Full = Unit
 
--- a key has at most `limit` octets, for which there is room
+-- a key has at most `limit` octets, for which there is room; the roll is as one that has his slot leaves it
 pub record Seats (t tags : List ℕ) (free limit : ℕ) (payload recipients listed places text known numbers spots : List ℕ) (at : Rolled) : Type 0 where
   pub tagged : Tagged t tags
-  pub rolls : Rolls t free known numbers spots at
+  pub rolls : RollsAs t free known numbers spots (Seated at)
   pub reads : Reads payload text
   pub index : Indexed recipients listed places
   pub most : limit ≤ keyLimit
