@@ -195,6 +195,11 @@ def without_autocrypt(block: bytes) -> bytes:
     return before + b"\r\n".join(lines[rest:])
 
 
+def names_alike(pairs: int) -> list[bytes]:
+    """Different addresses that all have the same tag: 33 times `a` plus `^` is 33 times `b` plus `=`."""
+    return [b"".join((b"a^", b"b=")[i >> k & 1] for k in range(pairs)) + b"@c" for i in range(2 ** pairs)]
+
+
 def short_names(n: int) -> list[bytes]:
     """Short addresses of one length."""
     letters = b"abcdefghijklmnopqrstuvwxyz"
@@ -260,6 +265,11 @@ def cases(few: bool):
             while len(b"".join(fields)) > BLOCK_LIMIT:
                 fields.pop()
             yield f"hostile-{what}", len(fields), 256, "process", LIBRARIES, table, [(outer, b"".join(fields))]
+        # Recipients whose tags are all alike, and gossip about one more such address.
+        *names, other = names_alike(11)
+        outer = b"From: aaa@b\nTo: " + b",".join(names) + b"\n\n"
+        field = make.small_gossip(other)
+        yield "hostile-tags", BLOCK_LIMIT // len(field), 256, "process", LIBRARIES, table, [(outer, field * (BLOCK_LIMIT // len(field)))]
         table = table_of([Entry(name) for name in long_names(256)])
         yield "hostile-addresses", 256, 256, "check", CHECKS, table, [(b"", b"")]
 

@@ -48,6 +48,7 @@ HOSTILE = {
     "hostile-listed": "10,000 recipients in 60 KB, 64 KB of gossip about the last 255 of them",
     "hostile-unlisted": "the same with gossip about nobody of the list",
     "hostile-newcomers": "the same with more newcomers than free slots",
+    "hostile-tags": "2,047 recipients of one tag, 64 KB of gossip about another address of that tag",
     "hostile-addresses": "check of 256 addresses of 254 octets that differ at their end",
 }
 NAMES = {"ours": "ours", "peer": "C peer", "peer3": "C peer, -O3", "gmime": "GMime", "read": "plain read", "memcpy": "memcpy"}
