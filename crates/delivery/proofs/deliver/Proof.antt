@@ -4,6 +4,6 @@ use Rattle.delivery.proofs.deliver as fn
 
 pub deliver-spec : {M : Type 1} → fn.Statement.statement M
 deliver-spec =
-    fn.Tie.close (fn.Tie.spec (λ c. search carrying) (λ c. search carrying) (λ c. search carrying)
-    (λ c. (search delivering, search delivering)) (λ c. search carrying) (λ c. search carrying) (λ c. search carrying)
-    (λ c. (search delivering, search delivering)))
+    fn.Tie.close (fn.Tie.spec (λ c κs. search carrying) (λ c. search carrying) (λ c. search carrying)
+    (λ c. (search delivering, search delivering)) (λ c κs. search carrying) (λ c. search carrying)
+    (λ c. search carrying) (λ c. (search delivering, search delivering)))

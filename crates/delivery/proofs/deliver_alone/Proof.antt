@@ -5,5 +5,5 @@ use Rattle.delivery.proofs.deliver_alone as fn
 
 pub deliver-alone-spec : {M : Type 1} → fn.Statement.statement M
 deliver-alone-spec =
-    fn.Tie.close (fn.Tie.spec (λ c. search alone) (λ c. search alone) (λ c. (search alone, search alone))
-    (λ c. search needs) (λ c. search alone) (λ c. (search alone, search alone)))
+    fn.Tie.close (fn.Tie.spec (λ c κs. search alone) (λ c. search alone) (λ c. (search alone, search alone))
+    (λ c κs. search needs) (λ c. search alone) (λ c. (search alone, search alone)))

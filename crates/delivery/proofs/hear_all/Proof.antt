@@ -14,6 +14,6 @@ hear-all-spec =
     (λ c. search spreading) (λ c. search spreading) (λ c. search spreading)
     (λ c κs. record { clear = search spreading; index = search needs; room = search needs; address-room = search needs; key-room = search needs })
     (λ c. search spreading) (λ c. search spreading) (λ c. search spreading) (λ c. search spreading)
-    (λ c. search spreading) (λ c. search spreading) (λ c. search spreading) (λ c. search hearing)
+    (λ c. search spreading) (λ c. search spreading) (λ c. search spreading) (λ c κs. search hearing)
     (λ c. search spreading) (λ c. (search (spread-on, needs), search needs, search needs, search needs, search needs))
     (λ c. search spreading) (λ c. search spreading) (λ c. search spreading) (λ c. search (spread-end, needs)))

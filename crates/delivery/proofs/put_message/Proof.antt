@@ -5,5 +5,5 @@ use Rattle.delivery.proofs.put_message as fn
 
 pub put-message-spec : {M : Type 1} → fn.Statement.statement M
 put-message-spec =
-    fn.Tie.close (fn.Tie.spec (λ c. search needs) (λ c. search putting) (λ c. search needs) (λ c. search needs)
+    fn.Tie.close (fn.Tie.spec (λ c κs. search needs) (λ c κs. search putting) (λ c. search needs) (λ c. search needs)
     (λ c. search putting))

@@ -4,5 +4,5 @@ use Rattle.message.proofs.bring as fn
 
 pub bring-spec : {M : Type 1} → fn.Statement.statement M
 bring-spec =
-    fn.Tie.close (fn.Tie.spec (λ c. search bringing) (λ c. search bringing) (λ c. search bringing)
+    fn.Tie.close (fn.Tie.spec (λ c κs. search bringing) (λ c κs. search bringing) (λ c κs. search bringing)
     (λ c. search bringing) (λ c. search bringing) (λ c. search bringing))

@@ -5,7 +5,7 @@ use Rattle.process.proofs.deliver_carrying as fn
 
 pub deliver-carrying-spec : {M : Type 1} → fn.Statement.statement M
 deliver-carrying-spec =
-    fn.Tie.close (fn.Tie.spec (λ c. search rolling) (λ c. search rolling) (λ c. search rolling) (λ c. search rolling)
+    fn.Tie.close (fn.Tie.spec (λ c. search rolling) (λ c. search rolling) (λ c. search rolling) (λ c κs. search rolling)
     (λ c. search rolling) (λ c. search rolling) (λ c. search rolling) (λ c. search rolling) (λ c. search rolling)
-    (λ c. search rolling) (λ c. search rolling) (λ c. search rolling) (λ c. search rolling) (λ c. search rolling)
+    (λ c. search rolling) (λ c. search rolling) (λ c. search rolling) (λ c. search rolling) (λ c κs. search rolling)
     (λ c. search rolling) (λ c. search rolling) (λ c. (search carried, search carried)))

@@ -5,6 +5,6 @@ use Rattle.process.proofs.process_open as fn
 
 pub process-open-spec : {M : Type 1} → fn.Statement.statement M
 process-open-spec =
-    fn.Tie.close (fn.Tie.spec (λ c. search making-room) (λ c. search making-room) (λ c. search making-room)
-    (λ c. search needs) (λ c. search making-room) (λ c. search making-room) (λ c. search making-room)
+    fn.Tie.close (fn.Tie.spec (λ c. search making-room) (λ c κs. search making-room) (λ c. search making-room)
+    (λ c. search needs) (λ c. search making-room) (λ c κs. search making-room) (λ c. search making-room)
     (λ c. search needs))
