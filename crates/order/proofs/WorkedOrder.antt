@@ -31,6 +31,8 @@ use Rattle.address.specs.Address as address
 use Rattle.grammar.specs.Grammar as grammar
 use Rattle.addresslist.specs.List as list
 use Rattle.date.specs.Date as date
+use Rattle.attributes.specs.Attribute as attributes
+use Rattle.attributes.specs.Step as steps
 use Rattle.keyfield.specs.Field as keyfield
 use Rattle.slots.specs.Slot as slots
 use Rattle.heads.specs.Entry.{Entry, newcomer, seenBy, withDirect}
@@ -97,7 +99,7 @@ pub record Reads (c : Call) (m : Message) : Type 0 where
   pub brings : messageOf keyLimit (c .receipt) (c .outer) (c .payload) (c .setting) ≡ m
 
 reads : Reads older (bringing "foo" 1000) × Reads younger (bringing "bar" 2000)
-unfolding messageRows messageOf firstOf isSome orElse message.payloadIn settings.taken message.messageBy message.directBy bind octets.lower octets.lowered octets.sameName octets.sameOctets octets.startsWith blank tokens.past tokens.kindOf tokens.control runs.belongs runs.run tokens.afterQuote base64.decode base64.follow base64.before base64.atEnd base64.grouped base64.closed base64.signOf tests.without header.fieldsOf header.fields header.fieldsWithin inFront header.unfolded header.over header.ofEnding header.opensField header.rawLength header.closes header.isReport tests.every pieces.onFirst pieces.pieces pieces.before pieces.behind address.atom address.localPart address.freeEnds address.label address.domain address.plain address.canonical list.openingOf holds list.runToken list.quotedToken list.tokenAt list.firstToken grammar.afterAddress grammar.after list.listedBy list.listed list.addresses onlyOne date.effectiveDate keyfield.trimmedFront keyfield.trimmedBack keyfield.trimmed keyfield.nameOf keyfield.attribute keyfield.attributeOf keyfield.withAddress keyfield.withPreference keyfield.step keyfield.saidWith keyfield.ifLast keyfield.saidFrom keyfield.saidOf keyfield.limited keyfield.keyOf keyfield.withKey keyfield.fieldBy keyfield.fieldOf keyfield.naming keyfield.validFields keyfield.counted fields.fieldsIn fields.isKind fields.valuesOf outer-specs.canonicalOf outer-specs.senderBy outer-specs.senderIn outer-specs.anyReport outer-specs.isReported outer-specs.dateBy outer-specs.dateIn keys.countedIn keys.accepted keys.gossipIn list.afterAddress list.after
+unfolding messageRows messageOf firstOf isSome orElse message.payloadIn settings.taken message.messageBy message.directBy bind octets.lower octets.lowered octets.sameName octets.sameOctets octets.startsWith blank tokens.past tokens.kindOf tokens.control runs.belongs runs.run tokens.afterQuote base64.decode base64.follow base64.before base64.atEnd base64.grouped base64.closed base64.signOf tests.without header.fieldsOf header.fields header.fieldsWithin inFront header.unfolded header.over header.ofEnding header.opensField header.rawLength header.closes header.isReport tests.every pieces.onFirst pieces.pieces pieces.before pieces.behind address.atom address.localPart address.freeEnds address.label address.domain address.plain address.canonical list.openingOf holds list.runToken list.quotedToken list.tokenAt list.firstToken grammar.afterAddress grammar.after list.listedBy list.listed list.addresses onlyOne date.effectiveDate attributes.trimmedFront attributes.trimmedBack attributes.trimmed attributes.nameOf attributes.attribute attributes.attributeOf steps.withAddress steps.withPreference steps.step keyfield.saidWith keyfield.ifLast keyfield.saidFrom keyfield.saidOf keyfield.limited keyfield.keyOf keyfield.withKey keyfield.fieldBy keyfield.fieldOf keyfield.naming keyfield.validFor keyfield.chosen keyfield.validFields keyfield.counted fields.fieldsIn fields.isKind fields.valuesOf outer-specs.canonicalOf outer-specs.senderBy outer-specs.senderIn outer-specs.anyReport outer-specs.isReported outer-specs.dateBy outer-specs.dateIn keys.countedIn keys.accepted keys.gossipIn
 reads = (record { in-order = refl; brings = refl }, record { in-order = refl; brings = refl })
 
 free-octets : AllOctets free
