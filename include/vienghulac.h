@@ -39,7 +39,7 @@
  *   the machine  has addresses and sizes of 64 bits
  *   a bool       holds 0 or 1. In C and C++ it can hold nothing else; who calls from another language passes an octet
  *                that is 0 or 1
- *   the stack    has room: up to 210,000 octets for vienghulac_process, for a short mail as for a long one, and up to
+ *   the stack    has room: up to 312,000 octets for vienghulac_process, for a short mail as for a long one, and up to
  *                16,384 for every other call. A thread whose stack has VIENGHULAC_STACK octets may make every call; on a
  *                smaller one a call may overflow it
  */

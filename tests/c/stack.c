@@ -17,7 +17,7 @@
 enum {
     LONGEST = 65536,  /* octets of a block */
     SHORT = 8192,     /* two blocks that are no longer are read in less room */
-    PROCESS = 210000, /* octets of stack, as the header says of vienghulac_process */
+    PROCESS = 312000, /* octets of stack, as the header says of vienghulac_process */
     OTHERS = 16384,   /* and of every other call */
     GUARD = 1 << 20,
     PATTERN = 0xa5

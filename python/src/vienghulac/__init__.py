@@ -18,7 +18,7 @@ buffer just then, such as a socket that is sending it in another thread, or an i
 releases it; until then it shows the key that it was made of. So does, for ever, what was made out of a view before: a slice,
 a cast, a memoryview of it.
 
-Stack: `process` takes up to 210,000 octets of its thread's stack. Threads have more, unless `threading.stack_size` made it
+Stack: `process` takes up to 312,000 octets of its thread's stack. Threads have more, unless `threading.stack_size` made it
 small: a thread with less than 327,680 must not call it.
 
 Errors: a wrong type raises TypeError, a number below 0 ValueError. All other input has an answer, or a refusal, which
