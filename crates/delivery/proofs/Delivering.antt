@@ -6,7 +6,7 @@
 --     the rulesets                   carrying and delivering, for `deliver`; putting, for `put_message`; alone, for `deliver_alone`
 -- Assumes nothing.
 use Prim.Native.Nat.{ℕ}
-use mathlib.Core.Path.{_≡_, refl, sym, _∙_}
+use mathlib.Core.Path.{_≡_, refl, _∙_}
 use mathlib.Core.Bool.{Bool, true, false, not}
 use mathlib.Core.List.{List, [], _∷_}
 use native.Mathlib.Omega.{arith}
@@ -24,10 +24,10 @@ use Rattle.keys.specs.Answers.{gossipOf}
 use Rattle.message.specs.Answers.{directFrom, mailOf}
 use Rattle.message.specs.declared.Brought.{Brought}
 use Rattle.room.specs.Room.{gossipedIn, roomBeside}
-use Rattle.room.specs.Counting.{Reads, Seeks}
+use Rattle.room.specs.Counting.{Seeks}
 use Rattle.room.proofs.Beside.{beside-message}
 use Rattle.delivery.specs.Delivery.{roomRows, delivered}
-use Rattle.delivery.specs.Sending.{Listens, Sends, Carries}
+use Rattle.delivery.specs.Sending.{Listens, Carries}
 
 module _ (t tags sender key : List ℕ) (b : Brought) (payload : List ℕ) (limit : ℕ) (recipients listed places text : List ℕ)
     (h : Carries t tags sender key b payload limit recipients listed places text) where

@@ -4,7 +4,7 @@
 use Prim.Native.Nat.{ℕ}
 use mathlib.Core.Bool.{true, false}
 use mathlib.Core.List.{List, [], _∷_}
-use Rattle.refusals.specs.Rows.{Row, _when_, _unless_}
+use Rattle.refusals.specs.Rows.{Row, _unless_}
 use Rattle.refusals.specs.declared.Refusal.the-variants.{NoFreeSlot}
 use Rattle.update.specs.Message.{Message, hasRoom, applied}
 

@@ -25,6 +25,9 @@ pub enum Held {
     NoEntry,
 }
 
+// So many slots are looked through one by one sooner than their tags are compared at once.
+const FEW: usize = 8;
+
 // Is the slot used, and its address of this length?
 fn could_hold(slot: &[u8], length: usize) -> bool
     requires { ⌜ lib.ListN.length (now slot) ≡ slotLength ⌝ }
@@ -64,13 +67,16 @@ fn search(table: &[u8], tags: &[u32; Slot::MOST], address: &[u8], tag: u32, n: u
     found
 }
 
-// The same. The slots are looked through only where one of them has the tag: all tags are compared first, several at once.
+// The same. Where there are more than a few slots, they are looked through only if one of them has the tag: all tags are
+// compared first, several at once.
 fn lowest_with(table: &[u8], tags: &[u32; Slot::MOST], address: &[u8], tag: u32, n: usize) -> Found
     requires { ⌜ Seeks (now table) (now tags) (now address) tag n ⌝ }
     ensures { λ r. ⌜ r ≡ lowest (hasAddress (now (address .entry))) (now (table .entry)) 0 n ⌝ }
 {
-    if !tags::is_among(tags, n, tag) {
-        return Found::Nothing;
+    if FEW < n {
+        if !tags::is_among(tags, n, tag) {
+            return Found::Nothing;
+        }
     }
     search(table, tags, address, tag, n)
 }

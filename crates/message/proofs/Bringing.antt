@@ -6,14 +6,14 @@
 --     the ruleset              bringing, for `bring`
 -- Assumes nothing.
 use Prim.Native.Nat.{ℕ, _≤_}
-use mathlib.Core.Path.{_≡_, refl, sym, ap, _∙_}
+use mathlib.Core.Path.{_≡_, refl, sym, _∙_}
 use mathlib.Core.Bool.{true}
 use mathlib.Core.List.{List}
-use mathlib.Core.Option.{Option, some}
+use mathlib.Core.Option.{Option}
 use native.Mathlib.Omega.{arith}
 use borrow.Author.Needs.{needs}
-use lib.ListN.{length, take}
-use Rattle.header.specs.Header.{FieldText, readable, limit}
+use lib.ListN.{length}
+use Rattle.header.specs.Header.{readable, limit}
 use Rattle.header.proofs.Fields.{clear-fits}
 use Rattle.date.specs.Date.{effectiveDate}
 use Rattle.date.specs.Answers.{datedOf, optionOf}
@@ -21,7 +21,6 @@ use Rattle.date.specs.declared.Dated.{Dated}
 use Rattle.fields.specs.Fields.{fieldsIn}
 use Rattle.fields.specs.declared.Survey.{Survey}
 use Rattle.address.specs.Address.{isCanonical}
-use Rattle.heads.specs.Head.{timeLimit}
 use Rattle.keyfield.specs.Field.{Field}
 use Rattle.slots.specs.Slot.{keyLimit}
 use Rattle.outer.specs.Outer.{saidDate, dateIn, recipientsIn}
@@ -33,8 +32,7 @@ use Rattle.keyowner.specs.declared.Own.the-variants.{Key, NoKey}
 use Rattle.keys.specs.Keys.{countedIn, gossipIn}
 use Rattle.message.specs.Message.{directBy, messageBy}
 use Rattle.message.specs.Lent.{Sent}
-use Rattle.message.specs.Answers.{directFrom, mailOf, OwnIn, Ready, BringsAs}
-use Rattle.message.specs.declared.Brought.{Brought}
+use Rattle.message.specs.Answers.{directFrom, mailOf, OwnIn, BringsAs}
 
 pub block-short : (s : List ℕ) → readable s ≡ true → length s ≤ limit
 block-short s h = clear-fits s true (sym h) refl

@@ -10,7 +10,7 @@ use Prim.Native.Nat.{ℕ, _-_, _<_, _≤_}
 use mathlib.Core.Path.{_≡_, sym, _∙_}
 use mathlib.Core.Bool.{true}
 use mathlib.Core.List.{List, []}
-use mathlib.Core.Option.{some, none}
+use mathlib.Core.Option.{none}
 use native.Mathlib.Omega.{arith}
 use native.Mathlib.Nat.{sub-zero}
 use borrow.Author.Needs.{needs}
@@ -36,9 +36,9 @@ use Rattle.outer.specs.declared.Sender.{Sender}
 use Rattle.outer.specs.declared.Sender.the-variants.{Address, NotOne}
 use Rattle.outer.proofs.Senders.{answer-none, left-is, left-within}
 use Rattle.keys.specs.Keys.{accepted, gossipIn}
-use Rattle.message.specs.Message.{messageRows, messageBy, messageOf}
+use Rattle.message.specs.Message.{messageRows, messageOf}
 use Rattle.message.specs.Lent.{Lent, Opened, Sent}
-use Rattle.message.specs.Answers.{Passes, JudgedAs, mailOf, heardIn, BringsAs, Brings, ReadAs}
+use Rattle.message.specs.Answers.{Passes, JudgedAs, BringsAs, Brings, ReadAs}
 use Rattle.message.specs.declared.Brought.{Brought}
 use Rattle.message.specs.declared.Judged.{Judged}
 use Rattle.message.specs.declared.Judged.the-variants.{Report, Unreadable, Passed, Searched}

@@ -9,7 +9,7 @@
 -- Assumes nothing.
 use Prim.Native.Nat.{ℕ, _-_, _≤_}
 use mathlib.Core.Path.{_≡_, refl, sym, ap, _∙_}
-use mathlib.Core.Bool.{Bool, true, _&&_}
+use mathlib.Core.Bool.{true, _&&_}
 use mathlib.Core.List.{List, []}
 use mathlib.Core.Option.{Option, some, none}
 use native.Mathlib.Omega.{arith}
@@ -18,7 +18,6 @@ use borrow.Author.Needs.{needs}
 use borrow.Author.Tests.{leb-true}
 use lib.Dec.{leb}
 use lib.ListN.{length, take, drop}
-use Rattle.octets.specs.Written.{onto}
 use Rattle.octets.proofs.Tests.{and-left, and-right}
 use Rattle.refusals.specs.Rows.{firstOf, answerOf}
 use Rattle.refusals.specs.declared.Refusal.{Refusal}
@@ -26,17 +25,15 @@ use Rattle.refusals.specs.declared.Answer.{Answer}
 use Rattle.refusals.specs.declared.Answer.the-variants.{Done, Refused}
 use Rattle.refusals.proofs.Rows.{refused-is, front-refuses}
 use Rattle.settings.specs.declared.Gossip.{Gossip}
-use Rattle.fields.specs.Fields.{fieldsIn}
 use Rattle.fields.specs.declared.Survey.{Survey}
 use Rattle.fields.proofs.Walking.{survey-readable}
 use Rattle.table.specs.Tagged.{Open}
 use Rattle.inspect.specs.Inspecting.{tableRows, Opens}
-use Rattle.update.specs.Message.{Message, Gossiped, applied}
+use Rattle.update.specs.Message.{Gossiped, applied}
 use Rattle.roll.specs.Index.{Indexed}
 use Rattle.roll.specs.declared.Rolled.{Rolled}
 use Rattle.recipients.specs.Answers.{Gathers, GatheredAs}
 use Rattle.recipients.proofs.RecipientRoll.{gathered, gathered-index, gathered-within, gathered-tags, gathered-places}
-use Rattle.keys.specs.Keys.{gossipIn}
 use Rattle.keys.specs.Answers.{gossipOf}
 use Rattle.message.specs.Message.{messageRows, messageOf}
 use Rattle.message.specs.Answers.{mailOf, heardIn, Brings, AloneAs, CarryingAs, ReadAs}

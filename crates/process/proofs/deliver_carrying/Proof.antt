@@ -1,5 +1,4 @@
 -- `process::deliver_carrying` meets its contract: the laws of `Processing` answer every need. Assumes nothing.
-use borrow.Author.Needs.{needs}
 use Rattle.process.proofs.Processing.{rolling, carried}
 use Rattle.process.proofs.deliver_carrying as fn
 
