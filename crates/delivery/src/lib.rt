@@ -69,7 +69,8 @@ fn update_sender(
     key: &[u8],
 )
     requires { ⌜ Sends (now table) (now tags) (now sender) (now key) brought ⌝ }
-    ensures { λ _. ⌜ now (table .exit) ≡ put (now (table .entry)) (now (sender .entry)) (updated (brought .date) (directFrom (brought .date) (now (key .entry)) (brought .own))) ⌝ }
+    ensures { λ _. ⌜ now (table .exit) ≡ put (now (table .entry)) (now (sender .entry))
+        (updated (brought .date) (directFrom (brought .date) (now (key .entry)) (brought .own))) ⌝ }
     ensures { λ _. ⌜ Open (now (table .exit)) (now (tags .exit)) ⌝ }
 {
     let date = brought.date;
@@ -98,7 +99,8 @@ fn put_message(
 )
     requires { ⌜ Carries (now table) (now tags) (now sender) (now key) brought (now payload) limit (now recipients) (now listed) (now places) (now text) ⌝ }
     ensures { λ _. ⌜ now (table .exit)
-        ≡ applied (now (table .entry)) (mailOf (now (sender .entry)) (now (key .entry)) brought (gossipOf limit (now (recipients .entry)) (now (payload .entry)))) ⌝ }
+        ≡ applied (now (table .entry))
+        (mailOf (now (sender .entry)) (now (key .entry)) brought (gossipOf limit (now (recipients .entry)) (now (payload .entry)))) ⌝ }
 {
     update_sender(table, tags, brought, sender, key);
     hear_all(
@@ -132,7 +134,8 @@ pub fn deliver(
     ensures { λ r. ⌜ r ≡ answerOf (firstOf (roomRows (now (table .entry))
         (mailOf (now (sender .entry)) (now (key .entry)) brought (gossipOf limit (now (recipients .entry)) (now (payload .entry)))))) ⌝ }
     ensures { λ _. ⌜ now (table .exit)
-        ≡ delivered (now (table .entry)) (mailOf (now (sender .entry)) (now (key .entry)) brought (gossipOf limit (now (recipients .entry)) (now (payload .entry)))) ⌝ }
+        ≡ delivered (now (table .entry))
+        (mailOf (now (sender .entry)) (now (key .entry)) brought (gossipOf limit (now (recipients .entry)) (now (payload .entry)))) ⌝ }
 {
     if !room::has_room(
         table,

@@ -1,5 +1,6 @@
-// The head of an entry: the numbers that stand in octets 2 to 39, behind the mark. What stands where, the conditions on a head, what changes in one, and how it is read
-// and written. It is lent as a part of 40 octets, of which the first two are left as they are.
+// The head of an entry: the numbers that stand in octets 2 to 39, behind the mark. What stands where, the conditions on
+// a head, what changes in one, and how it is read and written. It is lent as a part of 40 octets, of which the first
+// two are left as they are.
 ghost use Prim.Native.Nat.{_≤_, max};
 ghost use mathlib.Core.Path.{_≡_};
 ghost use mathlib.Core.Bool.{cond};
@@ -25,8 +26,8 @@ impl Head {
     // "Times are seconds since 1970-01-01 UTC, 0 to 253,402,300,799."
     pub const TIME_LIMIT: u64 = 253402300799;
 
-    // The widths of a length and of a time, and the place of each number, from the one before. Octets 5 to 7, behind the bits, and
-    // 36 to 39, behind the lengths, must be clear.
+    // The widths of a length and of a time, and the place of each number, from the one before. Octets 5 to 7, behind
+    // the bits, and 36 to 39, behind the lengths, must be clear.
     pub const LENGTH_WIDTH: usize = 2;
 
     pub const TIME_WIDTH: usize = 8;
@@ -110,7 +111,8 @@ impl Head {
             & (!self.direct | self.seen)
     }
 
-    // The direct half: where it is present, a key of 1 to `limit` octets, and a timestamp in range and not above last seen; where it is absent, nothing but zeros.
+    // The direct half: where it is present, a key of 1 to `limit` octets, and a timestamp in range and not above last
+    // seen; where it is absent, nothing but zeros.
     pub fn direct_sound(self, limit: usize) -> bool
         ensures { λ r. ⌜ r ≡ directSound limit self ⌝ }
     {

@@ -108,7 +108,8 @@ fn read_sent(
     key: &mut [u8],
 ) -> Reading
     requires { ⌜ Sent (settings .«key_limit») receipt (now outer) survey (now text) (now sender) (now key) ⌝ }
-    ensures { λ r. ⌜ ReadAs (settings .«key_limit») receipt (now (outer .entry)) (now (payload .entry)) (settings .gossip) (now (sender .entry)) (now (key .exit)) r ⌝ }
+    ensures { λ r. ⌜ ReadAs (settings .«key_limit») receipt (now (outer .entry)) (now (payload .entry)) (settings .gossip)
+        (now (sender .entry)) (now (key .exit)) r ⌝ }
 {
     let limit = settings.key_limit;
     match judge(outer, survey, payload, settings, text) {
@@ -134,7 +135,8 @@ fn read_on(
     key: &mut [u8],
 ) -> Reading
     requires { ⌜ Opened (settings .«key_limit») receipt (now outer) survey (now text) (now sender) (now key) ⌝ }
-    ensures { λ r. ⌜ ReadAs (settings .«key_limit») receipt (now (outer .entry)) (now (payload .entry)) (settings .gossip) (now (sender .exit)) (now (key .exit)) r ⌝ }
+    ensures { λ r. ⌜ ReadAs (settings .«key_limit») receipt (now (outer .entry)) (now (payload .entry)) (settings .gossip)
+        (now (sender .exit)) (now (key .exit)) r ⌝ }
 {
     match outer::sender_of(outer, survey, text, sender) {
         Sender::Address(n) => read_sent(
@@ -163,7 +165,8 @@ pub fn read(
     key: &mut [u8],
 ) -> Reading
     requires { ⌜ Lent (settings .«key_limit») (now outer) (now text) (now sender) (now key) ⌝ }
-    ensures { λ r. ⌜ ReadAs (settings .«key_limit») receipt (now (outer .entry)) (now (payload .entry)) (settings .gossip) (now (sender .exit)) (now (key .exit)) r ⌝ }
+    ensures { λ r. ⌜ ReadAs (settings .«key_limit») receipt (now (outer .entry)) (now (payload .entry)) (settings .gossip)
+        (now (sender .exit)) (now (key .exit)) r ⌝ }
 {
     if Head::TIME_LIMIT < receipt {
         return Reading::Refused(Refusal::ReceiptTime);

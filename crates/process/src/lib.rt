@@ -39,7 +39,8 @@ fn deliver_carrying(
     ensures { λ r. ⌜ r ≡ answerOf (firstOf (roomRows (now (table .entry))
         (mailOf (now (sender .entry)) (now (key .entry)) brought (heardIn keyLimit (now (outer .entry)) (now (payload .entry)))))) ⌝ }
     ensures { λ _. ⌜ now (table .exit)
-        ≡ delivered (now (table .entry)) (mailOf (now (sender .entry)) (now (key .entry)) brought (heardIn keyLimit (now (outer .entry)) (now (payload .entry)))) ⌝ }
+        ≡ delivered (now (table .entry))
+        (mailOf (now (sender .entry)) (now (key .entry)) brought (heardIn keyLimit (now (outer .entry)) (now (payload .entry)))) ⌝ }
 {
     let mut roll = [0u8; header::LIMIT];
     let mut listed = [0u32; MOST_RECIPIENTS];

@@ -74,7 +74,8 @@ fn set_field(table: &mut [u8], i: usize, date: u64, key: &[u8], mutual: bool)
     requires { ⌜ (i < slots (now table)) × (sound (slotAt (now table) i) ≡ true) × (date ≤ timeLimit)
         × (1 ≤ length (now key)) × (length (now key) ≤ keyLimit) ⌝ }
     ensures { λ _. ⌜ now (table .exit) ≡ withSlot (now (table .entry)) i
-        (slotOf (withDirect (record { timestamp = date; key = now (key .entry); «mutual» = «mutual» }) (seenBy date (entryOf (slotAt (now (table .entry)) i))))) ⌝ }
+        (slotOf (withDirect (record { timestamp = date; key = now (key .entry); «mutual» = «mutual» })
+        (seenBy date (entryOf (slotAt (now (table .entry)) i))))) ⌝ }
 {
     table::raise_seen(table, i, date);
     table::set_direct(table, i, date, key, mutual);
