@@ -18,10 +18,10 @@ from pathlib import Path
 ROOT = Path(__file__).resolve().parents[1]
 sys.path.insert(0, str(ROOT / "tests" / "independent"))
 
-from paper.base64 import encode  # noqa: E402
-from paper.header import BLOCK_LIMIT  # noqa: E402
-from paper.table import Entry, table_of  # noqa: E402
-from paper.writing import write_autocrypt, write_gossip  # noqa: E402
+from scope.base64 import encode  # noqa: E402
+from scope.header import BLOCK_LIMIT  # noqa: E402
+from scope.table import Entry, table_of  # noqa: E402
+from scope.writing import write_autocrypt, write_gossip  # noqa: E402
 
 DATE = 1_690_000_000
 RECEIPT = 1_700_000_000  # also in measure.c

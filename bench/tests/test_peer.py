@@ -13,7 +13,7 @@ sys.path += [str(ROOT / "tests" / "independent"), str(ROOT / "tests" / "differen
 
 from cases import Cases  # noqa: E402
 from library import Library  # noqa: E402
-from paper import processing, recommending, table as tables, writing  # noqa: E402
+from scope import processing, recommending, table as tables, writing  # noqa: E402
 from probe import SEED  # noqa: E402
 
 CASES = int(os.environ.get("VIENGHULAC_PEER_CASES", "500"))

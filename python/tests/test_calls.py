@@ -7,8 +7,8 @@ import threading
 import pytest
 from cases import Cases
 from letters import RECEIPT, ROOT, gossip, letter, table_with
-from paper import processing, recommending
-from paper import table as tables
+from scope import processing, recommending
+from scope import table as tables
 
 from vienghulac import (
     REFUSALS, SLOT, Advice, Gossip, Refused, Table, check, entries, process, recommend, target_key,

@@ -9,7 +9,7 @@ from email.message import EmailMessage
 import pytest
 from cases import Cases
 from letters import RECEIPT, letter
-from paper import writing
+from scope import writing
 
 from vienghulac import Refused, Table, autocrypt_field, autocrypt_header, gossip_field, gossip_header, process, target_key
 

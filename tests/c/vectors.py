@@ -11,7 +11,7 @@ from pathlib import Path
 sys.path.insert(0, str(Path(__file__).resolve().parents[1] / "independent"))
 
 from cases import Cases  # noqa: E402
-from paper import processing, recommending, table as tables, writing  # noqa: E402
+from scope import processing, recommending, table as tables, writing  # noqa: E402
 
 CHECK, PROCESS, RECOMMEND, TARGET_KEY, WRITE_AUTOCRYPT, WRITE_GOSSIP, ENTRY = range(1, 8)
 

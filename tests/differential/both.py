@@ -1,7 +1,7 @@
 """The shipped library with the independent program beside it: each answer of the one is held to the other's."""
 import against  # noqa: F401  (the independent program is importable from here on)
 from library import Library
-from paper import calls
+from scope import calls
 
 
 def first_difference(got: tuple, answer: tuple) -> str:
@@ -16,7 +16,7 @@ def first_difference(got: tuple, answer: tuple) -> str:
 
 
 class Both:
-    """The calls of `paper.calls`, made on both. A test that is written for one program runs on this as well."""
+    """The calls of `scope.calls`, made on both. A test that is written for one program runs on this as well."""
 
     def __init__(self):
         self.library = Library()

@@ -2,7 +2,7 @@
 import unittest
 
 from against import Cases
-from paper import address
+from scope import address
 from probe import SEED, Probe
 
 

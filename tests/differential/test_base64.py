@@ -2,7 +2,7 @@
 import unittest
 
 from against import Cases
-from paper import base64
+from scope import base64
 from probe import SEED, Probe
 
 

@@ -2,7 +2,7 @@
 import unittest
 
 from against import Cases
-from paper import date
+from scope import date
 from probe import SEED, Probe
 
 MONTHS = b"Jan Feb Mar Apr May Jun Jul Aug Sep Oct Nov Dec".split()

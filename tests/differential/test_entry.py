@@ -4,7 +4,7 @@ from collections import Counter
 
 from against import Cases
 from both import Both
-from paper import table as tables
+from scope import table as tables
 from probe import SEED
 
 SLOT, NUMBERS = tables.SLOT, tables.NUMBERS

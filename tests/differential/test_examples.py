@@ -5,8 +5,8 @@ import unittest
 from both import Both
 import examples
 from examples import ALICE, BOB, BOB_KEY, CAROL, MAILS, RECEIPT, SETUP_DATE, TO_BOB_DATE, TO_BOTH_DATE, with_crlf
-from paper.processing import SKIP, TAKE, UNSET
-from paper.table import SLOT, TIME_LIMIT, Entry, entries, table_of
+from scope.processing import SKIP, TAKE, UNSET
+from scope.table import SLOT, TIME_LIMIT, Entry, entries, table_of
 
 BOTH = Both()
 SWITCHES = list(itertools.product((False, True), repeat=2))

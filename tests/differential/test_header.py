@@ -3,7 +3,7 @@ import unittest
 
 import mail
 from against import Cases
-from paper import header
+from scope import header
 from probe import SEED, Probe
 
 

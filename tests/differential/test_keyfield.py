@@ -2,7 +2,7 @@
 import unittest
 
 from against import Cases
-from paper import address, base64, keyfield
+from scope import address, base64, keyfield
 from probe import SEED, Probe
 
 GOOD = b"addr=a@b.example; prefer-encrypt=mutual; keydata=Zm9v"

@@ -3,7 +3,7 @@ import unittest
 
 import mail
 from against import Cases
-from paper import address, header
+from scope import address, header
 from probe import SEED, Probe
 
 

@@ -6,7 +6,7 @@ import unittest
 from pathlib import Path
 
 from against import Cases
-from paper import listing, table as tables
+from scope import listing, table as tables
 from probe import ROOT, SEED, Probe
 
 SLOT = tables.SLOT

@@ -4,7 +4,7 @@ from collections import Counter
 
 from against import Cases
 from both import Both
-from paper import date, header, keyfield, processing, table as tables
+from scope import date, header, keyfield, processing, table as tables
 from probe import SEED
 
 

@@ -5,7 +5,7 @@ import unittest
 
 from against import Cases
 from both import Both
-from paper import recommending, table as tables
+from scope import recommending, table as tables
 from probe import SEED
 
 GAP = recommending.GAP_LIMIT

@@ -4,7 +4,7 @@ import unittest
 
 import against  # noqa: F401  makes the independent program importable
 from library import Library
-from paper import base64, keyfield, processing, table as tables, writing
+from scope import base64, keyfield, processing, table as tables, writing
 from probe import Probe
 from rfc4648 import VECTORS
 

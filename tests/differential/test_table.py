@@ -4,7 +4,7 @@ from dataclasses import replace
 
 from against import Cases
 from library import Library
-from paper import table as tables
+from scope import table as tables
 from probe import SEED, Probe
 
 SLOT = tables.SLOT

@@ -2,7 +2,7 @@
 import unittest
 
 from against import Cases
-from paper import tokens
+from scope import tokens
 from probe import SEED, Probe
 
 

@@ -3,8 +3,8 @@ import unittest
 
 from against import Cases
 from both import Both
-from paper import writing
-from paper.address import canonical
+from scope import writing
+from scope.address import canonical
 from probe import SEED, Probe
 
 

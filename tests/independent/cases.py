@@ -10,14 +10,14 @@ cases in the same order; nothing is stored.
 
 import random
 
-from paper import base64
-from paper.date import DAY, DAY_NAMES, HOUR, MINUTE, MONTH_NAMES, ZONE_HOURS, days_in_month
-from paper.date import days_in_year
-from paper.header import BLOCK_LIMIT
-from paper.recommending import GAP_LIMIT, RECIPIENTS_LIMIT
-from paper.table import (BITS_AT, KEY_LIMIT, NUMBERS, SLOT, SLOTS_LIMIT, TIME_LIMIT, Entry, slot_of, table_of)
-from paper.tokens import ATOM_SIGNS, COMMENT_DEPTH
-from paper.writing import write_autocrypt, write_gossip
+from scope import base64
+from scope.date import DAY, DAY_NAMES, HOUR, MINUTE, MONTH_NAMES, ZONE_HOURS, days_in_month
+from scope.date import days_in_year
+from scope.header import BLOCK_LIMIT
+from scope.recommending import GAP_LIMIT, RECIPIENTS_LIMIT
+from scope.table import (BITS_AT, KEY_LIMIT, NUMBERS, SLOT, SLOTS_LIMIT, TIME_LIMIT, Entry, slot_of, table_of)
+from scope.tokens import ATOM_SIGNS, COMMENT_DEPTH
+from scope.writing import write_autocrypt, write_gossip
 
 # The people who write to one another in the cases. They are few, so that tables,
 # messages and recipient lists meet.

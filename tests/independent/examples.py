@@ -7,10 +7,10 @@ import hashlib
 import itertools
 import pathlib
 
-from paper import header, keyfield
-from paper.processing import SKIP, TAKE, UNSET
-from paper.recommending import AVAILABLE, DISABLE, DISCOURAGE, ENCRYPT
-from paper.table import SLOT, Entry, entries, table_of
+from scope import header, keyfield
+from scope.processing import SKIP, TAKE, UNSET
+from scope.recommending import AVAILABLE, DISABLE, DISCOURAGE, ENCRYPT
+from scope.table import SLOT, Entry, entries, table_of
 
 MESSAGES = pathlib.Path(__file__).parent / "tests" / "messages"
 
@@ -66,7 +66,7 @@ CAROL_TOLD = Entry(CAROL, gossip_timestamp=TO_BOTH_DATE, gossip_key=CAROL_KEY)
 
 
 class Examples:
-    """To be mixed into a test case, which names the `program`: whatever has the calls of `paper.calls`."""
+    """To be mixed into a test case, which names the `program`: whatever has the calls of `scope.calls`."""
 
     program = None
 

@@ -1,6 +1,6 @@
 """Demand 3 run: messages in many orders, and each of its premises dropped once.
 
-The classes are mixed into test cases, which name the `program`: whatever has the calls of `paper.calls`.
+The classes are mixed into test cases, which name the `program`: whatever has the calls of `scope.calls`.
 """
 
 import itertools
@@ -8,8 +8,8 @@ import random
 from dataclasses import dataclass
 
 from mails import A, B, C, D, RECEIPT, gossip_field, key_field, mail
-from paper.processing import SKIP, TAKE, UNSET
-from paper.table import TIME_LIMIT, Entry, entries, table_of
+from scope.processing import SKIP, TAKE, UNSET
+from scope.table import TIME_LIMIT, Entry, entries, table_of
 
 ONE, TWO = b"one", b"two"
 

@@ -8,7 +8,7 @@ from pathlib import Path
 ROOT = Path(__file__).resolve().parents[2]
 sys.path.insert(0, str(ROOT / "tests" / "independent"))
 
-from paper import base64, date, listing, table, tokens  # noqa: E402
+from scope import base64, date, listing, table, tokens  # noqa: E402
 
 CRATES = ROOT / "crates"
 

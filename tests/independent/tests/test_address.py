@@ -2,7 +2,7 @@
 
 import unittest
 
-from paper.address import addresses, canonical, is_plain
+from scope.address import addresses, canonical, is_plain
 
 CONTROLS = [octet for octet in list(range(32)) + [127] if octet != 9]
 ATOM_SIGNS = b"!#$%&'*+-/=?^_`{|}~"

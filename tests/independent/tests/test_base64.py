@@ -4,7 +4,7 @@ import base64 as standard
 import random
 import unittest
 
-from paper import base64
+from scope import base64
 from rfc4648 import VECTORS
 
 

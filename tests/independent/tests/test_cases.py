@@ -6,11 +6,11 @@ import types
 import unittest
 from collections import Counter
 
-import paper
+import scope
 from cases import Cases
-from paper import (address, base64, date, header, keyfield, listing, processing, recommending, table,
+from scope import (address, base64, date, header, keyfield, listing, processing, recommending, table,
                    tokens, writing)
-from paper.table import SLOT
+from scope.table import SLOT
 
 SEED = 20171107
 

@@ -3,8 +3,8 @@
 import datetime
 import unittest
 
-from paper import date
-from paper.date import effective, seconds
+from scope import date
+from scope.date import effective, seconds
 
 LIMIT = 253_402_300_799
 

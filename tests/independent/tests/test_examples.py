@@ -9,9 +9,9 @@ import unittest
 import examples
 from examples import (ALICE_KEY, BOB, BOB_KEY, CAROL, CAROL_KEY, PAYLOAD, RECEIPT, SETUP, SETUP_DATE, TO_BOB,
                       TO_BOB_DATE, TO_BOTH, TO_BOTH_DATE, first_packet_fingerprint, key_of, with_crlf)
-from paper import address, calls, date, header, listing
-from paper.processing import UNSET
-from paper.table import SLOT
+from scope import address, calls, date, header, listing
+from scope.processing import UNSET
+from scope.table import SLOT
 
 
 class Copies(unittest.TestCase):

@@ -3,7 +3,7 @@
 import unittest
 
 import orders
-from paper import calls
+from scope import calls
 
 
 class EachPremise(orders.EachPremise, unittest.TestCase):

@@ -2,7 +2,7 @@
 
 import unittest
 
-from paper.header import BLOCK_LIMIT, fields, is_report, same_name, values_of
+from scope.header import BLOCK_LIMIT, fields, is_report, same_name, values_of
 
 
 class Lines(unittest.TestCase):

@@ -3,7 +3,7 @@
 import base64 as standard
 import unittest
 
-from paper.keyfield import Field, counted, read
+from scope.keyfield import Field, counted, read
 
 GOOD = b"addr=a@b.example; keydata=Zm9v"
 

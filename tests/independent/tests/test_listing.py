@@ -2,8 +2,8 @@
 
 import unittest
 
-from paper.listing import listing
-from paper.table import SLOT, TIME_LIMIT, Entry, slot_of, table_of
+from scope.listing import listing
+from scope.table import SLOT, TIME_LIMIT, Entry, slot_of, table_of
 
 
 class Lines(unittest.TestCase):

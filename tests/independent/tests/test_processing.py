@@ -3,8 +3,8 @@
 import unittest
 
 from mails import A, B, C, D, RECEIPT, date_text, gossip_field, key_field, mail
-from paper.processing import SKIP, TAKE, UNSET, process
-from paper.table import SLOT, TIME_LIMIT, Entry, check, entries, slot_of, table_of
+from scope.processing import SKIP, TAKE, UNSET, process
+from scope.table import SLOT, TIME_LIMIT, Entry, check, entries, slot_of, table_of
 
 
 class Case(unittest.TestCase):

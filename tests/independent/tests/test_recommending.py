@@ -2,9 +2,9 @@
 
 import unittest
 
-from paper.recommending import (AVAILABLE, DISABLE, DISCOURAGE, ENCRYPT, GAP_LIMIT, recommend,
+from scope.recommending import (AVAILABLE, DISABLE, DISCOURAGE, ENCRYPT, GAP_LIMIT, recommend,
                                 target_key)
-from paper.table import SLOT, Entry, slot_of, table_of
+from scope.table import SLOT, Entry, slot_of, table_of
 
 GAP = 3_024_000
 

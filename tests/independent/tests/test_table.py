@@ -3,8 +3,8 @@
 import random
 import unittest
 
-from paper import table
-from paper.table import (ADDRESS_AT, BITS_AT, DIRECT_KEY_AT, GOSSIP_KEY_AT, NUMBERS, SLOT, TIME_LIMIT, Entry,
+from scope import table
+from scope.table import (ADDRESS_AT, BITS_AT, DIRECT_KEY_AT, GOSSIP_KEY_AT, NUMBERS, SLOT, TIME_LIMIT, Entry,
                          check, entries, entry_numbers, entry_of, find, free_slots, is_sound_alone, slot_of,
                          table_of)
 

@@ -2,7 +2,7 @@
 
 import unittest
 
-from paper import tokens
+from scope import tokens
 
 CONTROLS = [octet for octet in list(range(32)) + [127] if octet != 9]
 

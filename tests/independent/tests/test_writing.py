@@ -2,8 +2,8 @@
 
 import unittest
 
-from paper import header, keyfield
-from paper.writing import write_autocrypt, write_gossip
+from scope import header, keyfield
+from scope.writing import write_autocrypt, write_gossip
 
 EXAMPLE = b"Autocrypt: addr=a@b.example; prefer-encrypt=mutual; keydata=\r\n Zm9v\r\n"
 PLAIN = b"Autocrypt: addr=a@b.example; keydata=\r\n Zm9v\r\n"

@@ -1,6 +1,6 @@
 """The effective date."""
 
-from paper.tokens import digits_end, is_digit, is_letter, letters_end, skip
+from scope.tokens import digits_end, is_digit, is_letter, letters_end, skip
 
 DAY_NAMES = [b"mon", b"tue", b"wed", b"thu", b"fri", b"sat", b"sun"]
 

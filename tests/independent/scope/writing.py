@@ -1,8 +1,8 @@
 """Writing Autocrypt and Autocrypt-Gossip fields: refusals 9, 11 and 12."""
 
-from paper import base64
-from paper.address import canonical, is_plain
-from paper.table import KEY_LIMIT
+from scope import base64
+from scope.address import canonical, is_plain
+from scope.table import KEY_LIMIT
 
 
 def write_autocrypt(address: bytes, key: bytes, mutual: bool, room: int) -> tuple[int, bytes]:

@@ -2,8 +2,8 @@
 
 import sys
 
-from paper import table as tables
-from paper.table import SLOT, Entry
+from scope import table as tables
+from scope.table import SLOT, Entry
 
 # "A listing program reads a table of at most 14 slots from standard input."
 LISTING_SLOTS = 14

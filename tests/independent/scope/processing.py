@@ -2,10 +2,10 @@
 
 from dataclasses import replace
 
-from paper import date, header, keyfield, table as tables
-from paper.address import addresses, canonical
-from paper.keyfield import Field
-from paper.table import Entry
+from scope import date, header, keyfield, table as tables
+from scope.address import addresses, canonical
+from scope.keyfield import Field
+from scope.table import Entry
 
 # "The gossip setting is take, skip or unset"
 UNSET = 0

@@ -2,7 +2,7 @@
 
 from dataclasses import dataclass
 
-from paper.address import canonical, is_plain
+from scope.address import canonical, is_plain
 
 # "1 to 256 slots of 4,392 octets."
 SLOT = 4_392

@@ -1,6 +1,6 @@
 """Plain addresses, their canonical form, and lists of them."""
 
-from paper.tokens import (QUOTE, atom_end, is_atom_octet, is_digit, is_letter, quoted, skip)
+from scope.tokens import (QUOTE, atom_end, is_atom_octet, is_digit, is_letter, quoted, skip)
 
 # "A plain address has at most 254 octets. The local part is 1 to 64 octets", "labels
 # ... of 1 to 63"

@@ -2,9 +2,9 @@
 
 from dataclasses import dataclass
 
-from paper import base64
-from paper.address import canonical, is_plain
-from paper.table import KEY_LIMIT
+from scope import base64
+from scope.address import canonical, is_plain
+from scope.table import KEY_LIMIT
 
 
 @dataclass(frozen=True)

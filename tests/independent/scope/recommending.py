@@ -1,8 +1,8 @@
 """Recommending: refusals 1, 2 and 10, the advice, and the target keys."""
 
-from paper import table as tables
-from paper.address import addresses
-from paper.table import DIRECT_KEY_AT, GOSSIP_KEY_AT, SLOT, Entry
+from scope import table as tables
+from scope.address import addresses
+from scope.table import DIRECT_KEY_AT, GOSSIP_KEY_AT, SLOT, Entry
 
 # The advices, and what stands for none where the call refuses.
 REFUSED = 0
