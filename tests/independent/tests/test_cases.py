@@ -292,7 +292,7 @@ class EveryLine(unittest.TestCase):
     """Every line of every function of the independent program is reached by some case."""
 
     def test_every_line(self):
-        folder = pathlib.Path(paper.__file__).parent
+        folder = pathlib.Path(scope.__file__).parent
         reached: dict[str, set[int]] = {str(path): set() for path in folder.glob("*.py")}
 
         def local(frame, event, _argument):
