@@ -1,12 +1,15 @@
-# make demo:    the whole job on an example: builds the library and the wheel, and runs the command line on a mailbox
+# make demo:    the whole job on an example: proves and builds the library and the wheel, and runs the command on a mailbox
 # make test:    the gate, as it runs on every change (proofs, must-fail edits, programs, all other tests)
-# make lib:     the libraries for this machine, below build/; with MACHINES="x86_64 aarch64" also for the other one
+# make lib:     the library for this machine, below build/; with MACHINES="x86_64 aarch64" also for the other one
+# make probe:   the library of what the tests ask besides, likewise
 # make wheel:   the Python package, build/wheel/vienghulac-*.whl
 # make bench:   the library beside C, GMime and Python's email, in one table (see bench/README.md)
+# make fuzz:    the library beside the C program of bench/, on inputs that a fuzzer makes, for SECONDS (600)
 # make install: the C library, its header and its pkg-config file, below PREFIX
-.PHONY: demo test lib wheel bench install clean
+.PHONY: demo test lib probe wheel bench fuzz install clean
 
 PREFIX ?= /usr/local
+SECONDS ?= 600
 VERSION := $(shell sed -n 's/^version = "\(.*\)"/\1/p' python/pyproject.toml)
 INTO := $(DESTDIR)$(PREFIX)
 
@@ -17,13 +20,20 @@ test:
 	@.ci/run
 
 lib:
-	@tools/install
+	@tools/install build
 	@tools/build-lib cabi vienghulac $(MACHINES)
+
+probe:
+	@tools/install build
 	@tools/build-lib probe vienghulac_probe $(MACHINES)
 
 bench: lib
 	@tools/install bench
 	@python3 bench/run.py
+
+fuzz: lib
+	@tools/install test
+	@tests/fuzz/run $(SECONDS)
 
 wheel: lib
 	@tools/build-wheel

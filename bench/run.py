@@ -4,7 +4,7 @@ run.py --smoke: every program once on few messages, no times; the last line is '
 
 The inputs are made by messages.py, the C programs are measured by measure.c, Python's here; the passes of both take turns
 (three of C, one of Python) and the best one counts. All times are CPU time. Everything is written below build/bench/; with --record the tables also go
-into README.md and the plots beside it.
+into README.md, under the machine's kind, and the plots beside it.
 """
 import argparse
 import ctypes
@@ -380,13 +380,32 @@ def plot(plots: dict[str, dict[str, list[tuple[float, float]]]]) -> list[Path]:
     return made
 
 
+def processor() -> str:
+    """What the processor calls itself; /proc/cpuinfo has no name of it on every machine."""
+    told = subprocess.run(["lscpu"], capture_output=True, text=True).stdout if shutil.which("lscpu") else ""
+    for text in (Path("/proc/cpuinfo").read_text(), told):
+        name = re.search(r"^model name\s*:\s*(.*)", text, re.MULTILINE | re.IGNORECASE)
+        if name and name.group(1).strip(" -"):
+            return name.group(1)
+    return "unknown processor"
+
+
 def machine() -> str:
-    model = re.search(r"model name\s*:\s*(.*)", Path("/proc/cpuinfo").read_text())
     gcc = subprocess.run(["gcc", "-dumpfullversion"], capture_output=True, text=True).stdout.strip()
     gmime = subprocess.run(["pkg-config", "--modversion", "gmime-3.0"], capture_output=True, text=True).stdout.strip() if shutil.which("pkg-config") else ""
     load = os.getloadavg()[0]
-    return (f"{datetime.date.today()}, {platform.machine()}, {model.group(1) if model else 'unknown processor'}, {os.cpu_count()} cores,"
+    return (f"{datetime.date.today()}, {platform.machine()}, {processor()}, {os.cpu_count()} cores,"
             f" load {load:.1f}; gcc {gcc}, GMime {gmime or 'not there'}, Python {platform.python_version()}")
+
+
+def recorded(readme: str, kind: str, run: str) -> str:
+    """The README with this run as the last one of its kind of machine; the other kind's stays."""
+    opening, end = f"<!-- last run: {kind} -->\n", f"<!-- end of the last run: {kind} -->\n"
+    before, found, rest = readme.partition(opening)
+    after = rest.partition(end)[2] if found else ""
+    if not found:
+        before = before.rstrip("\n") + f"\n\n### {kind}\n\n"
+    return before + opening + run + "\n" + end + after
 
 
 def report(data: Path, passes: int, record: bool) -> None:
@@ -403,13 +422,11 @@ def report(data: Path, passes: int, record: bool) -> None:
     (BUILD / "table.md").write_text(text + "\n")
     print(text)
     if record:
-        readme = BENCH / "README.md"
-        before, rest = readme.read_text().split("<!-- last run -->\n", 1)
-        after = rest.split("<!-- end of the last run -->", 1)[1]
-        images = "\n".join(f"![{GROWTHS[picture.stem][0]}]({picture.name})" for picture in pictures)
-        readme.write_text(before + "<!-- last run -->\n" + text + "\n\n" + images + "\n<!-- end of the last run -->" + after)
+        readme, kind = BENCH / "README.md", platform.machine()
+        images = "\n".join(f"![{GROWTHS[picture.stem][0]}]({kind}-{picture.name})" for picture in pictures)
+        readme.write_text(recorded(readme.read_text(), kind, text + "\n\n" + images))
         for picture in pictures:
-            shutil.copy(picture, BENCH)
+            shutil.copy(picture, BENCH / f"{kind}-{picture.name}")
 
 
 # The smoke run.

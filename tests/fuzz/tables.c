@@ -1,0 +1,65 @@
+/* Tables made of patches, given to the check of the library and to that of the C program of bench/: the answers are
+ * compared, and the advice and keys for a list by each table that both take for sound.
+ *
+ * The input: an octet for the number of slots, one by which the length is off, then patches: two octets for the place,
+ * the lower one first, one for the length, and the octets. seeds.py writes such inputs. */
+#include "../../bench/peer/peer.h"
+#include "../../include/vienghulac.h"
+#include "lend.h"
+
+enum { SLOTS = 4 };
+
+static const char list[] = "alice@a.example, Bob <bob@b.example>, g: carol@c.example, p=q+r@g.example;, x@y";
+static const uint8_t *const recipients = (const uint8_t *)list;
+
+static room table_room, list_room;
+
+/* Zeros, patched. */
+static block patched(input *in) {
+    static const uint8_t zeros[SLOTS * VIENGHULAC_SLOT + 1];
+    size_t length = octet(in) % (SLOTS + 1) * VIENGHULAC_SLOT;
+    uint8_t off = octet(in);
+    if (off == 1) length++;
+    if (off == 2 && length) length--;
+    block table = lend(table_room, zeros, length);
+    while (in->at < in->end) {
+        size_t place = octet(in);
+        place |= (size_t)octet(in) << 8;
+        for (uint8_t more = octet(in); more && in->at < in->end; more--, place++) {
+            uint8_t x = octet(in);
+            if (place < length) table.at[place] = x;
+        }
+    }
+    return table;
+}
+
+int LLVMFuzzerInitialize(int *count, char ***words) {
+    (void)count, (void)words;
+    table_room = make_room(SLOTS * VIENGHULAC_SLOT + 1);
+    list_room = make_room(sizeof list);
+    return 0;
+}
+
+int LLVMFuzzerTestOneInput(const uint8_t *octets, size_t length) {
+    input in = {octets, octets + length};
+    block table = patched(&in), asked = lend(list_room, recipients, sizeof list - 1);
+    vienghulac_answer a = vienghulac_check(table.at, table.length);
+    peer_answer b = peer_check(table.at, table.length);
+#ifdef SPOILED
+    if (b.number == 2) b.index++;
+#endif
+    same("check", a.number, b.number);
+    same("index of check", a.index, b.index);
+    if (a.number != 0) return 0;
+    vienghulac_advice c = vienghulac_recommend(table.at, table.length, asked.at, asked.length, true, false);
+    peer_advice d = peer_recommend(table.at, table.length, asked.at, asked.length, true, false);
+    same("recommend", c.number, d.number);
+    same("advice", c.advice, d.advice);
+    for (uint64_t place = 0; place < 5; place++) {
+        vienghulac_part p = vienghulac_target_key(table.at, table.length, asked.at, asked.length, true, false, place);
+        peer_part q = peer_target_key(table.at, table.length, asked.at, asked.length, true, false, place);
+        same("start of a key", p.start, q.start);
+        same("length of a key", p.length, q.length);
+    }
+    return 0;
+}
