@@ -1,4 +1,4 @@
--- A text parted at an octet.
+-- A text parted at an octet: addresses at `.` and `@` (SCOPE, L6 and L7), fields at `;` and `=` (F1 and F2).
 --     pieces    the text split at each such octet; without one it is a single piece
 --     before    what stands before the first such octet; the whole text where there is none
 --     behind    what stands behind the first such octet; nothing where there is none

@@ -1,6 +1,6 @@
 -- What a text goes on with: its next letters, its next group.
 --     over, got        what an answer of `next_letter` says of the text
---     grouped-at       one step of the rule
+--     grouped-at       one step of `decode`
 --     read-three .. read-broken    what an answer of `next_group` says of the text
 --     read-whole       and what one of `whole_group` says
 --     the rulesets     stepping for `step`, spacing for `next_group`, nearing for `whole_group`

@@ -113,7 +113,7 @@ pub fields-fit : (s : List ℕ) → length s ≤ limit → fieldsOf s ≡ fields
 unfolding fieldsOf fieldsFrom
 fields-fit s h = rw (fieldsOf, le-leb (length s) limit h)
 
--- "length 0 is readable"
+-- B5: a block of no octets is readable
 pub fields-empty : fieldsOf [] ≡ some []
 unfolding fieldsOf fields fieldsWithin
 fields-empty = refl

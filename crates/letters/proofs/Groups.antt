@@ -1,4 +1,4 @@
--- What four characters stand for, by the cases of the rule.
+-- What four characters stand for, by the cases of `closed` (F9).
 --     low-value                 a sign's value is below 64
 --     three-is .. one-not      each case of `closed`
 --     broken-third .. two-values    the same of signs that were found

@@ -1,4 +1,4 @@
--- What a reader hands out after k others is the field of the number k.
+-- What a reader hands out after k others is the field of the number k (B14).
 --     Agrees s k o h     h is right where the fields are o: of a readable text the field of the number k and never broken, of an
 --                        unreadable one never over
 --     agrees             what is handed out is right
