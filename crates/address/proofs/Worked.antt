@@ -1,5 +1,5 @@
--- Worked examples of L6 to L8, by computing the definitions: a table of plain addresses, one of texts that are none, and some canonical
--- forms.
+-- Worked examples of L6 to L8, by computing the definitions: a table of plain addresses, one of texts that are none, and some
+-- canonical forms.
 -- Assumes nothing.
 use Prim.Native.Nat.{ℕ}
 use mathlib.Core.Path.{_≡_, refl}

@@ -32,7 +32,7 @@ longestLabel = 63
 unfoldable pub atom : List ℕ → Bool
 atom s = leb 1 (length s) && every (belongs Atom) s
 
--- L6: atoms with a dot between two of them, so that no dot comes first, last or beside another
+-- L6: within its limit, atoms with a dot between two of them; so no dot comes first, last or beside another
 unfoldable pub localPart : List ℕ → Bool
 localPart s = oneTo longestLocal (length s) && every atom (pieces (octet ".") s)
 
@@ -40,7 +40,7 @@ localPart s = oneTo longestLocal (length s) && every atom (pieces (octet ".") s)
 unfoldable pub freeEnds : List ℕ → Bool
 freeEnds s = not (eqb (getD s 0 0) (octet "-")) && not (eqb (getD s (length s - 1) 0) (octet "-"))
 
--- L7: letters, digits and hyphens, at least one
+-- L7: within its limit, letters, digits and hyphens, at least one
 unfoldable pub label : List ℕ → Bool
 label s = oneTo longestLabel (length s) && every (belongs Label) s && freeEnds s
 
@@ -48,7 +48,7 @@ label s = oneTo longestLabel (length s) && every (belongs Label) s && freeEnds s
 unfoldable pub domain : List ℕ → Bool
 domain s = every label (pieces (octet ".") s)
 
--- L6: the first `@` parts local part and domain. A domain holds no other `@`, and a text without one has no domain.
+-- L6, L7: the first `@` parts local part and domain. A domain holds no other `@`, and a text without one has no domain.
 unfoldable pub plain : List ℕ → Bool
 plain s = leb (length s) longest && localPart (before (octet "@") s) && domain (behind (octet "@") s)
 
@@ -56,7 +56,7 @@ plain s = leb (length s) longest && localPart (before (octet "@") s) && domain (
 unfoldable pub canonical : List ℕ → List ℕ
 canonical s = lowered s
 
--- L8: a plain address that is its own canonical form
+-- L8: a plain address that is its own canonical form. T9: so it ends at 254 octets, too.
 unfoldable pub isCanonical : List ℕ → Bool
 isCanonical s = plain s && sameOctets (canonical s) s
 

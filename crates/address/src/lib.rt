@@ -1,5 +1,5 @@
-// Plain addresses and their canonical form (SCOPE, L6 to L8). A test of an address passes over it once, atom by atom and label by
-// label.
+// Plain addresses and their canonical form (SCOPE, L6 to L8). A test of an address passes over it once, atom by atom and
+// label by label.
 ghost use mathlib.Core.Path.{_≡_};
 ghost use lib.Dec.{eqb};
 ghost use lib.ListN.{length, drop};
@@ -11,10 +11,10 @@ use runs::Class;
 // How many octets a plain address may have (L6).
 const LONGEST: usize = 254;
 
-// How many its local part may have (L6).
+// How many octets a local part may have (L6).
 const LONGEST_LOCAL: usize = 64;
 
-// How many a label of its domain may have (L7).
+// How many octets a label may have (L7).
 const LONGEST_LABEL: usize = 63;
 
 // The length of the local part that a text opens with.

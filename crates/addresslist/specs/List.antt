@@ -1,5 +1,5 @@
--- SCOPE, L8 to L18: lists of addresses. A list is read from its front, a token at a time, and the grammar (crate `grammar`) says which
--- token may stand where.
+-- SCOPE, L8 to L18: lists of addresses. A list is read from its front, a token at a time, and the grammar (crate `grammar`) says
+-- which token may stand where.
 --     openingOf, runToken .. firstToken    tokens
 --     listed, addresses                    the addresses of a list, none where it is unreadable
 --     among                                an address is one of some
@@ -24,8 +24,8 @@ use Rattle.grammar.specs.declared.Stage.{Stage}
 use Rattle.grammar.specs.declared.Stage.the-variants.{Place}
 use Rattle.grammar.specs.declared.Follow.the-variants.{On, Wrong}
 
--- L9, L10: what an octet opens that is of no run: a quoted string, or a sign, which is a token by itself. L5, L15: an octet that opens
--- nothing, as a control octet, a bracket or a backslash, makes the list unreadable.
+-- L9, L10: what an octet opens that is of no run: a quoted string, or a sign, which is a token by itself. L5, L15: an octet that
+-- opens nothing, as a control octet, a bracket or a backslash, makes the list unreadable.
 abbrev pub markOf : ℕ → Start
 markOf x =
     cond (eqb x (octet "\"")) Quote
@@ -46,8 +46,8 @@ pub data Token : Type 0 where
   end : Token
   unreadable : Token
 
--- L12: a run is one token. With an `@` the whole of it is a plain address; else the list is unreadable (L16), so that nothing stands
--- inside an address (L11). Without an `@` it is words of a phrase (L10).
+-- L12: a run is one token. With an `@` the whole of it is a plain address; else the list is unreadable (L16), so that no blank and
+-- no comment stands inside an address (L11). Without an `@` it is words of a phrase (L10).
 unfoldable pub runToken : List ℕ → Token
 runToken s =
     let n = run addressOctet s in
@@ -89,12 +89,13 @@ listedBy (suc n) stage inside s =
       | unreadable ↦ none
     ]
 
--- L17: those of all its tokens, however many. Each token has an octet at least, so that there are no more tokens than octets.
+-- L17: the addresses of all tokens of s, however many. Each token has an octet at least, so that there are no more tokens than
+-- octets.
 unfoldable pub listed : Stage → Bool → List ℕ → Option (List (List ℕ))
 listed stage inside s = listedBy (suc (length s)) stage inside s
 
--- L17: the addresses of a list, in order and as they are spelled; none where it is unreadable. L9: a list place must stand in it. L18:
--- so no octets, and blanks and comments alone, are unreadable.
+-- L17: the addresses of a list, in order and as they are spelled; none where it is unreadable. L9: a list place must stand in it.
+-- L18: so no octets, and blanks and comments alone, are unreadable.
 unfoldable pub addresses : List ℕ → Option (List (List ℕ))
 addresses s = listed Place false s
 

@@ -1,5 +1,5 @@
-// Lists of addresses (SCOPE, L9 to L18), read from the front a token at a time. A cursor is a place in a list and in the grammar
-// of lists; the next address is handed out from it, with the cursor behind.
+// Lists of addresses (SCOPE, L9 to L18), read from the front a token at a time. A cursor is a place in a list and in the
+// grammar of lists; the next address is handed out from it, with the cursor behind.
 pub mod token; // the tokens of a list
 
 use grammar::Follow;

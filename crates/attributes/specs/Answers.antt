@@ -1,4 +1,5 @@
--- From the definitions of Attribute.antt to what the code answers. An answer gives places of the value; what they show stands between them.
+-- From the definitions of Attribute.antt to what the code answers. An answer gives places of the value; what they show stands
+-- between them.
 --     part                 what stands between two places
 --     Within               two places, in order
 --     FirstAt              the first place of an octet

@@ -27,7 +27,7 @@ unfoldable pub withPreference : Option (List ℕ) → Option Bool → List ℕ �
 withPreference address none v = on address (some (sameOctets v names.preferring))
 withPreference address (some m) v = spoils
 
--- F8: with `keydata` comes the last piece. F5: an ignored piece changes nothing. F3, F5: a spoiling piece spoils the field.
+-- F8: `keydata` has to be the last piece. F5: an ignored piece changes nothing. F3, F5: a spoiling piece spoils the field.
 unfoldable pub step : Option (List ℕ) → Option Bool → Attribute → Step
 step address preference (addr v) = withAddress address preference v
 step address preference (preferEncrypt v) = withPreference address preference v

@@ -1,6 +1,6 @@
-// One piece of the value of an Autocrypt or Autocrypt-Gossip field (SCOPE, F2 to F8): its name, which stands before the first `=`,
-// and its value, each without the blanks around it; and what it comes to behind what was read before it. What is right is said by
-// specs/Attribute.antt and specs/Step.antt.
+// One piece of the value of an Autocrypt or Autocrypt-Gossip field (SCOPE, F2 to F8): its name, which stands before the
+// first `=`, and its value, each without the blanks around it; and what it comes to behind what was read before it. What is
+// right is said by specs/Attribute.antt and specs/Step.antt.
 ghost use mathlib.Core.Path.{_≡_};
 ghost use Rattle.attributes.specs.Attribute.{nameOf, attributeOf};
 ghost use Rattle.attributes.specs.Step.{withAddress, withPreference, step};

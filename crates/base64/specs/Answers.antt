@@ -13,7 +13,7 @@ use Rattle.letters.specs.Base64.{octetsIn}
 use Rattle.base64.specs.declared.Decoded.{Decoded}
 use Rattle.base64.specs.declared.Decoded.the-variants.{Octets, Refused}
 
--- F9: octets are answered where the text is Base64; F10: the room sets a limit to them
+-- F9: octets are answered where the text is Base64 and they have room; a caller sets the limit of F10 by the room that it lends
 unfoldable pub decodedOf : Option (List ℕ) → ℕ → Decoded
 decodedOf none room = Refused
 decodedOf (some w) room = cond (leb (length w) room) (Octets (length w)) Refused

@@ -13,7 +13,7 @@ use lib.ListN.{getD}
 unfoldable pub leap : ℕ → Bool
 leap year = elim (eqb (year % 100) 0) [ true ↦ eqb (year % 400) 0 | false ↦ eqb (year % 4) 0 ]
 
--- D8: one in a leap year
+-- D8: a leap year has one day more
 unfoldable pub leapDay : ℕ → ℕ
 leapDay year = elim (leap year) [ true ↦ 1 | false ↦ 0 ]
 
@@ -21,7 +21,7 @@ leapDay year = elim (leap year) [ true ↦ 1 | false ↦ 0 ]
 abbrev pub monthLengths : List ℕ
 monthLengths = 31 ∷ 28 ∷ 31 ∷ 30 ∷ 31 ∷ 30 ∷ 31 ∷ 31 ∷ 30 ∷ 31 ∷ 30 ∷ 31 ∷ []
 
--- D8: the days that a month has are the first up to this one
+-- D8: the last day that a month has in a year
 unfoldable pub monthLength : ℕ → ℕ → ℕ
 monthLength year month =
     elim (eqb month 2) [ true ↦ 28 + leapDay year | false ↦ getD monthLengths (month - 1) 0 ]

@@ -1,5 +1,5 @@
--- SCOPE, page D: the Date, where the value of its field reads as a date, and the effective date. A value is read from its front, a token at
--- a time: a reader takes the octets that are left and gives a number and the octets left behind it.
+-- SCOPE, page D: the Date, where the value of its field reads as a date, and the effective date. A value is read from its front, a
+-- token at a time: a reader takes the octets that are left and gives a number and the octets left behind it.
 --     next, optional            the token at a place, and a part that may be missing
 --     calendarDay .. zoned      the date's parts, in their order
 --     dateOf                    the Date in seconds since the beginning of 1970, none where it is unavailable
@@ -34,7 +34,7 @@ unfoldable pub next : Place → List ℕ → Read
 next place s =
     elim (firstToken s) [ token t rest ↦ readOf (meant place t) rest | end ↦ missing | unreadable ↦ missing ]
 
--- D3: a part of two tokens that may be missing, and counts as 0 then. D7: where its first token is there, the second must follow.
+-- D3: two tokens that may both be missing, and count as 0 then (D10). D7: where the first one is there, the second must follow.
 unfoldable pub optional : Place → Place → List ℕ → Read
 optional opening closing s = elim (next opening s) [ got n rest ↦ next closing rest | missing ↦ got 0 s ]
 
@@ -48,8 +48,8 @@ calendarDay s =
     andThen (next Day s)
     (λ day a. andThen (next Month a) (λ month b. andThen (next Year b) (λ year c. readOf (existing year month day) c)))
 
--- D3: hour, colon, minute, and a colon with the second, which may be missing: the seconds since midnight. D10: the hour is 23 at most,
--- the minute 59 and the second 60, which comes one second behind 59; a missing one is 0.
+-- D3: hour, colon, minute, and a colon with the second, which may be missing: the seconds since midnight. D10: the hour is 23 at
+-- most, the minute 59 and the second 60, which comes one second behind 59; a missing one is 0.
 unfoldable pub timeOfDay : List ℕ → Read
 timeOfDay s =
     andThen (next (UpTo 23) s)
@@ -73,7 +73,7 @@ zoned local s =
       | missing ↦ andThen (next West s) (λ offset rest. got (local + offset) rest)
     ]
 
--- T6: times count from 1970; so many seconds are those from 1 January 1900 to that
+-- T6: times count from 1970, which is so many seconds behind the beginning of 1900
 abbrev pub epoch : ℕ
 epoch = 86400 * dayCount 1970 1 1
 

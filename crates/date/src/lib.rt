@@ -1,5 +1,5 @@
-// The Date of a message, in seconds since 1970, where a field's value reads as one (SCOPE, D3): day name and comma, day, month,
-// year, hour, minute, second and zone; and the effective date (D2).
+// The Date of a message, in seconds since 1970, where a field's value reads as one (SCOPE, D3): day name and comma, day,
+// month, year, hour, minute, second and zone; and the effective date (D2).
 use datewords::meaning;
 use datewords::meaning::Meaning;
 use datewords::meaning::Place;
@@ -41,7 +41,7 @@ fn next(s: &[u8], at: usize, what: Place) -> PartRead
     }
 }
 
-// A part of two tokens that may be missing, and counts as 0 then (D3).
+// A part of two tokens that may both be missing (D3), and count as 0 then (D10).
 fn optional(s: &[u8], at: usize, opening: Place, closing: Place) -> PartRead
     ensures { λ r. ⌜ readIn (now (s .entry)) r ≡ optionalOf opening closing (drop at (now (s .entry))) ⌝ }
 {

@@ -1,5 +1,5 @@
--- SCOPE, D3 to D12: the words of a Date, which are its tokens, and what each means at the place where it stands. A value is read from its
--- front, a token at a time.
+-- SCOPE, D3 to D12: the words of a Date, which are its tokens, and what each means at the place where it stands. A value is read
+-- from its front, a token at a time.
 --     openingOf, firstToken     tokens
 --     numberOf, placeIn         runs of digits, and names
 --     meant                     what a token means at each place of a date
@@ -86,7 +86,7 @@ monthNames = ascii "JanFebMarAprMayJunJulAugSepOctNovDec"
 abbrev pub zoneNames : List ℕ
 zoneNames = ascii "ESTEDTCSTCDTMSTMDTPSTPDT"
 
--- D12: how many hours each of them lies west
+-- D12: how many hours each of these zones lies west
 abbrev pub zoneHours : List ℕ
 zoneHours = 5 ∷ 4 ∷ 6 ∷ 5 ∷ 7 ∷ 6 ∷ 8 ∷ 7 ∷ []
 
@@ -158,7 +158,7 @@ eastBy Plus t = offsetOf (drop 1 t)
 eastBy Minus t = none
 eastBy Mark t = none
 
--- D11, D12: how many seconds it lies west; `-` and letters do, be it by 0
+-- D11, D12: how many seconds a zone t lies west, by what it opens with; `-` and letters lie west, be it by 0
 unfoldable pub westBy : Opening → List ℕ → Option ℕ
 westBy Number t = none
 westBy Word t = some (3600 * hoursWest t)

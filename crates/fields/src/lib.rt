@@ -1,5 +1,5 @@
-// The fields of a block that are asked for (SCOPE, B12): their kinds, one walk over a block that tells where those of each kind
-// stand, and the search for the next one. What is right is said by specs/Fields.antt.
+// The fields of a block that are asked for (SCOPE, B12): their kinds, one walk over a block that tells where those of each
+// kind stand, and the search for the next one. What is right is said by specs/Fields.antt.
 ghost use mathlib.Core.Path.{_≡_};
 ghost use mathlib.Core.Bool.{true};
 ghost use mathlib.Core.List.{[]};

@@ -10,11 +10,11 @@ use Rattle.grammar.specs.declared.Stage.the-variants.{Place, Opened, Phr
 use Rattle.grammar.specs.declared.Follow.{Follow}
 use Rattle.grammar.specs.declared.Follow.the-variants.{On, Wrong}
 
--- What a token does at each place of the grammar: `On` goes on at another place, inside a group or not; `Wrong` is unreadable. A list
--- place is what stands between two commas.
+-- What a token does at each place of the grammar: `On` goes on at another place, inside a group or not; `Wrong` is unreadable. A
+-- list place is what stands between two commas.
 
--- L9: a bare address is a list place, the first of a group too, and one behind `<` has to be closed; behind a whole place a comma must
--- come first. L15: no bare address stands behind words.
+-- L9: a bare address is a list place, the first of a group too, and one behind `<` has to be closed; behind a whole place a comma
+-- must come first. L15: no bare address stands behind words.
 unfoldable pub afterAddress : Stage → Bool → Follow
 afterAddress Place inside = On Behind inside
 afterAddress Opened inside = On Behind inside
@@ -64,8 +64,8 @@ atClosing inside Comma = Wrong
 atClosing inside Colon = Wrong
 atClosing inside Semicolon = Wrong
 
--- L9: behind a whole list place comes a comma. L14: or the semicolon of a group, which is wrong outside of one. L15: no words follow
--- `<a@b>`.
+-- L9: behind a whole list place comes a comma. L14: or the semicolon of a group, which is wrong outside of one. L15: no words
+-- follow `<a@b>`.
 abbrev pub atBehind : Bool → Sort → Follow
 atBehind inside Word = Wrong
 atBehind inside Less = Wrong
@@ -83,8 +83,8 @@ after Angle inside sort = atAngle inside sort
 after Closing inside sort = atClosing inside sort
 after Behind inside sort = atBehind inside sort
 
--- L9: a list may end behind a whole list place. L13: it may not end behind a comma. L14: nor inside a group, whose semicolon is then
--- missing.
+-- L9: a list may end behind a whole list place. L13: it may not end behind a comma. L14: nor inside a group, whose semicolon is
+-- then missing.
 abbrev pub mayEnd : Stage → Bool → Bool
 mayEnd Place inside = false
 mayEnd Opened inside = false

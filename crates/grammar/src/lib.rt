@@ -1,5 +1,6 @@
-// The grammar of lists: places with a comma between two of them, each of which is an address, an address in angle brackets or
-// a group (SCOPE, L9). It is a table of the tokens that may stand at each place. What is right is said by specs/Grammar.antt.
+// The grammar of lists: places with a comma between two of them, each of which is an address, an address in angle brackets
+// or a group (SCOPE, L9). It is a table of the tokens that may stand at each place. What is right is said by
+// specs/Grammar.antt.
 ghost use mathlib.Core.Path.{_≡_};
 ghost use Rattle.grammar.specs.declared.Stage.the-variants.{Place, Opened, Phrase, Closing, Behind};
 ghost use Rattle.grammar.specs.declared.Sort.the-variants.{Colon, Semicolon};

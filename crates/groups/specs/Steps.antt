@@ -33,7 +33,8 @@ stepOf (GOne x) n [] = One x
 stepOf (GOne x) n (c ∷ rest) = Broken
 stepOf GBroken n rest = Broken
 
--- F9: what s stands for from the place `at` on: three octets and what it stands for from the place n on, or its last octets, or nothing
+-- F9: what s stands for from the place `at` on: three octets and what it stands for from the place n on, or its last octets, or
+-- nothing
 unfoldable pub NextGroup : List ℕ → ℕ → Next → Type 0
 NextGroup s at (Three x y z n) =
     (decode (withoutBlanks (drop at s)) ≡ before (x ∷ y ∷ z ∷ []) (decode (withoutBlanks (drop n s)))) × (at + 4 ≤ n) × (n ≤ length s)

@@ -2,7 +2,7 @@
 --     by-fields        what holds at the end of a block, and in front of what it holds of, holds from each place on
 --     ValuesOctets     each of several fields has a value of octets
 --     valuesTotal      how long their values are, each with one octet more
---     block-octets, total-block    so are the fields of a block
+--     block-octets, total-block    what the two come to for the fields of a block
 -- Assumes nothing.
 use Prim.Native.Nat.{ℕ, zero, suc, _+_, _-_, _<_, _≤_, zero-le}
 use mathlib.Core.Path.{_≡_, refl, sym, _∙_}

@@ -22,6 +22,6 @@ unfoldable pub withCrLf : List ℕ → List ℕ
 withCrLf [] = []
 withCrLf (x ∷ s) = elim (eqb x lf) [ true ↦ cr ∷ lf ∷ withCrLf s | false ↦ x ∷ withCrLf s ]
 
--- B15: each line ends with LF; a CR elsewhere is content (B3)
+-- B15: no line ends with CRLF, since no CR stands directly before an LF
 abbrev pub LfAlone : List ℕ → Type 0
 LfAlone s = (i : ℕ) → getD s i 0 ≡ cr → getD s (suc i) 0 ≡ lf → ⊥

@@ -1,5 +1,5 @@
--- SCOPE, B1 to B11 and B13: header blocks. A text is a list of octets; where an octet is asked for behind its end 0 stands for none, which
--- is no line ending, no blank and no colon.
+-- SCOPE, B1 to B11 and B13: header blocks. A text is a list of octets; where an octet is asked for behind its end 0 stands for
+-- none, which is no line ending, no blank and no colon.
 --     limit                     how long a block may be
 --     ofEnding, over            line endings; the end of a block
 --     closes, rawLength         the end of a field, its continuations included
@@ -8,7 +8,8 @@
 --     FieldText, fields         the fields of a block, its length aside
 --     fieldsOf, readable        the fields of a block, or none where it is unreadable
 --     isReport                  is a Content-Type a report?
--- Field names are compared by `sameName` of the crate octets (B11). What names are made of, and blanks, are classes of the crate runs.
+-- Field names are compared by `sameName` of the crate octets (B11). What names are made of, and blanks, are classes of the crate
+-- runs.
 use Prim.Native.Nat.{ℕ, zero, suc, _+_}
 use mathlib.Core.Bool.{Bool, true, false, not, _&&_, _||_}
 use mathlib.Core.List.{List, [], _∷_}
@@ -20,16 +21,17 @@ use Rattle.octets.specs.Options.{isSome, inFront}
 use Rattle.runs.specs.Runs.{belongs, runLength}
 use Rattle.runs.specs.declared.Class.the-variants.{Name, Blank}
 
--- B1: so many octets pass
+-- B1: the greatest length of a readable block
 abbrev pub limit : ℕ
 limit = 65536
 
--- B2: x, with y behind it, is an octet of a line ending. B3: a CR is one only directly before an LF. B4: so a CR that ends the block is
--- none.
+-- B2: x, with y behind it, is an octet of a line ending. B3: a CR is one only directly before an LF. B4: so a CR that ends the
+-- block is none.
 unfoldable pub ofEnding : ℕ → ℕ → Bool
 ofEnding x y = eqb x lf || (eqb x cr && eqb y lf)
 
--- B5: at the beginning of a line, is the block over? It is at an empty line, and at its end. B2: the last line needs no ending.
+-- B5: at the beginning of a line, is the block over? It is at an empty line, and with its last octet. B2: the last line needs no
+-- ending.
 unfoldable pub over : List ℕ → Bool
 over [] = true
 over (x ∷ s) = ofEnding x (getD s 0 0)
@@ -51,15 +53,15 @@ opensField s = ltb 0 (runLength Name s) && eqb (getD s (runLength Name s) 0) (oc
 abbrev pub nameOf : List ℕ → List ℕ
 nameOf s = take (runLength Name s) s
 
--- B7: what follows its colon, the first one, since no name has a colon
+-- B7: what follows the first colon, since no name has a colon
 abbrev pub afterColon : List ℕ → List ℕ
 afterColon s = drop (runLength Name s + 1) s
 
--- B7, B10: its value as it stands; it may be empty, and may hold further colons
+-- B7, B10: the value of that field as it stands; it may be empty, and may hold further colons
 abbrev pub rawOf : List ℕ → List ℕ
 rawOf s = take (rawLength (afterColon s)) (afterColon s)
 
--- what follows the field
+-- what follows that field
 abbrev pub restOf : List ℕ → List ℕ
 restOf s = drop (rawLength (afterColon s)) (afterColon s)
 
@@ -73,9 +75,9 @@ pub record FieldText : Type 0 where
   pub name : List ℕ
   pub value : List ℕ
 
--- The fields of a text, of so many lines at most. B11: they keep their order, and several of one name are several. B5: nothing behind
--- the empty line is looked at. B8: a line that opens no field makes the block unreadable. B6: a continuation belongs to the field above
--- it; where there is none it opens no field, since no blank is of a name.
+-- The fields of a text, of so many lines at most. B11: they keep their order, and several of one name are several. B5: nothing
+-- behind the empty line is looked at. B8: a line that opens no field makes the block unreadable. B6: a continuation belongs to the
+-- field above it; where there is none it opens no field, since no blank is of a name.
 unfoldable pub fieldsWithin : ℕ → List ℕ → Option (List FieldText)
 fieldsWithin zero s = some []
 fieldsWithin (suc k) s =
@@ -100,19 +102,19 @@ fieldsOf s = elim (leb (length s) limit) [ true ↦ fields s | false ↦ none ]
 abbrev pub readable : List ℕ → Bool
 readable s = isSome (fieldsOf s)
 
--- B13: what may come directly behind the type
+-- B13: directly behind the type comes the end of the value, a blank, `;` or `(`
 unfoldable pub mayFollow : List ℕ → Bool
 mayFollow [] = true
 mayFollow (x ∷ s) = belongs Blank x || eqb x (octet ";") || eqb x (octet "(")
 
--- B13: the type
+-- B13: the type of a report
 abbrev pub report : List ℕ
 report = ascii "multipart/report"
 
--- B13: it opens the text, in any case
+-- B13: a text that opens with the type, in any case, and goes on as it may
 unfoldable pub opensReport : List ℕ → Bool
 opensReport s = sameName (take (length report) s) report && mayFollow (drop (length report) s)
 
--- B13: behind any blanks, and nothing else
+-- B13: a value that opens so behind any blanks; no comment is skipped
 unfoldable pub isReport : List ℕ → Bool
 isReport s = opensReport (drop (runLength Blank s) s)

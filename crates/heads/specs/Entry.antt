@@ -87,18 +87,19 @@ pub record GoodKey (limit : ℕ) (k : List ℕ) : Type 0 where
   pub most : length k ≤ limit
   pub octets : AllOctets k
 
--- T8.10: beside a direct half there is last seen, at least as late as its timestamp
+-- T8.6, T8.10: a good key; beside the half there is last seen, at least as late as its timestamp
 pub record GoodDirect (limit : ℕ) (seen : Option ℕ) (d : Direct) : Type 0 where
   pub key : GoodKey limit (d .key)
   pub was-seen : isSome seen ≡ true
   pub not-below : d .timestamp ≤ orElse 0 seen
 
--- T8.5: the timestamp is within the largest time. T11: last seen does not bound it.
+-- T8.5, T8.6: a good key, and a timestamp within the largest time. T11: last seen does not bound it.
 pub record GoodGossip (limit : ℕ) (g : Gossip) : Type 0 where
   pub key : GoodKey limit (g .key)
   pub in-range : g .timestamp ≤ timeLimit
 
--- T8: what a sound slot holds: a canonical address (T8.2), last seen within the largest time (T8.5), and good halves
+-- T8: what an entry of a sound slot satisfies by itself: a canonical address (T8.2), last seen within the largest time (T8.5), good
+-- halves
 pub record Good (limit : ℕ) (e : Entry) : Type 0 where
   pub canonical : isCanonical (e .address) ≡ true
   pub octets : AllOctets (e .address)

@@ -1,5 +1,5 @@
--- SCOPE, T2, T3, T5, T6 and T8: octets 2 to 39 of a slot, the numbers of its entry. They are read from the first 40 octets of any list; the two in
--- front are a mark.
+-- SCOPE, T2, T3, T5, T6 and T8: octets 2 to 39 of a slot, the numbers of its entry. They are read from the first 40 octets of any
+-- list; the two in front are a mark.
 --     part                       the octets from one place to another, both included
 --     headLength, timeLimit      how far a head goes, and the latest time
 --     addressLength .. gossipLength    the numbers, in the order in which they stand
@@ -95,7 +95,7 @@ headOf s =
       «gossip_length» = gossipLength s;
     }
 
--- T7: an address of so many octets, and all else absent
+-- U4: that of an address that has no entry yet: how long it is, and all else absent
 abbrev pub emptyHead : ℕ → Head
 emptyHead n =
     record {
@@ -119,15 +119,15 @@ clear s = ltb (bits s) 16 && allZero (part 5 7 s) && allZero (part 36 39 s)
 abbrev pub seenSound : Head → Bool
 seenSound n = leb (n .«last_seen») timeLimit && (n .seen || eqb (n .«last_seen») 0) && (not (n .direct) || n .seen)
 
--- The direct half, for keys of at most `limit` octets. With its bit: a key of at least one octet (T8.6), and a timestamp that is within the
--- largest time (T8.5) and not above last seen (T8.10). Without its bit: zeros (T8.7), and no preference (T8.9).
+-- The direct half, for keys of at most `limit` octets. With its bit: a key of at least one octet (T8.6), and a timestamp that is
+-- within the largest time (T8.5) and not above last seen (T8.10). Without its bit: zeros (T8.7), and no preference (T8.9).
 abbrev pub directSound : ℕ → Head → Bool
 directSound limit n =
     (not (n .direct) || oneTo limit (n .«direct_length») && leb (n .timestamp) timeLimit && leb (n .timestamp) (n .«last_seen»))
     && (n .direct || eqb (n .timestamp) 0 && eqb (n .«direct_length») 0 && not (n .«mutual»))
 
--- The gossip half, for keys of at most `limit` octets. With its bit: a key of at least one octet (T8.6), and a timestamp within the largest time
--- (T8.5), which may be above last seen (T11). Without its bit: zeros (T8.7).
+-- The gossip half, for keys of at most `limit` octets. With its bit: a key of at least one octet (T8.6), and a timestamp within the
+-- largest time (T8.5), which may be above last seen (T11). Without its bit: zeros (T8.7).
 abbrev pub gossipSound : ℕ → Head → Bool
 gossipSound limit n =
     (not (n .gossip) || oneTo limit (n .«gossip_length») && leb (n .«gossip_timestamp») timeLimit)

@@ -1,6 +1,6 @@
-// The head of an entry: the numbers that stand in octets 2 to 39, behind the mark (SCOPE, T3). What stands where, the conditions
-// on a head (T8), what changes in one, and how it is read and written. It is lent as a part of 40 octets, of which the first
-// two are left as they are.
+// The head of an entry: the numbers that stand in octets 2 to 39, behind the mark (SCOPE, T3). What stands where, the
+// conditions on a head (T8), what changes in one, and how it is read and written. It is lent as a part of 40 octets, of
+// which the first two are left as they are.
 ghost use Prim.Native.Nat.{_≤_, max};
 ghost use mathlib.Core.Path.{_≡_};
 ghost use mathlib.Core.Bool.{cond};
@@ -26,8 +26,8 @@ impl Head {
     // The largest time, the last second of the year 9999 (T6).
     pub const TIME_LIMIT: u64 = 253402300799;
 
-    // The widths of a length and of a time (T2), and the place of each number (T3), from the one before. Octets 5 to 7, behind
-    // the bits, and 36 to 39, behind the lengths, are unused and must be zero (T8.4).
+    // The widths of a length and of a time (T2), and the place of each number (T3), from the one before. Octets 5 to 7,
+    // behind the bits, and 36 to 39, behind the lengths, are unused and must be zero (T8.4).
     pub const LENGTH_WIDTH: usize = 2;
 
     pub const TIME_WIDTH: usize = 8;
@@ -111,8 +111,8 @@ impl Head {
             & (!self.direct | self.seen)
     }
 
-    // The direct half: where it is present, a key of 1 to `limit` octets (T8.6), and a timestamp in range (T8.5) and not above
-    // last seen (T8.10); where it is absent, nothing but zeros (T8.7), and no preference (T8.9).
+    // The direct half: where it is present, a key of 1 to `limit` octets (T8.6), and a timestamp in range (T8.5) and not
+    // above last seen (T8.10); where it is absent, nothing but zeros (T8.7), and no preference (T8.9).
     pub fn direct_sound(self, limit: usize) -> bool
         ensures { λ r. ⌜ r ≡ directSound limit self ⌝ }
     {
@@ -124,8 +124,8 @@ impl Head {
         (!self.direct | is_good) & (self.direct | is_zero)
     }
 
-    // The gossip half: where it is present, a key of 1 to `limit` octets (T8.6) and a timestamp in range (T8.5), which may be above
-    // last seen (T11); where it is absent, nothing but zeros (T8.7).
+    // The gossip half: where it is present, a key of 1 to `limit` octets (T8.6) and a timestamp in range (T8.5), which may
+    // be above last seen (T11); where it is absent, nothing but zeros (T8.7).
     pub fn gossip_sound(self, limit: usize) -> bool
         ensures { λ r. ⌜ r ≡ gossipSound limit self ⌝ }
     {
@@ -146,7 +146,8 @@ impl Head {
             + weight(self.mutual, 8)
     }
 
-    // Last seen becomes the date if it was absent or smaller (U7). An absent one is 0 (T8.7), so that the larger of the two is right.
+    // Last seen becomes the date if it was absent or smaller (U7). An absent one is 0 (T8.7), so that the larger of the two
+    // is right.
     pub fn seen_by(self, date: u64) -> Self
         ensures { λ r. ⌜ r ≡ headSeen date self ⌝ }
     {

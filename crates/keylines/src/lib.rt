@@ -1,5 +1,5 @@
-// Octets written as the Base64 lines of a field (SCOPE, W4). What they are is said by `lines` of specs/Lines.antt and `encode`
-// of letters/specs/Base64.antt.
+// Octets written as the Base64 lines of a field (SCOPE, W4). What they are is said by `lines` of specs/Lines.antt and
+// `encode` of letters/specs/Base64.antt.
 ghost use Prim.Native.Nat.{_+_, _≤_, _<_};
 ghost use mathlib.Core.Path.{_≡_};
 ghost use mathlib.Core.List.{[], _∷_, _++_};

@@ -84,7 +84,7 @@ follow (Two x y) rest octets = atEnd (x ∷ y ∷ []) rest
 follow (One x) rest octets = atEnd (x ∷ []) rest
 follow Broken rest octets = none
 
--- F9: characters come in whole groups of four
+-- F9: a text, its blanks taken out, comes in whole groups of four characters
 unfoldable pub decode : List ℕ → Option (List ℕ)
 decode [] = some []
 decode (a ∷ []) = none

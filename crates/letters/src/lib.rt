@@ -1,5 +1,5 @@
-// The letters of Base64 (SCOPE, F9): the letter of a value, what a character stands for, and what four characters do. What is
-// right is said by specs/Base64.antt. Texts are decoded by the crate `base64`, and octets written as lines by the crate
+// The letters of Base64 (SCOPE, F9): the letter of a value, what a character stands for, and what four characters do. What
+// is right is said by specs/Base64.antt. Texts are decoded by the crate `base64`, and octets written as lines by the crate
 // `keylines`.
 ghost use Prim.Native.Nat.{_<_};
 ghost use mathlib.Core.Path.{_≡_};

@@ -60,7 +60,7 @@ sameOctets (x ∷ s) (y ∷ t) = eqb x y && sameOctets s t
 unfoldable pub lower : ℕ → ℕ
 lower x = cond (leb (octet "A") x && leb x (octet "Z")) (x + 32) x
 
--- L8: each octet by itself
+-- L8: each ASCII capital of a list becomes small
 unfoldable pub lowered : List ℕ → List ℕ
 lowered s = map lower s
 

@@ -1,5 +1,6 @@
-// The common ground: blanks told (L1 of SCOPE); octets compared, searched, copied, made small letters (L8), tested for zeros, and
-// read and written as numbers with the least octet first (T2). Each function's meaning is one definition of specs/.
+// The common ground: blanks told (L1 of SCOPE); octets compared, searched, copied as they are or with capitals made small
+// (L8), tested for zeros, and read and written as numbers with the least octet first (T2). Each function's meaning is one
+// definition of specs/.
 ghost use Prim.Native.Nat.{_+_, _≤_, _<_, max};
 ghost use mathlib.Core.Path.{_≡_};
 ghost use lib.Dec.{eqb};

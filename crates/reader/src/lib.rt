@@ -1,6 +1,6 @@
-// A reader has a block and a place in it, and hands out the block's fields one by one (SCOPE, B14). The work is done by `hand_out`
-// and `place_behind`, which take the block and a place; what takes, makes or lends a reader is thin and leaves it to them. Who
-// keeps a place and not a reader calls `take`, and who has only a block and a number `field_number`.
+// A reader has a block and a place in it, and hands out the block's fields one by one (SCOPE, B14). The work is done by
+// `hand_out` and `place_behind`, which take the block and a place; what takes, makes or lends a reader is thin and leaves
+// it to them. Who keeps a place and not a reader calls `take`, and who has only a block and a number `field_number`.
 ghost use mathlib.Core.Path.{_≡_};
 ghost use Rattle.reader.specs.Reading.{handedAt, placeBehind, handedAfter, opened, movedOn, takenAt};
 

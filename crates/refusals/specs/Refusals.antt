@@ -7,7 +7,7 @@ use Prim.Native.String.{String}
 use Rattle.refusals.specs.declared.Refusal.{Refusal}
 use Rattle.refusals.specs.declared.Refusal.the-variants.{TableLength, BrokenSlot, ReceiptTime, OuterBlock, Sender, Report, PayloadBlock, NoFreeSlot, OwnAddress, Recipients, KeyLength, OutputLength}
 
--- R1 to R12: the refusals of page R by their numbers
+-- R1 to R12: a refusal has the number of its rule
 abbrev pub numberOf : Refusal → ℕ
 numberOf TableLength = 1
 numberOf (BrokenSlot i) = 2
@@ -22,7 +22,7 @@ numberOf Recipients = 10
 numberOf KeyLength = 11
 numberOf OutputLength = 12
 
--- R1 to R12: the same in words
+-- R1 to R12: what each is about, in a few words
 abbrev pub wordsOf : Refusal → String
 wordsOf TableLength = "table length isn't 1 to 256 whole slots"
 wordsOf (BrokenSlot i) = "a slot is neither free nor sound"

@@ -1,4 +1,5 @@
--- SCOPE, R31: a call's refusals are a list of rows in the order of testing, each a refusal and its test; the first row that holds decides.
+-- SCOPE, R31: a call's refusals are a list of rows in the order of testing, each a refusal and its test; the first row that holds
+-- decides.
 --     Row, _when_, _unless_    a refusal that is given where a test holds, or where it does not
 --     firstOf                  the refusal of the first row that holds; none where no row does
 --     answeredBy               what comes of a call: one thing if it is refused, another if it is not

@@ -1,5 +1,5 @@
-// Why calls refuse: one enum for all of them, its numbers (SCOPE, page R), and the answer of a call that has nothing else to
-// say. Which refusal a call gives is said by rows (specs/Rows.antt): the first row that holds decides (R31).
+// Why calls refuse: one enum for all of them, its numbers (SCOPE, page R), and the answer of a call that has nothing else
+// to say. Which refusal a call gives is said by rows (specs/Rows.antt): the first row that holds decides (R31).
 ghost use mathlib.Core.Path.{_≡_};
 ghost use Rattle.refusals.specs.Refusals.{numberOf, indexOf};
 

@@ -33,7 +33,7 @@ abbrev pub atomic : ℕ → Bool
 atomic x = letter x || digit x || among signs x || leb 128 x
 
 -- L1: blanks and atom octets. B7: a name has the octets 33 to 126, the colon left out. D4: digits and letters. L7: a label has
--- letters, digits and hyphens. L12: addresses, and words that stand without a blank, are runs of atom octets, dots and `@`.
+-- letters, digits and hyphens. L12: a run of atom octets, dots and `@` is an address or words.
 unfoldable pub belongs : Class → ℕ → Bool
 belongs Blank x = blank x
 belongs Name x = leb 33 x && leb x 126 && not (eqb x (octet ":"))

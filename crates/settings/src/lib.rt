@@ -1,4 +1,4 @@
-// What a caller chooses beside the message: today, whether gossip is taken. What a choice means is said by
+// What a caller chooses beside the message: whether gossip is taken (SCOPE, G1). What a choice means is said by
 // specs/Settings.antt.
 ghost use mathlib.Core.Path.{_≡_};
 ghost use Rattle.settings.specs.Settings.{taken};

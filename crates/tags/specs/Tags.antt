@@ -1,4 +1,5 @@
--- What is compared before addresses are: a number of 32 bits, made of the address. No caller sees it, so no rule of SCOPE is about it.
+-- What is compared before addresses are: a number of 32 bits, made of the address. No caller sees it, so no rule of SCOPE is about
+-- it.
 --     firstTag, withOctet, tagAfter    it begins as 5381, and for each octet it is taken 33 times and the octet added, within 32 bits
 --     tagOf                            the tag of an address
 --     inFirst                          is a number one of the first n of a list?

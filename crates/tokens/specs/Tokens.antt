@@ -1,5 +1,5 @@
--- SCOPE, L1 to L5 and L11: blanks, comments and quoted strings, in lists and, by D5 and D6, in dates. A reader takes the octets that are left
--- and gives the octets that are left behind what it read, or none where the text is unreadable.
+-- SCOPE, L1 to L5 and L11: blanks and comments, which lists and dates have (D5, D6), and quoted strings, which lists have. A reader
+-- takes the octets that are left and gives the octets that are left behind what it read, or none where the text is unreadable.
 --     control              control octets
 --     kindOf               what an octet is inside a comment or a quoted string
 --     past, skipped        behind spaces, tabs and comments
@@ -17,8 +17,9 @@ use Rattle.tokens.specs.declared.OctetKind.the-variants.{Closes, Escapes
 unfoldable pub control : ℕ → Bool
 control x = (ltb x 32 || eqb x 127) && not (eqb x tab)
 
--- What an octet is inside a comment or a quoted string, by the octet that closes it. L4: a backslash takes the octet behind it. L5: a
--- control octet is banned. All else is plain: a quote inside a comment, a parenthesis inside a quoted string, a tab, octets from 128 on.
+-- What an octet is inside a comment or a quoted string, by the octet that closes it. L4: a backslash takes the octet behind it. L5:
+-- a control octet is banned. All else is plain: a quote inside a comment, a parenthesis inside a quoted string, a tab, octets from
+-- 128 on.
 unfoldable pub kindOf : ℕ → ℕ → OctetKind
 kindOf closing x = cond (eqb x closing) Closes (cond (eqb x (octet "\\")) Escapes (cond (control x) Control Plain))
 
@@ -27,9 +28,9 @@ abbrev pub depth : ℕ
 depth = 16
 
 -- What is left behind blanks and comments, with so many comments open, and whether a backslash has just come. L11: outside of
--- comments what is left begins at the first octet that is neither a blank nor `(`. L2: a comment is unreadable where it would be too
--- deep, and where it does not close. L4: behind a backslash nothing opens or closes. L5: a control octet is unreadable, also one that
--- a backslash takes.
+-- comments what is left begins at the first octet that is neither a blank nor `(`. L2: a comment is unreadable where it would be
+-- too deep, and where it does not close. L4: behind a backslash nothing opens or closes. L5: a control octet is unreadable, also
+-- one that a backslash takes.
 unfoldable pub past : ℕ → Bool → List ℕ → Option (List ℕ)
 past zero taken [] = some []
 past (suc n) taken [] = none
@@ -54,9 +55,9 @@ past (suc n) false (x ∷ s) =
 abbrev pub skipped : List ℕ → Option (List ℕ)
 skipped s = past 0 false s
 
--- What is left behind the closing quote of a quoted string whose opening quote has been read, and whether a backslash has just come.
--- L3: without its closing quote it is unreadable. L4: a quote that a backslash takes closes nothing. L5: a control octet is unreadable,
--- also one that a backslash takes.
+-- What is left behind the closing quote of a quoted string whose opening quote has been read, and whether a backslash has just
+-- come. L3: without its closing quote it is unreadable. L4: a quote that a backslash takes closes nothing. L5: a control octet is
+-- unreadable, also one that a backslash takes.
 unfoldable pub afterQuote : Bool → List ℕ → Option (List ℕ)
 afterQuote taken [] = none
 afterQuote true (x ∷ s) = elim (control x) [ true ↦ none | false ↦ afterQuote false s ]

@@ -1,5 +1,5 @@
-// The tokens that lists and dates share: blanks and comments skipped (SCOPE, L2, L4, L11), and quoted strings passed (L3). A
-// reader is given the text and a place in it, and answers a place.
+// What lists and dates share: blanks and comments skipped (SCOPE, L11 and D5); and quoted strings passed, which lists have
+// (L3). A reader is given the text and a place in it, and answers a place.
 ghost use Prim.Native.Nat.{suc, _+_, _<_};
 ghost use mathlib.Core.Path.{_≡_};
 ghost use mathlib.Core.Bool.{false};

@@ -1,5 +1,5 @@
-// Fields written (SCOPE, W2 to W5): name, address, preference and key become the text of one header field. What it is stands
-// in specs/Writing.antt.
+// Fields written (SCOPE, W2 to W5): name, address, preference and key become the text of one header field. What it is
+// stands in specs/Writing.antt.
 ghost use Prim.Native.Nat.{_+_, _≤_};
 ghost use mathlib.Core.Path.{_≡_};
 ghost use mathlib.Core.Bool.{true};
