@@ -2,7 +2,7 @@
 --     small-is                           an octet that is no capital is its own lower case
 --     Small s all i                      what the loop knows; small-begin .. small-end are its steps
 --     canonical-whole, canonical-part    the answer on a plain address, and on another text
---     same-length                        how long the form is today
+--     same-length                        the form is as long as the text
 --     none-written .. room-kept          what is answered and left where the form is written
 --     same-address                       two texts in canonical form
 -- Assumes nothing.
@@ -62,7 +62,7 @@ module _ (s : List ℕ) (p : Bool) (e : p ≡ plain s) where
 
 pub ruleset being-canonical = (canonical-whole, canonical-part, needs)
 
--- today the form is as long as the text, and the code counts on it
+-- the form is as long as the text, and the code counts on it
 same-length : (s : List ℕ) → length (canonical s) ≡ length s
 unfolding canonical
 same-length s = length-lowered s

@@ -4,7 +4,7 @@
 --     plain-canonical                    that of a plain address is a plain address
 --     plain-is-canonical                 and is canonical
 --     canonical-same                     what is canonical is its own canonical form
---     canonical-most                     that of a plain address has at most 254 octets
+--     canonical-most                     that of a plain address is within the limit of L6, too
 -- Assumes nothing.
 use Prim.Native.Nat.{ℕ, _+_, _-_, _<_, _≤_}
 use mathlib.Core.Path.{_≡_, refl, sym, _∙_}

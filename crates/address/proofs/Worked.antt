@@ -1,4 +1,5 @@
--- Worked examples, by computing the definitions: a table of plain addresses, one of texts that are none, and some canonical forms.
+-- Worked examples of L6 to L8, by computing the definitions: a table of plain addresses, one of texts that are none, and some
+-- canonical forms.
 -- Assumes nothing.
 use Prim.Native.Nat.{ℕ}
 use mathlib.Core.Path.{_≡_, refl}
@@ -74,12 +75,12 @@ none-plain : every (λ s. not (plain s)) noPlains ≡ true
 unfolding noPlains localPartOf labelOf addressOf plain localPart atom domain label belongs freeEnds every onFirst pieces before behind
 none-plain = refl
 
--- 254 octets and 255
+-- L6: so long is the longest of `plains`, and that of `noPlains` is an octet longer
 long-254 : length (addressOf 61) ≡ 254
 unfolding addressOf
 long-254 = refl
 
--- "A@B is written a@b"; octets of 128 and above stay as they are
+-- L8: capitals on both sides become small; octets of 128 and above stay as they are
 form : canonical (ascii "A@B.Example") ≡ ascii "a@b.example"
 unfolding canonical lowered lower
 form = refl

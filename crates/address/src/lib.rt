@@ -1,4 +1,5 @@
-// Plain addresses and their canonical form. A test of an address passes over it once, atom by atom and label by label.
+// Plain addresses and their canonical form (SCOPE, L6 to L8). A test of an address passes over it once, atom by atom and
+// label by label.
 ghost use mathlib.Core.Path.{_≡_};
 ghost use lib.Dec.{eqb};
 ghost use lib.ListN.{length, drop};
@@ -7,13 +8,13 @@ ghost use Rattle.address.specs.Address.{domain, plain, canonical as cano
 ghost use Rattle.address.specs.Answers.{localOf, labelShape, writtenOf, ontoIfFits};
 use runs::Class;
 
-// "A plain address has at most 254 octets."
+// How many octets a plain address may have (L6).
 const LONGEST: usize = 254;
 
-// "The local part is 1 to 64 octets"
+// How many octets a local part may have (L6).
 const LONGEST_LOCAL: usize = 64;
 
-// "labels .. of 1 to 63 ASCII letters, digits and hyphens"
+// How many octets a label may have (L7).
 const LONGEST_LABEL: usize = 63;
 
 // The length of the local part that a text opens with.
@@ -28,7 +29,7 @@ pub enum Fitted {
     NoRoom,
 }
 
-// The local part that `s` opens with and an `@` follows: atoms joined by dots.
+// The local part that `s` opens with and an `@` follows: atoms with a dot between two of them (L6).
 fn local_part(s: &[u8]) -> Local
     ensures { λ r. ⌜ r ≡ localOf (now (s .entry)) ⌝ }
 {
@@ -69,7 +70,7 @@ fn shaped(run: &[u8]) -> bool
     (run[0] != b'-') & (run[n - 1] != b'-')
 }
 
-// Is what stands from the place `at` on a domain: labels joined by dots?
+// Is what stands from the place `at` on a domain: labels with a dot between two of them (L7)?
 fn is_domain(s: &[u8], at: usize) -> bool
     ensures { λ r. ⌜ r ≡ domain (drop at (now (s .entry))) ⌝ }
 {
@@ -123,7 +124,7 @@ fn is_small(s: &[u8]) -> bool
     all
 }
 
-// Is it a plain address that is its own canonical form?
+// Is it a plain address that is its own canonical form (L8)?
 pub fn is_canonical(s: &[u8]) -> bool
     ensures { λ r. ⌜ r ≡ isCanonical (now (s .entry)) ⌝ }
 {
@@ -142,7 +143,7 @@ pub fn canonical(s: &[u8], out: &mut [u8]) -> Fitted
     Fitted::Length(s.len())
 }
 
-// "Addresses are compared in canonical form only."
+// Are the canonical forms equal? Addresses are compared in no other way (L8).
 pub fn same_address(a: &[u8], b: &[u8]) -> bool
     ensures { λ r. ⌜ r ≡ sameOctets (canonicalOf (now (a .entry))) (canonicalOf (now (b .entry))) ⌝ }
 {

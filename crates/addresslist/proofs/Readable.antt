@@ -2,7 +2,7 @@
 --     plain-alone              a plain address is a list of that one address
 --     readable-at, readable-octets    its addresses are plain, and octets where the list is of octets
 --     counted-some, counted-none      what a count says
---     only-plain, only-octets         so is the one address of a list that has no other
+--     only-plain, only-octets         the one address of a list that has no other is plain, and octets
 -- Assumes nothing.
 use Prim.Native.Nat.{ℕ, zero, suc, _<_, _≤_}
 use mathlib.Core.Path.{_≡_, refl, sym, ap, _∙_}

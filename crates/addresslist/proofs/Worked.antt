@@ -1,4 +1,5 @@
--- Lists that are worked out: readable ones with their addresses, unreadable ones, and comments to depth 16.
+-- Lists that are worked out: readable ones with their addresses (L9 to L12, L14, L17), unreadable ones (L2, L3, L11 to L15, L18),
+-- and comments to depth 16 (L2).
 -- Assumes nothing.
 use Prim.Native.Nat.{ℕ}
 use Prim.Native.String.{String}

@@ -1,4 +1,4 @@
--- From the rules to what the code answers: places in the list stand for the octets between them.
+-- From the definitions of List.antt to what the code answers: places in the list stand for the octets between them.
 --     foundIn, Inside      a token that was found, and that it lies in the list
 --     beginning, left      the first cursor, and what the list still gives from a cursor on
 --     Hands, Moved         what is handed out from a cursor, and what one token brings
@@ -75,6 +75,7 @@ abbrev pub Moved : List ℕ → ListCursor → Move → Type 0
 Moved s c (On next) = Goes s c next
 Moved s c (Done handed) = Hands s c handed
 
+-- L17: equal addresses count as often as they stand
 unfoldable pub countedOf : Option (List (List ℕ)) → Counted
 countedOf none = Uncounted
 countedOf (some list) = Count (length list)

@@ -1,5 +1,5 @@
--- "A list is addresses separated by commas", of paper 01. A list is read from its front, a token at a time, and the grammar (crate
--- `grammar`) says which token may stand where.
+-- SCOPE, L8 to L18: lists of addresses. A list is read from its front, a token at a time, and the grammar (crate `grammar`) says
+-- which token may stand where.
 --     openingOf, runToken .. firstToken    tokens
 --     listed, addresses                    the addresses of a list, none where it is unreadable
 --     among                                an address is one of some
@@ -24,8 +24,8 @@ use Rattle.grammar.specs.declared.Stage.{Stage}
 use Rattle.grammar.specs.declared.Stage.the-variants.{Place}
 use Rattle.grammar.specs.declared.Follow.the-variants.{On, Wrong}
 
--- What a token is shows in its first octet. A run is made of the octets of atoms, of dots and of "@"; a sign is a token by itself. An
--- octet that opens nothing, as a control octet, a bracket or a backslash, makes the list unreadable.
+-- L9, L10: what an octet opens that is of no run: a quoted string, or a sign, which is a token by itself. L5, L15: an octet that
+-- opens nothing, as a control octet, a bracket or a backslash, makes the list unreadable.
 abbrev pub markOf : ℕ → Start
 markOf x =
     cond (eqb x (octet "\"")) Quote
@@ -35,6 +35,7 @@ markOf x =
     (cond (eqb x (octet ":")) (Sign Colon)
     (cond (eqb x (octet ";")) (Sign Semicolon) Nothing)))))
 
+-- L12: what a token is shows in its first octet; atom octets, dots and `@` open a run
 unfoldable pub openingOf : ℕ → Start
 openingOf x = cond (addressOctet x) Run (markOf x)
 
@@ -45,8 +46,8 @@ pub data Token : Type 0 where
   end : Token
   unreadable : Token
 
--- "A phrase is one or more words (atoms, dots ..)". "Spaces, tabs and comments may stand .. never inside an address": a run with an "@"
--- is a plain address as a whole, or it is unreadable.
+-- L12: a run is one token. With an `@` the whole of it is a plain address; else the list is unreadable (L16), so that no blank and
+-- no comment stands inside an address (L11). Without an `@` it is words of a phrase (L10).
 unfoldable pub runToken : List ℕ → Token
 runToken s =
     let n = run addressOctet s in
@@ -55,10 +56,11 @@ runToken s =
       | false ↦ elim (holds (octet "@") (take n s)) [ true ↦ unreadable | false ↦ other Word (drop n s) ]
     ]
 
--- "words (.. quoted strings)", the opening quote being the first octet of s
+-- L10: a quoted string is a word; its opening quote is the first octet of s
 unfoldable pub quotedToken : List ℕ → Token
 quotedToken s = elim (afterQuote false (drop 1 s)) [ none ↦ unreadable | some rest ↦ other Word rest ]
 
+-- the token that a text opens with
 unfoldable pub tokenAt : List ℕ → Token
 tokenAt [] = end
 tokenAt (x ∷ s) =
@@ -69,11 +71,11 @@ tokenAt (x ∷ s) =
       | Nothing ↦ unreadable
     ]
 
--- "Spaces, tabs and comments may stand between tokens"
+-- L11: blanks and comments may stand in front of a token
 unfoldable pub firstToken : List ℕ → Token
 firstToken s = elim (skipped s) [ none ↦ unreadable | some rest ↦ tokenAt rest ]
 
--- the addresses that the octets s give from a place of the grammar on, of fewer than n tokens
+-- L9, L17: the addresses that the octets s give from a place of the grammar on, in their order, of fewer than n tokens
 unfoldable pub listedBy : ℕ → Stage → Bool → List ℕ → Option (List (List ℕ))
 listedBy zero stage inside s = none
 listedBy (suc n) stage inside s =
@@ -87,16 +89,17 @@ listedBy (suc n) stage inside s =
       | unreadable ↦ none
     ]
 
--- those of all its tokens: each token has an octet at least, so that there are no more tokens than octets
+-- L17: the addresses of all tokens of s, however many. Each token has an octet at least, so that there are no more tokens than
+-- octets.
 unfoldable pub listed : Stage → Bool → List ℕ → Option (List (List ℕ))
 listed stage inside s = listedBy (suc (length s)) stage inside s
 
--- The addresses of a list, as they stand and in order; none where it is unreadable. A list place must stand in it: "Empty list places ..
--- make the field unreadable".
+-- L17: the addresses of a list, in order and as they are spelled; none where it is unreadable. L9: a list place must stand in it.
+-- L18: so no octets, and blanks and comments alone, are unreadable.
 unfoldable pub addresses : List ℕ → Option (List (List ℕ))
 addresses s = listed Place false s
 
--- "Addresses are compared in canonical form only."
+-- L8: addresses are the same when their canonical forms are
 unfoldable pub among : List ℕ → List (List ℕ) → Bool
 among a [] = false
 among a (b ∷ rest) = sameOctets (canonical b) (canonical a) || among a rest

@@ -1,5 +1,5 @@
-// Lists of addresses, read from the front a token at a time. A cursor is a place in a list and in the grammar of lists;
-// the next address is handed out from it, with the cursor behind.
+// Lists of addresses (SCOPE, L9 to L18), read from the front a token at a time. A cursor is a place in a list and in the
+// grammar of lists; the next address is handed out from it, with the cursor behind.
 pub mod token; // the tokens of a list
 
 use grammar::Follow;
@@ -108,7 +108,7 @@ pub fn next_address(list: &[u8], cursor: ListCursor) -> NextAddress
     }
 }
 
-// How many addresses a list has.
+// How many addresses a list has, equal ones as often as they stand (L17).
 pub fn count(list: &[u8]) -> Counted
     ensures { λ r. ⌜ r ≡ countedOf (addresses (now (list .entry))) ⌝ }
 {

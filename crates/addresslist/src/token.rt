@@ -1,5 +1,5 @@
-// The tokens of a list: the signs `,` `<` `>` `:` `;`, words and addresses, with spaces, tabs and comments between them.
-// A long run costs its length.
+// The tokens of a list: the signs `,` `<` `>` `:` `;`, words and addresses (SCOPE, L9, L10, L12), with blanks and comments
+// between them (L11). A long run costs its length.
 use grammar::Sort;
 use runs::Class;
 use tokens::Reached;
@@ -42,6 +42,7 @@ fn holds_at(text: &[u8]) -> bool
     false
 }
 
+// What the octet opens; a control octet, a bracket or a backslash opens nothing (L5, L15).
 pub fn opened_by(x: u8) -> Start
     ensures { λ r. ⌜ r ≡ openingOf x ⌝ }
 {
@@ -59,7 +60,8 @@ pub fn opened_by(x: u8) -> Start
     }
 }
 
-// The run that begins at the place `from`: an address as a whole, or words; with an `@` in it and no address it is unreadable.
+// The run that begins at the place `from`: an address as a whole, or words; with an `@` in it and no address it is
+// unreadable (L12).
 fn run(list: &[u8], from: usize) -> TokenAt
     requires { ⌜ (from < length (now list)) × (addressOctet (getD (now list) from 0) ≡ true) ⌝ }
     ensures { λ r. ⌜ foundIn (now (list .entry)) r ≡ runToken (drop from (now (list .entry))) ⌝ }
@@ -79,7 +81,7 @@ fn run(list: &[u8], from: usize) -> TokenAt
     }
 }
 
-// The quoted string whose opening quote stands at the place `from`: a word.
+// The quoted string whose opening quote stands at the place `from`: a word (L10).
 fn quoted(list: &[u8], from: usize) -> TokenAt
     requires { ⌜ from < length (now list) ⌝ }
     ensures { λ r. ⌜ foundIn (now (list .entry)) r ≡ quotedToken (drop from (now (list .entry))) ⌝ }

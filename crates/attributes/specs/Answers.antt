@@ -1,10 +1,11 @@
--- From the rules to what the code answers. An answer gives places of the value; what they show stands between them.
+-- From the definitions of Attribute.antt to what the code answers. An answer gives places of the value; what they show stands
+-- between them.
 --     part                 what stands between two places
 --     Within               two places, in order
 --     FirstAt              the first place of an octet
 --     TrimmedFrom .. Trimmed    places between which stands what another two have between them, trimmed in front, behind, on both sides
 --     attributeAt          the attribute that an answer shows
---     ValueWithin, Tells   .. its value standing there
+--     ValueWithin, Tells   the places of its value lie in the text; an answer shows this attribute
 use Prim.Native.Nat.{ℕ, _+_, _-_, _≤_}
 use mathlib.Core.Path.{_≡_}
 use mathlib.Core.List.{List}
@@ -24,21 +25,24 @@ pub record Within (s : List ℕ) (from to : ℕ) : Type 0 where
   pub order : from ≤ to
   pub upto : to ≤ length s
 
--- r is the first place of x there, or `to` where there is none
+-- r is the first place of x between two others, or `to` where there is none
 pub record FirstAt (s : List ℕ) (from to x r : ℕ) : Type 0 where
   pub is : r ≡ from + length (before x (part s from to))
   pub upto : r ≤ to
 
+-- F2: from r on stands what stood from `from` on, without the blanks in front
 pub record TrimmedFrom (s : List ℕ) (from to r : ℕ) : Type 0 where
   pub is : part s r to ≡ trimmedFront (part s from to)
   pub low : from ≤ r
   pub high : r ≤ to
 
+-- F2: up to r stands what stood up to `to`, without the blanks behind
 pub record TrimmedTo (s : List ℕ) (from to r : ℕ) : Type 0 where
   pub is : part s from r ≡ trimmedBack (part s from to)
   pub low : from ≤ r
   pub high : r ≤ to
 
+-- F2: between the answer's places stands what stood between the others, without the blanks at both ends
 pub record Trimmed (s : List ℕ) (from to : ℕ) (r : Bounds) : Type 0 where
   pub low : from ≤ r .from
   pub order : r .from ≤ r .to

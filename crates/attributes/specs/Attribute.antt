@@ -1,4 +1,4 @@
--- One piece of the value of an Autocrypt or Autocrypt-Gossip field, as paper 01 reads it in "The two fields and the update".
+-- SCOPE, F2 to F5: one piece of the value of an Autocrypt or Autocrypt-Gossip field.
 --     trimmedFront, trimmedBack, trimmed     a name or a value without the blanks around it
 --     nameOf                                 which attribute a name stands for
 --     Attribute, attribute, attributeOf      what one piece says
@@ -12,20 +12,20 @@ use Rattle.address.specs.Pieces.{before, behind}
 use Rattle.attributes.specs.declared.Name.{Name}
 use Rattle.attributes.specs.declared.Name.the-variants.{Addr, PreferEncrypt, Keydata, Ignored, Unknown}
 
--- ".. trimmed of spaces and tabs": in front,
+-- F2: blanks in front are taken off
 unfoldable pub trimmedFront : List ℕ → List ℕ
 trimmedFront [] = []
 trimmedFront (x ∷ s) = elim (blank x) [ true ↦ trimmedFront s | false ↦ x ∷ s ]
 
--- behind,
+-- F2: blanks behind are taken off
 unfoldable pub trimmedBack : List ℕ → List ℕ
 trimmedBack s = reverse (trimmedFront (reverse s))
 
--- and on both sides
+-- F2: blanks at both ends are taken off, those inside stay
 unfoldable pub trimmed : List ℕ → List ℕ
 trimmed s = trimmedBack (trimmedFront s)
 
--- "Names are case-sensitive. .. Names opening with `_` are ignored; others spoil the field." The empty name is one of the others.
+-- F4: names are compared octet by octet. F5: one that opens with `_` is ignored, and any other is unknown. F3: so is the empty one.
 unfoldable pub nameOf : List ℕ → Name
 nameOf s =
     cond (sameOctets s names.addr) Addr
@@ -42,6 +42,7 @@ pub data Attribute : Type 0 where
   ignored : Attribute
   spoiling : Attribute
 
+-- F5: a name that is ignored is so with its value; one that is unknown spoils the field
 unfoldable pub attribute : Name → List ℕ → Attribute
 attribute Addr v = addr v
 attribute PreferEncrypt v = preferEncrypt v
@@ -49,8 +50,7 @@ attribute Keydata v = keydata v
 attribute Ignored v = ignored
 attribute Unknown v = spoiling
 
--- "each piece is name, `=`, value, parted at its first `=`, name and value each trimmed of spaces and tabs. A piece without `=` or with an
--- empty name spoils the field."
+-- F2: a piece is cut at its first `=` into name and value, and blanks are taken off both. F3: a piece without `=` spoils the field.
 unfoldable pub attributeOf : List ℕ → Attribute
 attributeOf p =
     elim (holds (octet "=") p) [

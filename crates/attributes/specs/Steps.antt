@@ -1,7 +1,7 @@
 -- From what a piece comes to, to what the code answers.
 --     addressAt, stated    the address and the preference seen so far
---     PlainAt, Stands      .. the address standing there
---     stepAt, Steps        the step that an answer shows
+--     PlainAt, Stands      a plain address stands between two places; so does the address seen so far
+--     stepAt, Steps        the step that an answer shows; an answer shows this step
 use Prim.Native.Nat.{ℕ, _≤_}
 use mathlib.Core.Path.{_≡_}
 use mathlib.Core.Bool.{Bool, true}
@@ -22,7 +22,7 @@ unfoldable pub addressAt : List ℕ → AddressAt → Option (List ℕ)
 addressAt s Unseen = none
 addressAt s (At from to) = some (part s from to)
 
--- a plain address stands there
+-- F6: a plain address stands there
 pub record PlainAt (s : List ℕ) (from to : ℕ) : Type 0 where
   pub order : from ≤ to
   pub upto : to ≤ length s

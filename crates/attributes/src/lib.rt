@@ -1,6 +1,6 @@
-// One piece of the value of an Autocrypt or Autocrypt-Gossip field: its name, which stands before the first "=", and its
-// value, each without the blanks around it; and what it comes to behind what was read before it. What is right is said by
-// specs/Attribute.antt and specs/Step.antt.
+// One piece of the value of an Autocrypt or Autocrypt-Gossip field (SCOPE, F2 to F8): its name, which stands before the
+// first `=`, and its value, each without the blanks around it; and what it comes to behind what was read before it. What is
+// right is said by specs/Attribute.antt and specs/Step.antt.
 ghost use mathlib.Core.Path.{_≡_};
 ghost use Rattle.attributes.specs.Attribute.{nameOf, attributeOf};
 ghost use Rattle.attributes.specs.Step.{withAddress, withPreference, step};
@@ -14,7 +14,7 @@ struct Bounds {
     to: usize,
 }
 
-// The names that a field knows.
+// The names that a field knows, and the others: ignored or unknown (F5).
 enum Name {
     Addr,
     PreferEncrypt,
@@ -44,7 +44,7 @@ pub enum Preference {
     Stated(bool),
 }
 
-// What a piece comes to: the reading goes on, it is at the key data, or the field is spoiled.
+// What a piece comes to: the reading goes on, it is at the key data (F8), or the field is spoiled.
 pub enum NextPiece {
     On(AddressAt, Preference),
     Last(usize, usize),
@@ -84,7 +84,7 @@ fn leave_blanks(s: &[u8], from: usize, to: usize) -> usize
     i
 }
 
-// ".. trimmed of spaces and tabs"
+// The places that are left when the blanks at both ends are taken off (F2).
 fn trim(s: &[u8], from: usize, to: usize) -> Bounds
     requires { ⌜ Within (now s) from to ⌝ }
     ensures { λ r. ⌜ Trimmed (now (s .entry)) from to r ⌝ }
@@ -97,7 +97,7 @@ fn trim(s: &[u8], from: usize, to: usize) -> Bounds
     }
 }
 
-// Which name it is. Names are compared as they stand: they are case-sensitive.
+// Which name it is. Names are compared octet by octet (F4).
 fn name_of(name: &[u8]) -> Name
     ensures { λ r. ⌜ r ≡ nameOf (now (name .entry)) ⌝ }
 {
@@ -116,7 +116,7 @@ fn name_of(name: &[u8]) -> Name
     Name::Unknown
 }
 
-// What the piece from `from` up to `to` says.
+// What the piece from `from` up to `to` says. Without `=` it spoils the field (F3).
 fn attribute_at(s: &[u8], from: usize, to: usize) -> Attribute
     requires { ⌜ Within (now s) from to ⌝ }
     ensures { λ r. ⌜ Tells (now (s .entry)) r (attributeOf (part (now (s .entry)) from to)) ⌝ }
@@ -138,7 +138,7 @@ fn attribute_at(s: &[u8], from: usize, to: usize) -> Attribute
     }
 }
 
-// "`addr`, a plain address, .. once"
+// The address: once, and a plain one (F6).
 fn with_address(
     s: &[u8],
     from: usize,
@@ -161,7 +161,7 @@ fn with_address(
     }
 }
 
-// "`prefer-encrypt` at most once, and any value but `mutual` means no preference"
+// The preference: once at most, and any value but `mutual` says that there is none (F7).
 fn with_preference(
     s: &[u8],
     from: usize,

@@ -1,4 +1,4 @@
--- What the private functions answer: the steps between the rule and the code's places.
+-- What the private functions answer: the steps between `decode` (SCOPE, F9) and the code's places.
 --     Run              what `write_groups` answers: a text has been read a way, and its octets are written
 --     NoneFit          what is refused: octets that have no room, or none at all
 --     Turned           what `write_next` answers

@@ -1,4 +1,4 @@
-// Base64 as key data has it: a text is decoded with its blanks left out. What is right is said by `decode` of
+// Base64 as key data has it (SCOPE, F9): a text is decoded with its blanks left out. What is right is said by `decode` of
 // letters/specs/Base64.antt. Octets are written as the lines of a field by the crate `keylines`.
 ghost use Prim.Native.Nat.{_+_, _≤_};
 ghost use mathlib.Core.Path.{_≡_};

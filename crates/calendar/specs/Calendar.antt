@@ -1,5 +1,6 @@
--- The calendar, and the count of days by a walk over the years and a table of the months.
+-- SCOPE, D8: the calendar, and the count of days by a walk over the years and a table of the months.
 --     leap          is the year a leap year?
+--     leapDay       the days that a year has more than 365
 --     monthLength   how many days a month of a year has, the months being 1 to 12
 --     dayCount      how many days lie between 1 January 1900 and a day of 1900 or later
 use Prim.Native.Nat.{ℕ, zero, suc, _+_, _-_, _%_}
@@ -8,16 +9,19 @@ use mathlib.Core.List.{List, [], _∷_}
 use lib.Dec.{eqb}
 use lib.ListN.{getD}
 
--- every fourth year is a leap year, of the full hundreds only every fourth one
+-- D8: every fourth year is a leap year, of the full hundreds only every fourth one
 unfoldable pub leap : ℕ → Bool
 leap year = elim (eqb (year % 100) 0) [ true ↦ eqb (year % 400) 0 | false ↦ eqb (year % 4) 0 ]
 
+-- D8: a leap year has one day more
 unfoldable pub leapDay : ℕ → ℕ
 leapDay year = elim (leap year) [ true ↦ 1 | false ↦ 0 ]
 
+-- D8: the months from January on, February without its leap day
 abbrev pub monthLengths : List ℕ
 monthLengths = 31 ∷ 28 ∷ 31 ∷ 30 ∷ 31 ∷ 30 ∷ 31 ∷ 31 ∷ 30 ∷ 31 ∷ 30 ∷ 31 ∷ []
 
+-- D8: the last day that a month has in a year
 unfoldable pub monthLength : ℕ → ℕ → ℕ
 monthLength year month =
     elim (eqb month 2) [ true ↦ 28 + leapDay year | false ↦ getD monthLengths (month - 1) 0 ]

@@ -1,4 +1,4 @@
-// The calendar: leap years, the lengths of the months, and how many days a day lies after 1 January 1900. The
+// The calendar: leap years, the lengths of the months (SCOPE, D8), and how many days a day lies after 1 January 1900. The
 // count stands behind one function, `day_count`, and its meaning behind one definition, `dayCount`.
 ghost use Prim.Native.Nat.{_≤_};
 ghost use mathlib.Core.Path.{_≡_};
@@ -6,7 +6,7 @@ ghost use Rattle.calendar.specs.Calendar.{leap as leapOf, leapDay, month
 
 const MONTH_LENGTHS: [u64; 12] = [31, 28, 31, 30, 31, 30, 31, 31, 30, 31, 30, 31];
 
-// Every fourth year is a leap year, of the full hundreds only every fourth one.
+// Every fourth year is a leap year, of the full hundreds only every fourth one (D8).
 fn leap(year: u64) -> bool
     ensures { λ r. ⌜ r ≡ leapOf year ⌝ }
 {
@@ -34,7 +34,7 @@ pub fn month_length(year: u64, month: u64) -> u64
     MONTH_LENGTHS[place]
 }
 
-// The days of so many years from 1900 on: a step for each year, 8,099 of them for the last year that can be written.
+// The days of so many years from 1900 on: a step for each year, 8,099 of them for the last year that can be written (D9).
 fn year_days(years: u64) -> u64
     requires { ⌜ years ≤ 8099 ⌝ }
     ensures { λ r. ⌜ r ≡ yearDays years ⌝ }

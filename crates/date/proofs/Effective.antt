@@ -1,7 +1,7 @@
 -- The effective date, and what callers ask of it.
 --     option-dated        the Date, to the code's answer and back
 --     effective-..        a branch of the code, and what the definition says
---     effective-upto      it is not above the receipt time
+--     effective-upto      it is not above the receipt time (D2)
 -- Assumes nothing.
 use Prim.Native.Nat.{ℕ, _≤_, _<_}
 use mathlib.Core.Path.{_≡_, refl}

@@ -1,4 +1,4 @@
--- Dates worked out, in one table: the paper's examples, and points where readings of it could differ. Each is computed from the definition.
+-- Dates worked out, in one table: those of C14, and texts that D4 to D12 decide. Each is computed from the definition.
 -- Assumes nothing.
 use Prim.Native.Nat.{ℕ}
 use Prim.Native.String.{String}
@@ -25,34 +25,34 @@ expected (text is date) = date
 
 examples : List Example
 examples =
-    -- paper 01, "Checked examples"
+    -- C14: D13 and D8
     ("1 Jan 1970 00:00:00 +0000" is some 0)
     ∷ ("1 Jan 1970 00:30 +0100" is some 0)
     ∷ ("1 Mar 2000 00:00:00 -0100" is some 951872400)
     ∷ ("29 Feb 1900 00:00 GMT" is none)
-    -- whole runs make the tokens, and no blank is needed
+    -- D4, D5: whole runs make the tokens, and no blank is needed. D6: a comment has to close.
     ∷ ("mon,1jan70 00:00:03z" is some 3)
     ∷ ("1 Jan 2000 00:00+0100" is some 946681200)
     ∷ ("1 Jan 20()00 00:00 GMT" is none)
     ∷ ("(a (b)) 1 Jan 1970 00:00 (c) GMT (d)" is some 0)
     ∷ ("1 Jan 1970 00:00 GMT (" is none)
-    -- a sign belongs to its digits, hours of a zone go to 99, minutes to 59
+    -- D11: a sign and its digits are one token; the hours of a zone end at 99, its minutes at 59
     ∷ ("1 Jan 2000 00:00 + 0100" is none)
     ∷ ("5 Jan 1970 04:00 +9959" is some 60)
     ∷ ("5 Jan 1970 04:00 +0060" is none)
-    -- zones of letters, one run of any length
+    -- D12: a zone of letters is one run of any length
     ∷ ("1 Jan 1970 00:00 pst" is some 28800)
     ∷ ("1 Jan 1970 00:00 Zulu" is some 0)
     ∷ ("1 Jan 1970 00:00 GMT+0100" is none)
-    -- second 60 counts 60 seconds after second 0, in any minute
+    -- D10: second 60 comes one behind second 59, in any minute
     ∷ ("1 Jan 1970 00:00:60 +0000" is some 60)
     ∷ ("1 Jan 1970 00:00:61 +0000" is none)
     ∷ ("1 Jan 1970 00:60 +0000" is none)
-    -- a day name has three letters and needs its comma
+    -- D7: a day name has three letters, any of the seven will do, and its comma must follow
     ∷ ("Sun, 1 Jan 1970 00:00 GMT" is some 0)
     ∷ ("Sunday, 1 Jan 1970 00:00 GMT" is none)
     ∷ ("Sun 1 Jan 1970 00:00 GMT" is none)
-    -- years of two, three and four digits
+    -- D9: years of two, three and four digits
     ∷ ("1 Jan 49 00:00 GMT" is some 2493072000)
     ∷ ("31 Dec 50 00:00 GMT" is some 0)
     ∷ ("1 Jan 100 00:00 GMT" is some 946684800)

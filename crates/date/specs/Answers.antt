@@ -1,4 +1,4 @@
--- The answers of the code, as the definitions have them.
+-- The answers of the code, as the definitions of Date.antt have them.
 --     datedOf, optionOf    the Date, and back
 --     readIn               what a place in the text s stands for: the octets from there on
 use Prim.Native.Nat.{ℕ}

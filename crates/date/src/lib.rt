@@ -1,5 +1,5 @@
-// The Date of a message: a field's value that reads as `[day-name,] day month year hh:mm[:ss] zone`, in seconds since
-// 1970; and the effective date.
+// The Date of a message, in seconds since 1970, where a field's value reads as one (SCOPE, D3): day name and comma, day,
+// month, year, hour, minute, second and zone; and the effective date (D2).
 use datewords::meaning;
 use datewords::meaning::Meaning;
 use datewords::meaning::Place;
@@ -12,7 +12,7 @@ ghost use Rattle.date.specs.Date.{next as nextOf, optional as optionalOf
 ghost use Rattle.datewords.specs.Answers.{meaning as meaningOf};
 ghost use Rattle.date.specs.Answers.{datedOf, optionOf, readIn};
 
-// The seconds from 1900 to 1970.
+// The seconds from 1900 to 1970, where times begin (T6).
 const EPOCH: u64 = 2_208_988_800;
 
 // A number, and the place behind what was read; or what was looked for is missing.
@@ -41,7 +41,7 @@ fn next(s: &[u8], at: usize, what: Place) -> PartRead
     }
 }
 
-// A part of two tokens that may be missing, and counts as 0 then.
+// A part of two tokens that may both be missing (D3), and count as 0 then (D10).
 fn optional(s: &[u8], at: usize, opening: Place, closing: Place) -> PartRead
     ensures { λ r. ⌜ readIn (now (s .entry)) r ≡ optionalOf opening closing (drop at (now (s .entry))) ⌝ }
 {
@@ -51,7 +51,7 @@ fn optional(s: &[u8], at: usize, opening: Place, closing: Place) -> PartRead
     }
 }
 
-// The days from 1900 to the day, which must exist in its month.
+// The days from 1900 to the day, which must exist in its month (D8).
 fn existing(year: u64, month: u64, day: u64) -> Meaning
     requires { ⌜ (1900 ≤ year) × (year ≤ 9999) ⌝ }
     requires { ⌜ (1 ≤ month) × (month ≤ 12) ⌝ }
@@ -66,7 +66,7 @@ fn existing(year: u64, month: u64, day: u64) -> Meaning
     Meaning::Value(calendar::day_count(year, month, day))
 }
 
-// `day month year`: the days since 1900.
+// Day, month and year (D3): the days since 1900.
 fn calendar_day(s: &[u8], at: usize) -> PartRead
     ensures { λ r. ⌜ readIn (now (s .entry)) r ≡ calendarDay (drop at (now (s .entry))) ⌝ }
 {
@@ -85,7 +85,7 @@ fn calendar_day(s: &[u8], at: usize) -> PartRead
     }
 }
 
-// The seconds since midnight; 86,400 of them where the second is 60.
+// The seconds since midnight; 86,400 of them where the last second of a day is 60 (D10).
 fn clock(hours: u64, minutes: u64, seconds: u64) -> u64
     requires { ⌜ (hours ≤ 23) × (minutes ≤ 59) × (seconds ≤ 60) ⌝ }
     ensures { λ r. ⌜ r ≡ 3600 * hours + 60 * minutes + seconds ⌝ }
@@ -93,7 +93,7 @@ fn clock(hours: u64, minutes: u64, seconds: u64) -> u64
     3600 * hours + 60 * minutes + seconds
 }
 
-// `hh:mm[:ss]`: the seconds since midnight.
+// Hour, colon, minute, and a colon with the second, which may be missing (D3): the seconds since midnight.
 fn time_of_day(s: &[u8], at: usize) -> PartRead
     ensures { λ r. ⌜ readIn (now (s .entry)) r ≡ timeOfDay (drop at (now (s .entry))) ⌝ }
 {
@@ -115,7 +115,7 @@ fn time_of_day(s: &[u8], at: usize) -> PartRead
     }
 }
 
-// The seconds since 1900. No day that can be written lies 3,000,000 days after 1900.
+// The seconds since 1900. No day that can be written (D9) lies 3,000,000 days after 1900.
 fn seconds_of(days: u64, seconds: u64) -> u64
     requires { ⌜ (days ≤ 3_000_000) × (seconds ≤ 86_400) ⌝ }
     ensures { λ r. ⌜ r ≡ 86400 * days + seconds ⌝ }
@@ -123,7 +123,7 @@ fn seconds_of(days: u64, seconds: u64) -> u64
     86400 * days + seconds
 }
 
-// `day month year hh:mm[:ss]`: the seconds since 1900, as the zone's own clock has them.
+// Day and time of day: the seconds since 1900, as the zone's own clock has them.
 fn local_time(s: &[u8], at: usize) -> PartRead
     ensures { λ r. ⌜ readIn (now (s .entry)) r ≡ localTime (drop at (now (s .entry))) ⌝ }
 {
@@ -139,14 +139,14 @@ fn local_time(s: &[u8], at: usize) -> PartRead
     }
 }
 
-// How much a is above b, 0 where it isn't.
+// How much a is above b, 0 where it is not.
 fn above(a: u64, b: u64) -> u64
     ensures { λ r. ⌜ r ≡ a - b ⌝ }
 {
     if a < b { 0 } else { a - b }
 }
 
-// The zone: the seconds since 1900 at Greenwich. "An east offset is subtracted, a west one added."
+// The zone: the seconds since 1900 in UTC, which are the local ones less an east offset, or with a west one added on (D13).
 fn zoned(s: &[u8], at: usize, local: u64) -> PartRead
     requires { ⌜ local ≤ 300_000_000_000 ⌝ }
     ensures { λ r. ⌜ readIn (now (s .entry)) r ≡ zonedOf local (drop at (now (s .entry))) ⌝ }
@@ -166,7 +166,7 @@ fn zoned(s: &[u8], at: usize, local: u64) -> PartRead
     }
 }
 
-// Nothing may stand behind the zone.
+// Nothing may stand behind the zone (D3). What lies before 1970 counts as 0 (D13).
 fn ended(s: &[u8], at: usize, value: u64) -> Dated
     ensures { λ r. ⌜ r ≡ datedOf (endedOf (got value (drop at (now (s .entry))))) ⌝ }
 {
@@ -193,7 +193,7 @@ pub fn date(value: &[u8]) -> Dated
     ended(value, to, instant)
 }
 
-// The smaller of Date and receipt time, or the receipt time when the Date is unavailable.
+// The receipt time, or a Date that is smaller (D2).
 pub fn effective_date(date: Dated, receipt: u64) -> u64
     ensures { λ r. ⌜ r ≡ effectiveDate (optionOf date) receipt ⌝ }
 {

@@ -1,6 +1,6 @@
 -- What an octet opens, and where the token ends.
 --     opens-..     a test of `opened_by`, and what the definition says
---     ends-..      the same for the end of a token that begins at a place of the text
+--     ends-..      a branch of `token_end`, and where the token ends by the definition
 -- Assumes nothing.
 use Prim.Native.Nat.{ℕ, _+_}
 use mathlib.Core.Path.{_≡_, refl, sym, _∙_}

@@ -1,4 +1,4 @@
--- The answers of the code, as the definitions have them.
+-- The answers of the code, as the definitions of Words.antt have them.
 --     meaning              a number that may be missing
 --     tokenIn              what a place in the text s stands for: the octets from there on
 --     Inside               a token lies in the text s

@@ -1,4 +1,5 @@
--- The words of a Date: its tokens, and what each means at the place where it stands. A value is read from its front, a token at a time.
+-- SCOPE, D3 to D12: the words of a Date, which are its tokens, and what each means at the place where it stands. A value is read
+-- from its front, a token at a time.
 --     openingOf, firstToken     tokens
 --     numberOf, placeIn         runs of digits, and names
 --     meant                     what a token means at each place of a date
@@ -17,8 +18,8 @@ use Rattle.datewords.specs.declared.token.Opening.the-variants.{Number, 
 use Rattle.datewords.specs.declared.meaning.Place.{Place}
 use Rattle.datewords.specs.declared.meaning.Place.the-variants.{DayName, Comma, Day, Month, Year, UpTo, Colon, East, West}
 
--- "Tokens are whole runs of digits or letters, a sign with its digits, comma and colon." What a token is shows in its first octet. Any
--- other octet counts as a token by itself, which no place of a date takes.
+-- D4: what a token is shows in its first octet: digits, letters, a sign, a comma or a colon. Any other octet counts as a token by
+-- itself, which no place of a date takes.
 unfoldable pub openingOf : ℕ → Opening
 openingOf x =
     elim (belongs Digit x) [
@@ -32,7 +33,7 @@ openingOf x =
       ]
     ]
 
--- how many of the octets s behind its first one a token has
+-- D4: how many of the octets s behind its first one a token has; a run is taken whole, and a sign takes the digits behind it
 unfoldable pub further : Opening → List ℕ → ℕ
 further Number s = runLength Digit s
 further Word s = runLength Letter s
@@ -46,11 +47,12 @@ pub data Token : Type 0 where
   end : Token
   unreadable : Token
 
+-- D4: the token that a text opens with
 unfoldable pub tokenAt : List ℕ → Token
 tokenAt [] = end
 tokenAt (x ∷ s) = let n = further (openingOf x) s in token (x ∷ take n s) (drop n s)
 
--- "with any spaces, tabs and comments (as in lists), or none, between tokens and at both ends"
+-- D5: blanks and comments may stand in front of a token. D6: a comment is read as in lists.
 unfoldable pub firstToken : List ℕ → Token
 firstToken s = elim (skipped s) [ none ↦ unreadable | some rest ↦ tokenAt rest ]
 
@@ -59,6 +61,7 @@ unfoldable pub onlyIf : Bool → Option ℕ → Option ℕ
 onlyIf true o = o
 onlyIf false o = none
 
+-- the number that one digit stands for
 unfoldable pub digitOf : ℕ → Option ℕ
 digitOf x = onlyIf (belongs Digit x) (some (x - octet "0"))
 
@@ -67,22 +70,23 @@ unfoldable pub valueFrom : ℕ → List ℕ → Option ℕ
 valueFrom n [] = some n
 valueFrom n (x ∷ s) = bind (digitOf x) (λ d. valueFrom (10 * n + d) s)
 
--- no place of a date takes more than four digits
+-- D8 to D11: no place of a date takes more than four digits
 unfoldable pub numberOf : List ℕ → Option ℕ
 numberOf t = onlyIf (leb (length t) 4) (valueFrom 0 t)
 
--- "Day and month names have three letters; names and zones are in any case." A table has one name after the other.
--- "The day name must be one of seven, its truth isn't tested."
+-- D7: the seven day names, one after the other
 abbrev pub dayNames : List ℕ
 dayNames = ascii "MonTueWedThuFriSatSun"
 
+-- D8: the twelve months, one after the other
 abbrev pub monthNames : List ℕ
 monthNames = ascii "JanFebMarAprMayJunJulAugSepOctNovDec"
 
--- "EST -5, EDT -4, CST -6, CDT -5, MST -7, MDT -6, PST -8, PDT -7 hours"
+-- D12: the eight zones that lie west, one after the other
 abbrev pub zoneNames : List ℕ
 zoneNames = ascii "ESTEDTCSTCDTMSTMDTPSTPDT"
 
+-- D12: how many hours each of these zones lies west
 abbrev pub zoneHours : List ℕ
 zoneHours = 5 ∷ 4 ∷ 6 ∷ 5 ∷ 7 ∷ 6 ∷ 8 ∷ 7 ∷ []
 
@@ -91,29 +95,30 @@ unfoldable pub hereOr : Bool → ℕ → Option ℕ → Option ℕ
 hereOr true k later = some k
 hereOr false k later = later
 
--- which of the names t is, the first one being k; none where it is none of them
+-- D7, D8, D12: which of the names of three letters t is, in any case, the first one being k; none where it is none of them
 unfoldable pub placeFrom : ℕ → List ℕ → List ℕ → Option ℕ
 placeFrom k t [] = none
 placeFrom k t (a ∷ []) = none
 placeFrom k t (a ∷ b ∷ []) = none
 placeFrom k t (a ∷ b ∷ c ∷ names) = hereOr (sameName t (a ∷ b ∷ c ∷ [])) k (placeFrom (k + 1) t names)
 
+-- which of the names t is, the first one being 0
 abbrev pub placeIn : List ℕ → List ℕ → Option ℕ
 placeIn t names = placeFrom 0 t names
 
--- a comma or a colon stands for nothing
+-- D3: a comma or a colon, which stands for nothing
 unfoldable pub markOf : List ℕ → List ℕ → Option ℕ
 markOf t mark = onlyIf (sameOctets t mark) (some 0)
 
--- "Day has 1 or 2 digits"
+-- D8: the day has one digit or two
 unfoldable pub dayOf : List ℕ → Option ℕ
 dayOf t = onlyIf (leb (length t) 2) (numberOf t)
 
--- the months count from 1
+-- D8: the months count from 1
 unfoldable pub monthOf : List ℕ → Option ℕ
 monthOf t = bind (placeIn t monthNames) (λ k. some (k + 1))
 
--- "Years: two digits 00-49 add 2000, 50-99 add 1900, three digits add 1900, four digits from 1900."
+-- D9: the year, by how many digits it has
 unfoldable pub yearBy : ℕ → ℕ → Option ℕ
 yearBy width n =
     elim (eqb width 2) [
@@ -121,28 +126,31 @@ yearBy width n =
       | false ↦ elim (eqb width 3) [ true ↦ some (n + 1900) | false ↦ onlyIf (eqb width 4 && leb 1900 n) (some n) ]
     ]
 
+-- D9: a year of two, three or four digits
 unfoldable pub yearOf : List ℕ → Option ℕ
 yearOf t = bind (numberOf t) (λ n. yearBy (length t) n)
 
--- "hours go to 23, minutes to 59, seconds to 60, two digits each"
+-- D10: two digits that stand for so much at most
 unfoldable pub twoDigits : ℕ → List ℕ → Option ℕ
 twoDigits most t = onlyIf (eqb (length t) 2) (bind (numberOf t) (λ n. onlyIf (leb n most) (some n)))
 
--- "Zones: sign and four digits, minutes to 59": the seconds that the digits stand for
+-- D11: the seconds that four digits of a zone stand for, two for hours and two for minutes; these end at 59
 unfoldable pub offsetBy : ℕ → Option ℕ
 offsetBy n = onlyIf (leb (n % 100) 59) (some (3600 * (n / 100) + 60 * (n % 100)))
 
+-- D11: exactly four digits, which stood behind a sign
 unfoldable pub offsetOf : List ℕ → Option ℕ
 offsetOf t = onlyIf (eqb (length t) 4) (bind (numberOf t) (λ n. offsetBy n))
 
--- "other letters 0", UT and GMT among them
+-- D12: letters that are none of the eight names lie at 0
 unfoldable pub hoursWest : List ℕ → ℕ
 hoursWest t = elim (placeIn t zoneNames) [ none ↦ 0 | some k ↦ getD zoneHours k 0 ]
 
+-- what a token is, by its first octet
 abbrev pub opensWith : List ℕ → Opening
 opensWith t = openingOf (getD t 0 0)
 
--- how many seconds a zone t lies east, by what it opens with
+-- D11: how many seconds a zone t lies east, by what it opens with; only `+` lies east
 unfoldable pub eastBy : Opening → List ℕ → Option ℕ
 eastBy Number t = none
 eastBy Word t = none
@@ -150,7 +158,7 @@ eastBy Plus t = offsetOf (drop 1 t)
 eastBy Minus t = none
 eastBy Mark t = none
 
--- how many seconds it lies west
+-- D11, D12: how many seconds a zone t lies west, by what it opens with; `-` and letters lie west, be it by 0
 unfoldable pub westBy : Opening → List ℕ → Option ℕ
 westBy Number t = none
 westBy Word t = some (3600 * hoursWest t)
@@ -158,7 +166,8 @@ westBy Plus t = none
 westBy Minus t = offsetOf (drop 1 t)
 westBy Mark t = none
 
--- what a token means at a place of a date; none: it may not stand there
+-- D3: what a token means at a place of a date; none: it may not stand there. D7: at the place of the day name any of the seven
+-- will do.
 unfoldable pub meant : Place → List ℕ → Option ℕ
 meant DayName t = placeIn t dayNames
 meant Comma t = markOf t (ascii ",")

@@ -1,4 +1,5 @@
-// What a token means at each place of a date: numbers of few digits, names of three letters, marks and zones.
+// What a token means at each place of a date: numbers of few digits, names of three letters, marks and zones (SCOPE, D7 to
+// D12).
 use crate::token;
 use crate::token::Opening;
 use runs::Class;
@@ -7,7 +8,7 @@ ghost use mathlib.Core.Path.{_≡_};
 ghost use Rattle.datewords.specs.Words.{digitOf, numberOf, placeIn, markOf, dayOf, monthOf, yearBy, yearOf, twoDigits, offsetBy, offsetOf, hoursWest, opensWith, eastBy, westBy, meant as meantOf};
 ghost use Rattle.datewords.specs.Answers.{meaning as meaningOf};
 
-// The hours that the zones lie west, in the order of their names below.
+// The hours that the zones lie west (D12), in the order of their names below.
 const ZONE_HOURS: [u64; 8] = [5, 4, 6, 5, 7, 6, 8, 7];
 
 // The places of a date. `UpTo` is a place of two digits, which stand for so much at most.
@@ -45,7 +46,7 @@ fn digit(x: u8) -> Meaning
     Meaning::Nothing
 }
 
-// The number that a run of at most four digits stands for.
+// The number that a run of digits stands for. No place of a date takes more than four (D8 to D11).
 fn number(run: &[u8]) -> Meaning
     ensures { λ r. ⌜ r ≡ meaningOf (numberOf (now (run .entry))) ⌝ }
 {
@@ -66,7 +67,7 @@ fn number(run: &[u8]) -> Meaning
     Meaning::Value(n)
 }
 
-// Which of the names it is, each of three letters, the first one being 0.
+// Which of the names it is, each of three letters and in any case, the first one being 0.
 fn which(run: &[u8], names: &[u8]) -> Meaning
     ensures { λ r. ⌜ r ≡ meaningOf (placeIn (now (run .entry)) (now (names .entry))) ⌝ }
 {
@@ -92,7 +93,7 @@ fn mark(run: &[u8], text: &[u8]) -> Meaning
     Meaning::Nothing
 }
 
-// "Day has 1 or 2 digits"
+// The day, of one digit or two (D8).
 fn day(run: &[u8]) -> Meaning
     ensures { λ r. ⌜ r ≡ meaningOf (dayOf (now (run .entry))) ⌝ }
 {
@@ -102,7 +103,7 @@ fn day(run: &[u8]) -> Meaning
     number(run)
 }
 
-// The month, January being 1.
+// The month, January being 1 (D8).
 fn month(run: &[u8]) -> Meaning
     ensures { λ r. ⌜ r ≡ meaningOf (monthOf (now (run .entry))) ⌝ }
 {
@@ -112,7 +113,7 @@ fn month(run: &[u8]) -> Meaning
     }
 }
 
-// The year that so many digits stand for.
+// The year that so many digits stand for (D9).
 fn year_by(width: usize, n: u64) -> Meaning
     requires { ⌜ n ≤ 9999 ⌝ }
     ensures { λ r. ⌜ r ≡ meaningOf (yearBy width n) ⌝ }
@@ -135,7 +136,7 @@ fn year_by(width: usize, n: u64) -> Meaning
     Meaning::Value(n)
 }
 
-// The year, of two, three or four digits.
+// The year, of two, three or four digits (D9).
 fn year(run: &[u8]) -> Meaning
     ensures { λ r. ⌜ r ≡ meaningOf (yearOf (now (run .entry))) ⌝ }
 {
@@ -145,7 +146,7 @@ fn year(run: &[u8]) -> Meaning
     }
 }
 
-// Two digits that stand for `most` at most.
+// Two digits that stand for `most` at most (D10).
 fn two_digits(run: &[u8], most: u64) -> Meaning
     ensures { λ r. ⌜ r ≡ meaningOf (twoDigits most (now (run .entry))) ⌝ }
 {
@@ -163,7 +164,7 @@ fn two_digits(run: &[u8], most: u64) -> Meaning
     }
 }
 
-// The seconds that the four digits of a zone stand for.
+// The seconds that the four digits of a zone stand for (D11).
 fn offset_by(n: u64) -> Meaning
     requires { ⌜ n ≤ 9999 ⌝ }
     ensures { λ r. ⌜ r ≡ meaningOf (offsetBy n) ⌝ }
@@ -175,7 +176,7 @@ fn offset_by(n: u64) -> Meaning
     Meaning::Value(3600 * (n / 100) + 60 * minutes)
 }
 
-// "sign and four digits": the digits behind the sign.
+// The digits behind the sign of a zone: exactly four (D11).
 fn offset(run: &[u8]) -> Meaning
     ensures { λ r. ⌜ r ≡ meaningOf (offsetOf (now (run .entry))) ⌝ }
 {
@@ -188,7 +189,7 @@ fn offset(run: &[u8]) -> Meaning
     }
 }
 
-// The hours that a zone of letters lies west; 0 where it is none that has a name here.
+// The hours that a zone of letters lies west; 0 where it is none that has a name here (D12).
 fn hours_west(run: &[u8]) -> u64
     ensures { λ r. ⌜ (r ≡ hoursWest (now (run .entry))) × (r ≤ 8) ⌝ }
 {

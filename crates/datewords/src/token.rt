@@ -1,5 +1,5 @@
-// The tokens of a date: "whole runs of digits or letters, a sign with its digits, comma and colon", with spaces, tabs
-// and comments between them. A long run costs its length.
+// The tokens of a date: runs of digits, runs of letters, signs with their digits, commas and colons (SCOPE, D4), with
+// blanks and comments between them (D5). A long run costs its length.
 use runs::Class;
 use tokens::Reached;
 ghost use Prim.Native.Nat.{_+_, _<_};
@@ -24,7 +24,7 @@ pub enum WordAt {
     Unreadable,
 }
 
-// What the octet opens. Any that opens no token of a date counts as a mark.
+// What the octet opens. Commas and colons are marks, and so is an octet that opens no token of a date: no place takes it (D4).
 pub fn opened_by(x: u8) -> Opening
     ensures { λ r. ⌜ r ≡ openingOf x ⌝ }
 {

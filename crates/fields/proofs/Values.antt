@@ -2,7 +2,7 @@
 --     fields-are, fields-read      the fields of a readable block
 --     block-begin                  from its first line on they are readable
 --     values-first, values-other   the values that are asked for, by the first field of some
---     values-in, values-out        the same in front of those that are readable
+--     values-in, values-out        those of a field in front of what stands behind it in a block
 --     values-append                those of fields behind fields
 --     values-by                    those from a place on, by the fields there
 --     values-all, values-end       from the first line on they are those of the block, at its end there are none
@@ -46,7 +46,7 @@ module _ (kind : Kind) (f : FieldText) where
   unfolding valuesOf
   values-other fs e = rw (valuesOf, e)
 
-  -- in front of those that are readable
+  -- in front of what stands behind it in a block
   pub values-in : (o : Option (List FieldText)) → isKind kind (f .name) ≡ true → isSome o ≡ true
       → valuesOf kind (orElse [] (inFront f o)) ≡ f .value ∷ valuesOf kind (orElse [] o)
   values-in o e c = ap (valuesOf kind) (else-front f o c) ∙ values-first (orElse [] o) e

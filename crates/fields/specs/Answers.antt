@@ -1,4 +1,4 @@
--- From the rules to what the code answers.
+-- From the definitions of Fields.antt to what the code answers.
 --     valuesFrom             the values of the fields that are asked for, from a place of a block on
 --     NamedAt, NamedAs       the first of these, by its place
 --     valueIn, OnlyWithin    the one that has no other
@@ -18,7 +18,7 @@ use Rattle.fields.specs.declared.Named.the-variants.{Field, Nothing}
 use Rattle.fields.specs.declared.Only.{Only}
 use Rattle.fields.specs.declared.Only.the-variants.{One, Other}
 
--- what stands from the place v up to the place e, unfolded
+-- B9: what stands from the place v up to the place e, unfolded
 abbrev pub valueAt : List ℕ → ℕ → ℕ → List ℕ
 valueAt s v e = unfolded (take (e - v) (drop v s))
 

@@ -1,4 +1,4 @@
--- The fields of a block, and those that are asked for, of paper 01.
+-- The fields of a block, and those that are asked for (SCOPE, B11 and B12).
 --     fieldsIn            the fields of a readable block
 --     isKind, valuesOf    the fields that are asked for
 use Prim.Native.Nat.{ℕ}
@@ -15,7 +15,7 @@ use Rattle.fields.specs.declared.Kind.the-variants.{From, ContentType, D
 unfoldable pub fieldsIn : List ℕ → List FieldText
 fieldsIn s = orElse [] (fieldsOf s)
 
--- The fields that are asked for, by their names: "Names compare without regard to ASCII case."
+-- B12: the fields that are asked for, by their names, which have no case (B11). G4: the recipients are in three kinds of fields.
 unfoldable pub isKind : Kind → List ℕ → Bool
 isKind From name = sameName name (ascii "From")
 isKind ContentType name = sameName name (ascii "Content-Type")
@@ -24,7 +24,7 @@ isKind Autocrypt name = sameName name names.autocrypt
 isKind Recipients name = sameName name (ascii "To") || sameName name (ascii "Cc") || sameName name (ascii "Reply-To")
 isKind AutocryptGossip name = sameName name names.gossip
 
--- their values, in order
+-- B11: their values, in the order in which they stand; none hides another
 unfoldable pub valuesOf : Kind → List FieldText → List (List ℕ)
 valuesOf kind [] = []
 valuesOf kind (f ∷ rest) = elim (isKind kind (f .name)) [ true ↦ f .value ∷ valuesOf kind rest | false ↦ valuesOf kind rest ]

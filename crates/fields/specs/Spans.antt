@@ -1,4 +1,4 @@
--- One walk over a block: whether it is readable, and where the fields stand that are asked for.
+-- One walk over a block: whether it is readable (SCOPE, B1 and B8), and where the fields stand that are asked for (B12).
 --     spanPast, surveyNew, surveyPast    what the walk keeps, field by field
 --     SpanAs, SurveyAs, SurveyedAs       what holds of it at the end
 use Prim.Native.Nat.{ℕ}

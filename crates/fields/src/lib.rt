@@ -1,5 +1,5 @@
-// The fields of a block that are asked for: their kinds, one walk over a block that tells where those of each kind stand,
-// and the search for the next one. What is right is said by specs/Fields.antt.
+// The fields of a block that are asked for (SCOPE, B12): their kinds, one walk over a block that tells where those of each
+// kind stand, and the search for the next one. What is right is said by specs/Fields.antt.
 ghost use mathlib.Core.Path.{_≡_};
 ghost use mathlib.Core.Bool.{true};
 ghost use mathlib.Core.List.{[]};
@@ -10,7 +10,7 @@ ghost use Rattle.fields.specs.Spans.{spanPast, surveyNew, surveyPast, Sp
 ghost use Rattle.fields.specs.Answers.{valuesFrom, NamedAs, valueIn, OnlyWithin};
 use header::Step;
 
-// The fields that are asked for.
+// The fields that are asked for (B12). `Recipients` are To, Cc and Reply-To (G4).
 pub enum Kind {
     From,
     ContentType,
@@ -53,7 +53,7 @@ pub enum Only {
     Other,
 }
 
-// Is a field of this name asked for?
+// Is a field of this name asked for? Names have no case (B11).
 fn is_kind(name: &[u8], kind: Kind) -> bool
     ensures { λ r. ⌜ r ≡ kindOf kind (now (name .entry)) ⌝ }
 {

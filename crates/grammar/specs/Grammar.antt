@@ -1,4 +1,4 @@
--- The grammar of lists, of paper 01: which token may stand at each of its places.
+-- SCOPE, L9, L10 and L13 to L15: the grammar of lists, which token may stand at each of its places.
 --     afterAddress                  behind an address
 --     atPlace .. atBehind, after    behind any other token, at each place of the grammar
 --     mayEnd                        where a list may end
@@ -10,10 +10,11 @@ use Rattle.grammar.specs.declared.Stage.the-variants.{Place, Opened, Phr
 use Rattle.grammar.specs.declared.Follow.{Follow}
 use Rattle.grammar.specs.declared.Follow.the-variants.{On, Wrong}
 
--- "`address`, `[phrase] <address>`, or a group `phrase : [list] ;` without inner groups", separated by commas. What a token does at each
--- place of the grammar: `On` goes on at another place, inside a group or not; `Wrong` is unreadable.
+-- What a token does at each place of the grammar: `On` goes on at another place, inside a group or not; `Wrong` is unreadable. A
+-- list place is what stands between two commas.
 
--- a bare address is a list place, and so is one between "<" and ">"
+-- L9: a bare address is a list place, the first of a group too, and one behind `<` has to be closed; behind a whole place a comma
+-- must come first. L15: no bare address stands behind words.
 unfoldable pub afterAddress : Stage → Bool → Follow
 afterAddress Place inside = On Behind inside
 afterAddress Opened inside = On Behind inside
@@ -22,7 +23,8 @@ afterAddress Angle inside = On Closing inside
 afterAddress Closing inside = Wrong
 afterAddress Behind inside = Wrong
 
--- where a list place must begin; "Empty list places .. make the field unreadable"
+-- L9: here a list place must begin, with a word or `<`. L13: a comma or a semicolon would leave it empty. L14: a group needs its
+-- phrase.
 abbrev pub atPlace : Bool → Sort → Follow
 atPlace inside Word = On Phrase inside
 atPlace inside Less = On Angle inside
@@ -31,7 +33,7 @@ atPlace inside Comma = Wrong
 atPlace inside Colon = Wrong
 atPlace inside Semicolon = Wrong
 
--- behind the colon of a group: "[list] ;"
+-- L14: behind the colon of a group, which may close at once. L13: a comma would leave an empty place.
 abbrev pub atOpened : Bool → Sort → Follow
 atOpened inside Word = On Phrase inside
 atOpened inside Less = On Angle inside
@@ -40,7 +42,7 @@ atOpened inside Comma = Wrong
 atOpened inside Colon = Wrong
 atOpened inside Semicolon = On Behind false
 
--- behind one or more words: "phrase <address>", "phrase :", "without inner groups"
+-- L10: behind one or more words another may follow. L9: so may `<`, and the colon of a group. L15: no group stands in a group.
 abbrev pub atPhrase : Bool → Sort → Follow
 atPhrase inside Word = On Phrase inside
 atPhrase inside Less = On Angle inside
@@ -49,11 +51,11 @@ atPhrase inside Comma = Wrong
 atPhrase inside Colon = elim inside [ true ↦ Wrong | false ↦ On Opened true ]
 atPhrase inside Semicolon = Wrong
 
--- behind "<" an address must stand; "routes, `<>` .. make the field unreadable"
+-- L15: behind `<` only an address may stand, so `<>` and routes are unreadable
 abbrev pub atAngle : Bool → Sort → Follow
 atAngle inside sort = Wrong
 
--- behind "<address"
+-- L9: behind `<` and an address only `>` may stand
 abbrev pub atClosing : Bool → Sort → Follow
 atClosing inside Word = Wrong
 atClosing inside Less = Wrong
@@ -62,7 +64,8 @@ atClosing inside Comma = Wrong
 atClosing inside Colon = Wrong
 atClosing inside Semicolon = Wrong
 
--- behind a whole list place: "separated by commas", and a group's ";"
+-- L9: behind a whole list place comes a comma. L14: or the semicolon of a group, which is wrong outside of one. L15: no words
+-- follow `<a@b>`.
 abbrev pub atBehind : Bool → Sort → Follow
 atBehind inside Word = Wrong
 atBehind inside Less = Wrong
@@ -71,6 +74,7 @@ atBehind inside Comma = On Place inside
 atBehind inside Colon = Wrong
 atBehind inside Semicolon = elim inside [ true ↦ On Behind false | false ↦ Wrong ]
 
+-- what any token but an address does, by the place of the grammar
 unfoldable pub after : Stage → Bool → Sort → Follow
 after Place inside sort = atPlace inside sort
 after Opened inside sort = atOpened inside sort
@@ -79,7 +83,8 @@ after Angle inside sort = atAngle inside sort
 after Closing inside sort = atClosing inside sort
 after Behind inside sort = atBehind inside sort
 
--- A list may end behind a whole list place, and not inside a group, whose ";" is then missing.
+-- L9: a list may end behind a whole list place. L13: it may not end behind a comma. L14: nor inside a group, whose semicolon is
+-- then missing.
 abbrev pub mayEnd : Stage → Bool → Bool
 mayEnd Place inside = false
 mayEnd Opened inside = false

@@ -1,5 +1,6 @@
-// The grammar of lists: `address`, `[phrase] <address>`, or a group `phrase : [list] ;` without inner groups, separated by
-// commas. It is a table of the tokens that may stand at each place. What is right is said by specs/Grammar.antt.
+// The grammar of lists: places with a comma between two of them, each of which is an address, an address in angle brackets
+// or a group (SCOPE, L9). It is a table of the tokens that may stand at each place. What is right is said by
+// specs/Grammar.antt.
 ghost use mathlib.Core.Path.{_≡_};
 ghost use Rattle.grammar.specs.declared.Stage.the-variants.{Place, Opened, Phrase, Closing, Behind};
 ghost use Rattle.grammar.specs.declared.Sort.the-variants.{Colon, Semicolon};
@@ -45,7 +46,7 @@ pub fn after_address(stage: Stage, inside: bool) -> Follow
     }
 }
 
-// Behind the colon of a group: there are no inner groups.
+// Behind the colon of a group: no group stands in a group (L15).
 fn group_opened(inside: bool) -> Follow
     ensures { λ r. ⌜ r ≡ afterOf Phrase inside Colon ⌝ }
 {
@@ -55,7 +56,7 @@ fn group_opened(inside: bool) -> Follow
     Follow::On(Stage::Opened, true)
 }
 
-// Behind a semicolon, which ends a group.
+// Behind a semicolon, which ends a group, and means nothing outside of one (L14).
 fn group_closed(inside: bool) -> Follow
     ensures { λ r. ⌜ r ≡ afterOf Behind inside Semicolon ⌝ }
 {

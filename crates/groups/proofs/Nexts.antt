@@ -1,6 +1,6 @@
 -- What a text goes on with: its next letters, its next group.
 --     over, got        what an answer of `next_letter` says of the text
---     grouped-at       one step of the rule
+--     grouped-at       one step of `decode`
 --     read-three .. read-broken    what an answer of `next_group` says of the text
 --     read-whole       and what one of `whole_group` says
 --     the rulesets     stepping for `step`, spacing for `next_group`, nearing for `whole_group`
@@ -155,7 +155,7 @@ module _ (s : List ℕ) (at : ℕ) (l : at ≤ length s) (k : 4 ≤ length s - a
       (omega arith) (omega arith) in
       rw (is-letter _ p e₁ l₁, is-letter _ q e₂ l₂, is-letter _ r e₃ l₃, is-letter _ t e₄ l₄) at f
 
-  -- the same by their 24 bits
+  -- their octets, by the 24 bits of the four
   pub whole-three : (n : ℕ) → n ≡ p * 262144 + q * 4096 + r * 64 + t → WholeGroup s at (WThree (n / 65536) (n / 256 % 256) (n % 256))
   whole-three n e =
       let x : n / 65536 ≡ p * 4 + q / 16 = omega arith in

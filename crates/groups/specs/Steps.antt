@@ -1,4 +1,4 @@
--- What the functions answer: the steps between the rule and the code's places.
+-- From the rule on key data, F9 of SCOPE, to the code's places: what the functions answer.
 --     NextLetter       what `next_letter` answers
 --     stepOf           what a text goes on with whose next four characters are a group
 --     NextGroup        what `next_group` answers
@@ -19,12 +19,12 @@ use Rattle.groups.specs.declared.Next.the-variants.{Three, Two, One, End
 use Rattle.groups.specs.declared.Whole.{Whole}
 use Rattle.groups.specs.declared.Whole.the-variants.{Three as WThree, Other as WOther}
 
--- x is the next character of s from the place `at` on that is no blank, and n the place behind it; or there are only blanks
+-- F9: x is the next character of s from the place `at` on that is no blank, and n the place behind it; or there are only blanks
 unfoldable pub NextLetter : List ℕ → ℕ → Letter → Type 0
 NextLetter s at Over = withoutBlanks (drop at s) ≡ []
 NextLetter s at (At x n) = (withoutBlanks (drop at s) ≡ x ∷ withoutBlanks (drop n s)) × (at < n) × (n ≤ length s)
 
--- a group, the place behind it and the characters that follow: with pads it is the last
+-- F9: a group, the place behind it and the characters that follow: with pads it is the last
 unfoldable pub stepOf : Group → ℕ → List ℕ → Next
 stepOf (GThree x y z) n rest = Three x y z n
 stepOf (GTwo x y) n [] = Two x y
@@ -33,7 +33,8 @@ stepOf (GOne x) n [] = One x
 stepOf (GOne x) n (c ∷ rest) = Broken
 stepOf GBroken n rest = Broken
 
--- what s stands for from the place `at` on: three octets and what it stands for from the place n on, or its last octets, or nothing
+-- F9: what s stands for from the place `at` on: three octets and what it stands for from the place n on, or its last octets, or
+-- nothing
 unfoldable pub NextGroup : List ℕ → ℕ → Next → Type 0
 NextGroup s at (Three x y z n) =
     (decode (withoutBlanks (drop at s)) ≡ before (x ∷ y ∷ z ∷ []) (decode (withoutBlanks (drop n s)))) × (at + 4 ≤ n) × (n ≤ length s)

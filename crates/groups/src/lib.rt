@@ -1,5 +1,5 @@
-// What a text goes on with at a place: its next four characters, with blanks anywhere, and the octets that they stand for.
-// What is right is said by `decode` of letters/specs/Base64.antt; specs/Steps.antt leads from there to places.
+// What a text goes on with at a place: its next four characters, with blanks anywhere, and the octets that they stand for
+// (SCOPE, F9). What is right is said by `decode` of letters/specs/Base64.antt; specs/Steps.antt leads from there to places.
 ghost use Prim.Native.Nat.{_+_, _*_, _≤_, _<_};
 ghost use mathlib.Core.Path.{_≡_};
 ghost use lib.ListN.{length, drop};
@@ -43,7 +43,7 @@ fn next_letter(src: &[u8], at: usize) -> Letter
 }
 
 // What a text goes on with, whose next four characters are a group and end at the place `n`. A group with
-// pads is the last: only blanks may follow it.
+// pads is the last: only blanks may follow it (F9).
 fn step(src: &[u8], group: Group, n: usize) -> Next
     ensures { λ r. ⌜ r ≡ stepOf group n (withoutBlanks (drop n (now (src .entry)))) ⌝ }
 {

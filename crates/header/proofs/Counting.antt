@@ -44,7 +44,7 @@ module _ (f : List ℕ → ℕ) (s : List ℕ) (at : ℕ) where
   upto : (f (drop at s) ≤ length (drop at s)) → at ≤ length s → at + f (drop at s) ≤ length s
   upto h l = omega (arith, length-drop at s)
 
--- one step of each definition
+-- one step of `rawLength`
 module _ (x : ℕ) (s : List ℕ) where
   pub raw-on : closes x (getD s 0 0) ≡ false → rawLength (x ∷ s) ≡ suc (rawLength s)
   unfolding rawLength
@@ -54,7 +54,7 @@ module _ (x : ℕ) (s : List ℕ) where
   unfolding rawLength
   raw-last e = rw (rawLength, e)
 
--- the same at a place
+-- one step at a place
 module _ (s : List ℕ) (i : ℕ) where
   raw-past : length s ≤ i → rawLength (drop i s) ≡ 0
   unfolding rawLength

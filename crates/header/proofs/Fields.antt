@@ -1,6 +1,6 @@
 -- The fields of a text.
 --     fields-over, fields-broken, fields-one    the equations of `fields`, with no count of lines
---     from-over, from-broken, from-field        the same from a place on, by the answer r about what stands there
+--     from-over, from-broken, from-field        the fields from a place on, by the answer r about what stands there
 --     fields-fit, fields-long       where a block is readable
 --     clear-fits .. clear-whole                 what follows where it is found to be
 --     Legible s at                              the block is readable if it is from the place `at` on
@@ -113,7 +113,7 @@ pub fields-fit : (s : List ℕ) → length s ≤ limit → fieldsOf s ≡ fields
 unfolding fieldsOf fieldsFrom
 fields-fit s h = rw (fieldsOf, le-leb (length s) limit h)
 
--- "length 0 is readable"
+-- B5: a block of no octets is readable
 pub fields-empty : fieldsOf [] ≡ some []
 unfolding fieldsOf fields fieldsWithin
 fields-empty = refl

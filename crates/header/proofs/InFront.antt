@@ -1,4 +1,4 @@
--- A field that is written in front of a text is the first of its fields.
+-- A field that is written in front of a text is the first of its fields (C6).
 --     raw-lf, raw-cons, raw-text  how a value as a field has it is made
 --     run-append, raw-append      a run or a value in front of a text ends where the text begins
 --     field-in-front              the fields of name, colon, value and rest are that field and those of the rest

@@ -1,4 +1,4 @@
--- "Lines end in CRLF or LF": which of the two makes no difference to the fields.
+-- B15: whether lines end with LF or with CRLF makes no difference to the fields.
 --     unfolded-kept   nor to a value without them
 --     line-endings    the fields of a text with LF alone are those of the text with CRLF
 -- Assumes nothing.

@@ -3,7 +3,7 @@
 --     colon-fits           a colon stands below the end, so that there is a place behind it
 --     Places s at n v e    how the places of a field lie
 --     Held, held           they lie so in each answer
---     name-from .. field-less    the same as a caller asks it of an answer r: of the name that it lends on, and of a loop's measure
+--     name-from .. field-less    what a caller asks of an answer r: of the name that it lends on, and of a loop's measure
 -- Assumes nothing.
 use Prim.Native.Nat.{ℕ, _+_, _-_, _^_, _<_, _≤_}
 use mathlib.Core.Path.{_≡_, refl, sym, _∙_, subst}

@@ -2,7 +2,7 @@
 --     by-fields        what holds at the end of a block, and in front of what it holds of, holds from each place on
 --     ValuesOctets     each of several fields has a value of octets
 --     valuesTotal      how long their values are, each with one octet more
---     block-octets, total-block    so are the fields of a block
+--     block-octets, total-block    what the two come to for the fields of a block
 -- Assumes nothing.
 use Prim.Native.Nat.{ℕ, zero, suc, _+_, _-_, _<_, _≤_, zero-le}
 use mathlib.Core.Path.{_≡_, refl, sym, _∙_}
@@ -42,7 +42,7 @@ module _ (s : List ℕ) (P : ℕ → Option (List FieldText) → Type 0) (at-end
   pub by-fields : P 0 (fieldsFrom s 0)
   by-fields = within (suc (length s)) 0 (omega arith)
 
--- "A block over 65,536 octets is unreadable": the fields of one that is not
+-- B1: the fields of a block that is not too long
 from-first : (s : List ℕ) (fs : List FieldText) → fieldsOf s ≡ some fs → fieldsFrom s 0 ≡ some fs
 from-first s fs e =
     ⊎-elim (λ (h : length s < suc limit). sym (fields-fit s (omega arith)) ∙ e)

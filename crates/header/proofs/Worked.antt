@@ -1,7 +1,7 @@
--- Blocks and values that are worked out.
+-- Blocks (B2 to B9) and values of a Content-Type (B13) that are worked out.
 --     blocks     the fields of readable blocks
 --     broken     blocks that are unreadable
---     reports    values that are multipart/report
+--     reports    values that are reports
 --     others     values that are not
 -- Assumes nothing.
 use Prim.Native.Nat.{ℕ}
@@ -18,9 +18,9 @@ use Rattle.header.specs.Header.{FieldText, fields, fieldsOf, fieldsWithi
 field : List ℕ → List ℕ → FieldText
 field n v = record { name = n; value = v }
 
--- A folded field and one without a value, CRLF and LF mixed; what follows the empty line isn't examined. A line of blanks only is a
--- continuation. Only the CR directly before an LF is of a line ending, also at the end. Names may hold each end of 33 to 126. The last line may
--- lack its ending; length 0 is readable; a first line that is empty gives no fields.
+-- B9, B7, B2, B5: a folded field and one without a value, CRLF and LF mixed, and no field behind the empty line. B6: a line of
+-- nothing but blanks continues. B3, B4: a CR that is not directly before an LF is content, also at the end. B7: both ends of 33 to
+-- 126 may stand in a name, a colon in a value. B5: no octets, and an empty first line, give no fields.
 blocks :
     map fieldsOf
     (ascii "To: a@b,\r\n\tc@d\nX:\n\r\nnot a field"
@@ -42,8 +42,8 @@ blocks :
 unfolding field fieldsOf fields fieldsWithin inFront unfolded over ofEnding opensField run rawLength belongs blank closes
 blocks = refl
 
--- A continuation with no field above; a lone CR at the end, which is a line and no field; a blank between name and colon; no name; no colon; an
--- octet above 126 in a name; a line from an mbox.
+-- B6: a continuation with no field above. B4: a lone CR at the end, which is a line and no field. B8: a blank between name and
+-- colon; no name; no colon; an octet above 126 in a name; a line from an mbox.
 broken :
     map fieldsOf
     (ascii " A:b"
@@ -58,13 +58,14 @@ broken :
 unfolding fieldsOf fields fieldsWithin inFront unfolded over ofEnding opensField run rawLength belongs blank closes
 broken = refl
 
+-- B13: the end, `;`, `(` and a blank behind the type
 reports :
     map isReport (ascii "multipart/report" ∷ ascii " \t Multipart/REPORT; report-type=x" ∷ ascii "multipart/report(c)" ∷ ascii "multipart/report\t" ∷ [])
     ≡ replicate 4 true
 unfolding isReport opensReport mayFollow run belongs blank sameName sameOctets lowered lower
 reports = refl
 
--- a comment before the type, a blank in it, another type, a bare CR behind it, half of it
+-- B13: a comment before the type, a blank in it, another type, a bare CR behind it, half of it
 others :
     map isReport
     (ascii "(c) multipart/report" ∷ ascii "multipart /report" ∷ ascii "multipart/reports" ∷ ascii "multipart/report\r" ∷ ascii "multipart" ∷ [])

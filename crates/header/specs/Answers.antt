@@ -1,4 +1,4 @@
--- From the texts of `Header` to the places that the code answers.
+-- From the texts of `Header` to the places that the code answers (SCOPE, B14).
 --     fieldsFrom, stepAt    the fields from a place on, and what stands there
 --     fieldAt               the field that stands at given places
 use Prim.Native.Nat.{ℕ, _+_, _-_}
@@ -16,14 +16,15 @@ use Rattle.header.specs.declared.Step.the-variants.{Over, Broken, Field}
 unfoldable pub fieldsFrom : List ℕ → ℕ → Option (List FieldText)
 fieldsFrom s at = fields (drop at s)
 
--- where the name ends that begins at a place, and where the field ends whose value begins at one
+-- B14: where the name ends that begins at a place
 abbrev pub nameEnd : List ℕ → ℕ → ℕ
 nameEnd s at = at + runLength Name (drop at s)
 
+-- B14: where the field ends whose value begins at a place, its last line's ending included
 abbrev pub fieldEnd : List ℕ → ℕ → ℕ
 fieldEnd s v = v + rawLength (drop v s)
 
--- what stands at a place where a line begins, as the code answers it
+-- B14: what stands at a place where a line begins: a field by its places, the block's end, or a line that makes it unreadable
 unfoldable pub stepAt : List ℕ → ℕ → Step
 stepAt s at =
     elim (over (drop at s)) [
@@ -34,6 +35,6 @@ stepAt s at =
       ]
     ]
 
--- the field whose name lies from the place `at` to n, and its value as it stands from v to e
+-- B14: the field whose name lies from the place `at` to n, and its value as it stands from v to e
 abbrev pub fieldAt : List ℕ → ℕ → ℕ → ℕ → ℕ → FieldText
 fieldAt s at n v e = record { name = take (n - at) (drop at s); value = unfolded (take (e - v) (drop v s)) }

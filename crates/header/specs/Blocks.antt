@@ -11,16 +11,17 @@ use lib.ListN.{getD}
 use Rattle.octets.specs.Octets.{cr, lf}
 use Rattle.header.specs.Header.{closes}
 
--- "A line opening with space or tab continues the field above"
+-- B6: each line but the first continues the field, and the last one ends with LF
 unfoldable pub isRaw : List ℕ → Bool
 isRaw [] = false
 isRaw (x ∷ []) = eqb x lf
 isRaw (x ∷ y ∷ s) = not (closes x y) && isRaw (y ∷ s)
 
--- "Lines end in CRLF or LF": the one made of the other
+-- B15: the block with CRLF, made of the one with LF
 unfoldable pub withCrLf : List ℕ → List ℕ
 withCrLf [] = []
 withCrLf (x ∷ s) = elim (eqb x lf) [ true ↦ cr ∷ lf ∷ withCrLf s | false ↦ x ∷ withCrLf s ]
 
+-- B15: no line ends with CRLF, since no CR stands directly before an LF
 abbrev pub LfAlone : List ℕ → Type 0
 LfAlone s = (i : ℕ) → getD s i 0 ≡ cr → getD s (suc i) 0 ≡ lf → ⊥

@@ -1,4 +1,4 @@
--- A text by lines, for code that does not look at each octet by itself.
+-- A text by lines (SCOPE, B2), for code that does not look at each octet by itself.
 --     lineLength      how many octets come before the first LF, or before the end where there is none
 --     textLength      how many come before the first octet of a line ending
 use Prim.Native.Nat.{ℕ, suc}
@@ -12,7 +12,7 @@ use Rattle.header.specs.Header.{ofEnding}
 abbrev pub lineLength : List ℕ → ℕ
 lineLength s = lengthBefore lf s
 
--- a CR directly before the LF is left out
+-- B2: a CR directly before the LF is left out
 unfoldable pub textLength : List ℕ → ℕ
 textLength [] = 0
 textLength (x ∷ s) = elim (ofEnding x (getD s 0 0)) [ true ↦ 0 | false ↦ suc (textLength s) ]

@@ -1,4 +1,4 @@
-// Header blocks: the field that begins at a place, whether a whole block is readable, a value unfolded, and
+// Header blocks (SCOPE, page B): the field that begins at a place, whether a whole block is readable, a value unfolded, and
 // multipart/report told. What is right is said by specs/Header.antt; specs/Answers.antt leads from there to places.
 ghost use Prim.Native.Nat.{_+_, _≤_, _<_};
 ghost use mathlib.Core.Path.{_≡_};
@@ -10,11 +10,11 @@ ghost use Rattle.header.specs.Lines.{lineLength, textLength};
 ghost use Rattle.header.specs.Answers.{stepAt};
 use runs::Class;
 
-// How long a block may be.
+// How long a block may be (B1).
 pub const LIMIT: usize = 65536;
 
 // What stands at a place where a line begins: the block is over; the block is unreadable; or a field, whose name
-// lies from there to name_end and its value, not unfolded yet, from value to end, where the next line begins.
+// lies from there to name_end and its value, not unfolded yet, from value to end, where the next line begins (B14).
 pub enum Step {
     Over,
     Broken,
@@ -32,7 +32,7 @@ fn peek(s: &[u8], at: usize) -> u8
     if at < s.len() { s[at] } else { 0 }
 }
 
-// Is the octet at the place `at` one of a line ending: an LF, or a CR directly before one?
+// Is the octet at the place `at` one of a line ending: an LF, or a CR directly before one (B2, B3)?
 fn ends_at(s: &[u8], at: usize) -> bool
     requires { ⌜ at < length (now s) ⌝ }
     ensures { λ r. ⌜ r ≡ ofEnding (getD (now (s .entry)) at 0) (getD (now (s .entry)) (at + 1) 0) ⌝ }
@@ -46,7 +46,7 @@ fn ends_at(s: &[u8], at: usize) -> bool
     peek(s, at + 1) == b'\n'
 }
 
-// Is the octet at the place `at` the last of a field: an LF that neither space nor tab follows?
+// Is the octet at the place `at` the last of a field: an LF that neither space nor tab follows (B6)?
 fn closes_at(s: &[u8], at: usize) -> bool
     requires { ⌜ at < length (now s) ⌝ }
     ensures { λ r. ⌜ r ≡ closes (getD (now (s .entry)) at 0) (getD (now (s .entry)) (at + 1) 0) ⌝ }
@@ -71,7 +71,7 @@ fn raw_end(s: &[u8], at: usize) -> usize
     i
 }
 
-// Is the block over at the place `at`, where a line begins?
+// Is the block over at the place `at`, where a line begins (B5)?
 fn over_at(block: &[u8], at: usize) -> bool
     ensures { λ r. ⌜ r ≡ over (drop at (now (block .entry))) ⌝ }
 {
@@ -89,8 +89,8 @@ fn name_end(s: &[u8], at: usize) -> usize
     runs::run_end(s, at, Class::Name)
 }
 
-// What stands at the place `at`, where a line begins. A continuation with no field above has no name: neither space
-// nor tab is of one.
+// What stands at the place `at`, where a line begins. A continuation with no field above has no name, since neither space
+// nor tab is of one; so it is no field (B6).
 pub fn field_at(block: &[u8], at: usize) -> Step
     ensures { λ r. ⌜ r ≡ stepAt (now (block .entry)) at ⌝ }
 {
@@ -128,7 +128,7 @@ impl Cursor {
     }
 }
 
-// Is the block one of fields alone, up to its end, and no longer than a block may be?
+// Is the block one of fields alone, up to its end, and no longer than a block may be (B1, B8)?
 pub fn readable(block: &[u8]) -> bool
     ensures { λ r. ⌜ r ≡ readableOf (now (block .entry)) ⌝ }
 {
@@ -160,7 +160,7 @@ fn text_end(s: &[u8], at: usize, lf: usize) -> usize
     if ends_at(s, lf - 1) { lf - 1 } else { lf }
 }
 
-// Writes the value `raw` without its line endings over the beginning of `out`, and answers how many octets that are.
+// Writes the value `raw` without its line endings (B9) over the beginning of `out`, and answers how many octets that are.
 // The text of each line is copied whole.
 pub fn unfold(raw: &[u8], out: &mut [u8]) -> usize
     requires { ⌜ length (now raw) ≤ length (now out) ⌝ }
@@ -179,7 +179,7 @@ pub fn unfold(raw: &[u8], out: &mut [u8]) -> usize
     n
 }
 
-// May what stands at the place `at` follow the name of a type?
+// May what stands at the place `at` follow the name of a type (B13)?
 fn may_follow(s: &[u8], at: usize) -> bool
     ensures { λ r. ⌜ r ≡ mayFollow (drop at (now (s .entry))) ⌝ }
 {
@@ -190,7 +190,7 @@ fn may_follow(s: &[u8], at: usize) -> bool
     runs::within(Class::Blank, x) | (x == b';') | (x == b'(')
 }
 
-// Is the value of a Content-Type multipart/report, which has 16 octets?
+// Is the value of a Content-Type multipart/report, which has 16 octets (B13)?
 pub fn is_report(value: &[u8]) -> bool
     ensures { λ r. ⌜ r ≡ isReport (now (value .entry)) ⌝ }
 {

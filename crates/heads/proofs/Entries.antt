@@ -1,5 +1,5 @@
 -- Entries and their heads.
---     canonical-most           a canonical address has at most 254 octets
+--     canonical-most           a canonical address is within the limit of L6
 --     present-is .. half-holds    what may be absent, beside what stands for it
 --     changed-seen .. changed-gossip    what a writer changes in an entry, it changes in its head
 -- Assumes nothing.

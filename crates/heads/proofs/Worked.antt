@@ -1,8 +1,8 @@
--- Heads worked out, by computing them.
+-- Heads worked out, by computing them (T3, T8).
 --     empty-head      the octets of an entry that holds an address only
 --     alice-head      last seen and timestamp 1000, a mutual key of three octets, no gossip
 --     alice-read      and the numbers that they read back as, behind any mark
---     mutual-alone, seen-below, seen-missing    what is not sound
+--     mutual-alone, seen-below, seen-missing    what is not sound: by T8.9, T8.10, T8.10
 -- Assumes nothing.
 use Prim.Native.Nat.{ℕ}
 use mathlib.Core.Path.{_≡_, refl}

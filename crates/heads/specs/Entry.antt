@@ -1,4 +1,4 @@
--- An entry: what is absent is `none`. How its address and keys are stored is not said here.
+-- SCOPE, T7: an entry, where what is absent is `none`. How its address and keys are stored is not said here.
 --     Direct, Gossip, Entry    the two halves, and the entry with its address and last seen
 --     present                  what may be absent, by its bit
 --     noDirect, noGossip       what stands for a half that is absent
@@ -17,35 +17,38 @@ use Rattle.address.specs.Address.{isCanonical}
 use Rattle.heads.specs.declared.Head.{Head}
 use Rattle.heads.specs.Head.{timeLimit}
 
--- the direct half: Autocrypt timestamp, key and preference
+-- T7: the direct half: Autocrypt timestamp, key and preference
 pub record Direct : Type 0 where
   pub timestamp : ℕ
   pub key : List ℕ
   pub «mutual» : Bool
 
--- the gossip half: gossip timestamp and key
+-- T7: the gossip half: timestamp and key
 pub record Gossip : Type 0 where
   pub timestamp : ℕ
   pub key : List ℕ
 
+-- T7: an address, and what it may have besides; a half is there as a whole or not at all
 pub record Entry : Type 0 where
   pub address : List ℕ
   pub lastSeen : Option ℕ
   pub direct : Option Direct
   pub gossip : Option Gossip
 
--- "Zero is a real time; only the bits mark absence."
+-- T5, T6: whether something is there is told by its bit alone, since zero is as good a time as any other
 abbrev pub present : {A : Type 0} → Bool → A → Option A
 present true x = some x
 present false x = none
 
--- "everything absent .. is zero": what stands in a head for a half that is absent
+-- T8.7: what stands in a head for a direct half that is absent
 abbrev pub noDirect : Direct
 noDirect = record { timestamp = 0; key = []; «mutual» = false }
 
+-- T8.7: what stands in a head for a gossip half that is absent
 abbrev pub noGossip : Gossip
 noGossip = record { timestamp = 0; key = [] }
 
+-- T3, T5, T8.7: the numbers of an entry, zero for what is absent
 unfoldable pub headFor : Entry → Head
 headFor e =
     record {
@@ -61,38 +64,42 @@ headFor e =
       «gossip_length» = length (orElse noGossip (e .gossip) .key);
     }
 
--- the entry of an address that has none yet: "an empty entry"
+-- U4: what an address that has no entry yet begins with: itself, and nothing else
 unfoldable pub newcomer : List ℕ → Entry
 newcomer a = record { address = a; lastSeen = none; direct = none; gossip = none }
 
--- "Raise last seen to the date."
+-- U7: last seen becomes the date if it was absent or smaller
 unfoldable pub seenBy : ℕ → Entry → Entry
 seenBy date e =
     record { address = e .address; lastSeen = some (max (orElse 0 (e .lastSeen)) date); direct = e .direct; gossip = e .gossip }
 
--- "set timestamp, key and preference"
+-- U8: the direct half is replaced, and all else stays
 unfoldable pub withDirect : Direct → Entry → Entry
 withDirect d e = record { address = e .address; lastSeen = e .lastSeen; direct = some d; gossip = e .gossip }
 
--- "set gossip timestamp and key"
+-- G7: the gossip half is replaced. G8: last seen and the direct half stay.
 unfoldable pub withGossip : Gossip → Entry → Entry
 withGossip g e = record { address = e .address; lastSeen = e .lastSeen; direct = e .direct; gossip = some g }
 
+-- T8.6: a key has an octet at least, and so many at most
 pub record GoodKey (limit : ℕ) (k : List ℕ) : Type 0 where
   pub some-octet : 1 ≤ length k
   pub most : length k ≤ limit
   pub octets : AllOctets k
 
--- "a direct key implies last seen present and not below the Autocrypt timestamp"
+-- T8.6, T8.10: a good key; beside the half there is last seen, at least as late as its timestamp
 pub record GoodDirect (limit : ℕ) (seen : Option ℕ) (d : Direct) : Type 0 where
   pub key : GoodKey limit (d .key)
   pub was-seen : isSome seen ≡ true
   pub not-below : d .timestamp ≤ orElse 0 seen
 
+-- T8.5, T8.6: a good key, and a timestamp within the largest time. T11: last seen does not bound it.
 pub record GoodGossip (limit : ℕ) (g : Gossip) : Type 0 where
   pub key : GoodKey limit (g .key)
   pub in-range : g .timestamp ≤ timeLimit
 
+-- T8: what an entry of a sound slot satisfies by itself: a canonical address (T8.2), last seen within the largest time (T8.5), good
+-- halves
 pub record Good (limit : ℕ) (e : Entry) : Type 0 where
   pub canonical : isCanonical (e .address) ≡ true
   pub octets : AllOctets (e .address)

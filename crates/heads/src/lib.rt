@@ -1,6 +1,6 @@
-// The head of an entry: the numbers that stand in octets 2 to 39, behind the mark. What stands where, the conditions on
-// a head, what changes in one, and how it is read and written. It is lent as a part of 40 octets, of which the first
-// two are left as they are.
+// The head of an entry: the numbers that stand in octets 2 to 39, behind the mark (SCOPE, T3). What stands where, the
+// conditions on a head (T8), what changes in one, and how it is read and written. It is lent as a part of 40 octets, of
+// which the first two are left as they are.
 ghost use Prim.Native.Nat.{_≤_, max};
 ghost use mathlib.Core.Path.{_≡_};
 ghost use mathlib.Core.Bool.{cond};
@@ -8,7 +8,7 @@ ghost use lib.ListN.{length};
 ghost use Rattle.octets.specs.Written.{putAt};
 ghost use Rattle.heads.specs.Head.{headLength, headOf, emptyHead, clear, seenSound, directSound, gossipSound, headSeen, headDirect, headGossip, bitsOf, times, lengths, headOctets};
 
-// What octets 2 to 39 say: the lengths, the four bits and the times of an entry.
+// What octets 2 to 39 say: the lengths, the four bits and the times of an entry (T3).
 pub struct Head {
     pub address_length: usize,
     pub seen: bool,
@@ -23,11 +23,11 @@ pub struct Head {
 }
 
 impl Head {
-    // "Times are seconds since 1970-01-01 UTC, 0 to 253,402,300,799."
+    // The largest time, the last second of the year 9999 (T6).
     pub const TIME_LIMIT: u64 = 253402300799;
 
-    // The widths of a length and of a time, and the place of each number, from the one before. Octets 5 to 7, behind
-    // the bits, and 36 to 39, behind the lengths, must be clear.
+    // The widths of a length and of a time (T2), and the place of each number (T3), from the one before. Octets 5 to 7,
+    // behind the bits, and 36 to 39, behind the lengths, are unused and must be zero (T8.4).
     pub const LENGTH_WIDTH: usize = 2;
 
     pub const TIME_WIDTH: usize = 8;
@@ -102,7 +102,7 @@ impl Head {
         }
     }
 
-    // Last seen: in range, zero where it is absent, and present beside a direct key.
+    // Last seen: in range (T8.5), zero where it is absent (T8.7), and present beside a direct half (T8.10).
     pub fn seen_sound(self) -> bool
         ensures { λ r. ⌜ r ≡ seenSound self ⌝ }
     {
@@ -111,8 +111,8 @@ impl Head {
             & (!self.direct | self.seen)
     }
 
-    // The direct half: where it is present, a key of 1 to `limit` octets, and a timestamp in range and not above last
-    // seen; where it is absent, nothing but zeros.
+    // The direct half: where it is present, a key of 1 to `limit` octets (T8.6), and a timestamp in range (T8.5) and not
+    // above last seen (T8.10); where it is absent, nothing but zeros (T8.7), and no preference (T8.9).
     pub fn direct_sound(self, limit: usize) -> bool
         ensures { λ r. ⌜ r ≡ directSound limit self ⌝ }
     {
@@ -124,7 +124,8 @@ impl Head {
         (!self.direct | is_good) & (self.direct | is_zero)
     }
 
-    // The gossip half: likewise, but that last seen does not bound its timestamp, and that it has no preference.
+    // The gossip half: where it is present, a key of 1 to `limit` octets (T8.6) and a timestamp in range (T8.5), which may
+    // be above last seen (T11); where it is absent, nothing but zeros (T8.7).
     pub fn gossip_sound(self, limit: usize) -> bool
         ensures { λ r. ⌜ r ≡ gossipSound limit self ⌝ }
     {
@@ -135,7 +136,7 @@ impl Head {
         (!self.gossip | is_good) & (self.gossip | is_zero)
     }
 
-    // "bit 0 last seen, bit 1 direct key, bit 2 gossip key, bit 3 mutual"
+    // Octet 4: the sum of 1 for last seen, 2 for the direct half, 4 for the gossip half and 8 for the preference (T5).
     pub fn bits(self) -> u64
         ensures { λ r. ⌜ r ≡ bitsOf self ⌝ }
     {
@@ -145,7 +146,8 @@ impl Head {
             + weight(self.mutual, 8)
     }
 
-    // "Raise last seen to the date."
+    // Last seen becomes the date if it was absent or smaller (U7). An absent one is 0 (T8.7), so that the larger of the two
+    // is right.
     pub fn seen_by(self, date: u64) -> Self
         ensures { λ r. ⌜ r ≡ headSeen date self ⌝ }
     {
@@ -163,7 +165,7 @@ impl Head {
         }
     }
 
-    // "set timestamp, key and preference"
+    // With another direct half, whose key has so many octets (U8).
     pub fn with_direct(self, timestamp: u64, length: usize, mutual: bool) -> Self
         ensures { λ r. ⌜ r ≡ headDirect timestamp length «mutual» self ⌝ }
     {
@@ -181,7 +183,7 @@ impl Head {
         }
     }
 
-    // "set gossip timestamp and key"
+    // With another gossip half, whose key has so many octets (G7).
     pub fn with_gossip(self, timestamp: u64, length: usize) -> Self
         ensures { λ r. ⌜ r ≡ headGossip timestamp length self ⌝ }
     {
@@ -234,7 +236,7 @@ impl Head {
         octets::put_number(head, Self::CLEAR_BEHIND_LENGTHS_AT, 4, 0);
     }
 
-    // Writes octets 2 to 39. The bits are a number of four octets, as those behind them are clear.
+    // Writes octets 2 to 39. The bits are a number of four octets, as those behind them are unused and zero (T8.4).
     pub fn put(self, head: &mut [u8])
         requires { ⌜ length (now head) ≡ headLength ⌝ }
         ensures { λ _. ⌜ now (head .exit) ≡ putAt (now (head .entry)) 2 (headOctets self) ⌝ }
@@ -263,7 +265,7 @@ fn later(a: u64, b: u64) -> u64
     if a < b { b } else { a }
 }
 
-// "bits 4 to 7, octets 5-7 and 36-39 are clear"
+// Are the four upper bits of octet 4 clear, and the octets 5 to 7 and 36 to 39 zero (T8.4)?
 pub fn is_clear(head: &[u8]) -> bool
     requires { ⌜ length (now head) ≡ headLength ⌝ }
     ensures { λ r. ⌜ r ≡ clear (now (head .entry)) ⌝ }

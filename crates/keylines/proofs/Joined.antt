@@ -1,4 +1,4 @@
--- Lines that are read back once their field is unfolded.
+-- Lines that are read back once their field is unfolded (C6).
 --     joined-lines           the lines of a text, unfolded, are the text with a space before each 76 characters
 --     without-spread         which is the text, with blanks removed
 --     spread-free            and in which no character passes a test that neither a space nor one of the text's passes

@@ -1,7 +1,7 @@
 -- How long the lines of a text are.
 --     length-laid      the rest of a text, with the line breaks in it
 --     length-lines     three characters more for every line begun
---     lines-counted    the same of the lines of octets, as code counts them
+--     lines-counted    how long the lines of octets are, as code counts them
 -- Assumes nothing.
 use Prim.Native.Nat.{ℕ, zero, suc, _+_, _-_, _*_, _/_}
 use mathlib.Core.Path.{_≡_, refl, sym}

@@ -1,5 +1,5 @@
-// Octets written as the Base64 lines of a field. What they are is said by `lines` of specs/Lines.antt and `encode`
-// of letters/specs/Base64.antt.
+// Octets written as the Base64 lines of a field (SCOPE, W4). What they are is said by `lines` of specs/Lines.antt and
+// `encode` of letters/specs/Base64.antt.
 ghost use Prim.Native.Nat.{_+_, _≤_, _<_};
 ghost use mathlib.Core.Path.{_≡_};
 ghost use mathlib.Core.List.{[], _∷_, _++_};
@@ -101,7 +101,7 @@ fn put_four(out: &mut [u8], at: usize, f: Four)
     out[at + 3] = f.3;
 }
 
-// How many groups the line takes behind the next one: a whole line takes 19.
+// How many groups the line takes behind the next one: a whole line takes 19, which are 76 characters (W4).
 fn takes_after(takes: usize) -> usize
     ensures { λ r. ⌜ r ≡ after takes ⌝ }
 {

@@ -1,7 +1,7 @@
--- What four characters stand for, by the cases of the rule.
+-- What four characters stand for, by the cases of `closed` (F9).
 --     low-value                 a sign's value is below 64
 --     three-is .. one-not      each case of `closed`
---     broken-third .. two-values    the same of signs that were found
+--     broken-third .. two-values    the cases by the signs that were found
 --     the ruleset               grouping, for `three`, `two`, `one`, `closed_group` and `group_of`
 -- Assumes nothing.
 use Prim.Native.Nat.{ℕ, _+_, _*_, _/_, _%_, _<_}

@@ -1,4 +1,4 @@
--- What is written reads back.
+-- What is written reads back (C6).
 --     decode-encode    the text of octets decodes to them
 -- Assumes nothing.
 use Prim.Native.Nat.{ℕ, suc, _+_, _*_, _/_, _%_, _<_}

@@ -1,6 +1,6 @@
 -- Texts by the characters that they have.
 --     Free          a text in which no character passes a test
---     Alphabetic    a text of letters, digits, "+", "/" and "=" alone
+--     Alphabetic    a text of letters, digits, `+`, `/` and `=` alone
 use Prim.Native.Nat.{ℕ}
 use mathlib.Core.Path.{_≡_}
 use mathlib.Core.Bool.{Bool, false}
@@ -12,7 +12,7 @@ unfoldable pub Free : (ℕ → Bool) → List ℕ → Type 0
 Free test [] = Unit
 Free test (x ∷ t) = (test x ≡ false) × Free test t
 
--- the characters that stand for something are the alphabet and the pad
+-- F9: the characters that stand for something are the alphabet and the pad
 unfoldable pub Alphabetic : List ℕ → Type 0
 Alphabetic [] = Unit
 Alphabetic (x ∷ t) = (signOf x ≡ Other → ⊥) × Alphabetic t

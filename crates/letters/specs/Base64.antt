@@ -1,5 +1,5 @@
--- Base64 as RFC 4648, section 4, has it. A text is a list of characters' codes.
---     letter           Table 1: the character of a value
+-- SCOPE, F9: Base64 by RFC 4648, section 4. A text is a list of characters' codes.
+--     letter           the character of a value
 --     signOf           what a character stands for
 --     groupOf          what four characters stand for
 --     decode           the octets of a padded text with zero unused bits, or none
@@ -16,7 +16,7 @@ use Rattle.letters.specs.declared.Sign.the-variants.{Value, Pad, Other}
 use Rattle.letters.specs.declared.Group.{Group}
 use Rattle.letters.specs.declared.Group.the-variants.{Three, Two, One, Broken}
 
--- "Table 1: The Base 64 Alphabet", from 0 to 63
+-- F9: the alphabet, `A` to `Z`, `a` to `z`, `0` to `9`, `+` and `/` for the values 0 to 63
 unfoldable pub letter : ℕ → ℕ
 letter v =
     cond (ltb v 26) (octet "A" + v)
@@ -25,13 +25,15 @@ letter v =
     (cond (eqb v 62) (octet "+")
     (octet "/"))))
 
+-- F9: the pad
 abbrev pub pad : ℕ
 pad = octet "="
 
+-- from the first to the last, both included
 abbrev pub between : ℕ → ℕ → ℕ → Bool
 between first last x = leb first x && leb x last
 
--- the table read backwards; "(pad) =" is no value, and no other character stands for anything
+-- F9: the alphabet read backwards. The pad has no value. F10: no other character stands for anything.
 unfoldable pub signOf : ℕ → Sign
 signOf x =
     cond (between (octet "A") (octet "Z") x) (Value (x - octet "A"))
@@ -42,8 +44,8 @@ signOf x =
     (cond (eqb x pad) Pad
     Other)))))
 
--- Two values and two signs more. Four values are 24 bits, three octets; three and a pad are two octets and two unused bits; two and two
--- pads are one octet and four unused bits. "Zero unused bits": anything else is broken.
+-- F9: two values and two signs more. Four values are 24 bits, three octets. Three and a pad are two octets and two unused bits, two
+-- and two pads are one octet and four unused bits; the unused bits are zero. Anything else is broken.
 unfoldable pub closed : ℕ → ℕ → Sign → Sign → Group
 closed p q (Value r) (Value s) = Three (p * 4 + q / 16) (q % 16 * 16 + r / 4) (r % 4 * 64 + s)
 closed p q (Value r) Pad = cond (eqb (r % 4) 0) (Two (p * 4 + q / 16) (q % 16 * 16 + r / 4)) Broken
@@ -53,6 +55,7 @@ closed p q Pad Pad = cond (eqb (q % 16) 0) (One (p * 4 + q / 16)) Broken
 closed p q Pad Other = Broken
 closed p q Other s = Broken
 
+-- F9: four signs, of which the first two have to be values
 unfoldable pub grouped : Sign → Sign → Sign → Sign → Group
 grouped (Value p) (Value q) r s = closed p q r s
 grouped (Value p) Pad r s = Broken
@@ -60,6 +63,7 @@ grouped (Value p) Other r s = Broken
 grouped Pad q r s = Broken
 grouped Other q r s = Broken
 
+-- F9: four characters, by what each stands for
 abbrev pub groupOf : ℕ → ℕ → ℕ → ℕ → Group
 groupOf a b c d = grouped (signOf a) (signOf b) (signOf c) (signOf d)
 
@@ -73,14 +77,14 @@ unfoldable pub atEnd : List ℕ → List ℕ → Option (List ℕ)
 atEnd w [] = some w
 atEnd w (x ∷ rest) = none
 
--- a group, the characters behind it and what those give: only the last group has pads
+-- F9: a group, the characters behind it and what those give; only the last group has pads
 unfoldable pub follow : Group → List ℕ → Option (List ℕ) → Option (List ℕ)
 follow (Three x y z) rest octets = before (x ∷ y ∷ z ∷ []) octets
 follow (Two x y) rest octets = atEnd (x ∷ y ∷ []) rest
 follow (One x) rest octets = atEnd (x ∷ []) rest
 follow Broken rest octets = none
 
--- "padded Base64 with zero unused bits", in groups of four
+-- F9: a text, its blanks taken out, comes in whole groups of four characters
 unfoldable pub decode : List ℕ → Option (List ℕ)
 decode [] = some []
 decode (a ∷ []) = none
@@ -92,7 +96,7 @@ unfoldable pub octetsIn : Option (List ℕ) → List ℕ
 octetsIn none = []
 octetsIn (some w) = w
 
--- 24 bits make four letters; 8 or 16 bits at the end are filled up with zero bits, and the group with pads
+-- F9, W4: 24 bits make four letters; 8 or 16 bits at the end are filled up with zero bits, and the group with pads
 unfoldable pub encode : List ℕ → List ℕ
 encode [] = []
 encode (a ∷ []) = letter (a / 4) ∷ letter (a % 4 * 16) ∷ pad ∷ pad ∷ []

@@ -1,4 +1,4 @@
--- Tables of the alphabet, as code has them.
+-- Tables of the alphabet (SCOPE, F9), as code has them.
 --     Letters          a table that has the letter of each value
 --     codeOf, Signs    a sign as a number, and a table that has the number of each octet's sign
 --     Low              a sign whose value, if it has one, is below 64

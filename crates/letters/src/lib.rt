@@ -1,5 +1,6 @@
-// The letters of Base64: the letter of a value, what a character stands for, and what four characters do. What is right is
-// said by specs/Base64.antt. Texts are decoded by the crate `base64`, and octets written as lines by the crate `keylines`.
+// The letters of Base64 (SCOPE, F9): the letter of a value, what a character stands for, and what four characters do. What
+// is right is said by specs/Base64.antt. Texts are decoded by the crate `base64`, and octets written as lines by the crate
+// `keylines`.
 ghost use Prim.Native.Nat.{_<_};
 ghost use mathlib.Core.Path.{_≡_};
 ghost use Rattle.letters.specs.Base64.{letter, signOf, closed, groupOf};
@@ -86,7 +87,7 @@ fn three(p: u8, q: u8, r: u8, s: u8) -> Group
     Group::Three(p * 4 + q / 16, q % 16 * 16 + r / 4, r % 4 * 64 + s)
 }
 
-// The two octets of three values, where the last two bits are zero.
+// The two octets of three values, where the last two bits are zero (F9).
 fn two(p: u8, q: u8, r: u8) -> Group
     requires { ⌜ (p < 64) × (q < 64) × (r < 64) ⌝ }
     ensures { λ g. ⌜ g ≡ closed p q (Sign.Value r) Sign.Pad ⌝ }
@@ -98,7 +99,7 @@ fn two(p: u8, q: u8, r: u8) -> Group
     }
 }
 
-// The octet of two values, where the last four bits are zero.
+// The octet of two values, where the last four bits are zero (F9).
 fn one(p: u8, q: u8) -> Group
     requires { ⌜ (p < 64) × (q < 64) ⌝ }
     ensures { λ g. ⌜ g ≡ closed p q Sign.Pad Sign.Pad ⌝ }

@@ -3,7 +3,7 @@
 --     Same s t i              the lists are of one length, and the test comes to what is left from i on
 --     same-begin .. same-end  the loop's steps
 --     same-long               lists of two lengths are not equal
---     name-begin .. name-end  the same for `sameName`, of the lists in lower case
+--     name-begin .. name-end  the steps of a loop that compares names (`sameName`)
 --     Opens s t i             s is no longer than t, and whether it opens t comes to what is left from i on
 --     opens-begin .. opens-end    the loop's steps
 -- Assumes nothing.
@@ -79,7 +79,7 @@ module _ (s t : List ℕ) (i : ℕ) (h : Same s t i) where
 
 pub ruleset comparing = (same-long, same-begin, same-within, same-next, same-stop, same-end, needs)
 
--- names: the same of the lists in lower case; b is what a call answered of the two octets
+-- names: the lists are compared in lower case; b is what a call answered of the two octets
 module _ (s t : List ℕ) (i : ℕ) (b : Bool) (h : Same (lowered s) (lowered t) i) (l : i < length s) (p : b ≡ eqb (lower (getD s i 0)) (lower (getD t i 0))) where
   pub name-next : b ≡ true → Same (lowered s) (lowered t) (i + 1)
   name-next e =

@@ -1,8 +1,8 @@
 -- A loop that writes a list w over a buffer d from the place `at` on, an octet a turn.
 --     Copied w d out at i       i of its octets are there
 --     copy-begin .. copy-end    the loop's steps, an octet being w's own
---     small-begin .. small-end  the same for the lower case of a list
---     digit-begin .. digit-end  the same for the octets of a number
+--     small-begin .. small-end  the steps for the lower case of a list
+--     digit-begin .. digit-end  the steps for the octets of a number
 --     filled-begin .. filled-end    a buffer that is filled with one octet
 -- Assumes nothing.
 use Prim.Native.Nat.{ℕ, suc, zero, _+_, _-_, _<_, _≤_, _/_, _%_}

@@ -1,6 +1,6 @@
 -- Lower case.
 --     lower-below, lower-above, lower-capital    by where the octet lies
---     by-case                                    what holds of an octet in lower case, by the same
+--     by-case                                    what holds of an octet in lower case, by where the octet lies
 --     lower-twice, lowered-twice                 what is in lower case stays as it is
 --     lower-octet, lowered-octets                an octet stays one
 --     length-lowered, getD-lowered               a list's length stays, and each element is lower-cased

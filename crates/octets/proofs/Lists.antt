@@ -6,7 +6,7 @@
 --     left-one              n - i falls by one to n - (i + 1)
 --     AtMost, at-most       no element of a list is above a number
 --     given-octets          what owning a slice tells of its elements: they are octets
---     drop-octets, take-octets    so are those of a part
+--     drop-octets, take-octets    the elements of a part are octets, too
 -- Assumes nothing.
 use Prim.Native.Nat.{ℕ, suc, zero, _+_, _-_, _<_, _≤_}
 use mathlib.Core.Path.{_≡_, refl, _∙_}

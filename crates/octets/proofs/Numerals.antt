@@ -1,4 +1,5 @@
--- Little-endian numbers: their bounds, the round trip, and what a loop knows that reads one from its last octet down.
+-- Numbers with the least octet first (T2): their bounds, the round trip, and what a loop knows that reads one from its last octet
+-- down.
 --     number-below                    octets stand for a number below 256 to their count
 --     number-digits, digits-number    the round trip, both ways
 --     Reading s at width n k          n is the number of the octets from k on

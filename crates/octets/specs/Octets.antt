@@ -1,14 +1,14 @@
--- Octets and lists of them, as paper 01 speaks of them: texts in ASCII, blanks, equality, names without regard to ASCII case, zeros.
+-- Octets and lists of them: texts in ASCII, blanks (L1 of SCOPE), equality, small letters (L8), names (B11), zeros.
 --     ascii        the octets of a text that is written out
 --     octet        the octet of one character that is written out
 --     space .. lf  octets that have names
 --     blank        a space or a tab
---     withoutBlanks    "spaces and tabs removed"
+--     withoutBlanks    a list with its blanks taken out
 --     AllOctets    each element is an octet
---     sameOctets   the two lists are equal, as a test
---     lower        "lower-cases ASCII letters .. and keeps all else", one octet
---     lowered      the same, each octet of a list
---     sameName     "Names compare without regard to ASCII case"
+--     sameOctets   the two lists are equal octet by octet, as a test
+--     lower        the small letter of an ASCII capital; any other octet is its own
+--     lowered      a list with each ASCII capital made small
+--     sameName     equal but for the case of ASCII letters, as a test
 --     startsWith   the first list opens the second
 --     allZero      nothing but zeros
 use Prim.Native.Nat.{ℕ, _+_, _<_}
@@ -39,10 +39,11 @@ cr = octet "\r"
 abbrev pub lf : ℕ
 lf = octet "\n"
 
--- "spaces and tabs"
+-- L1: a space or a tab
 unfoldable pub blank : ℕ → Bool
 blank x = eqb x space || eqb x tab
 
+-- F9: blanks go out of key data, wherever they are
 abbrev pub withoutBlanks : List ℕ → List ℕ
 withoutBlanks s = without blank s
 
@@ -55,12 +56,15 @@ sameOctets [] (y ∷ t) = false
 sameOctets (x ∷ s) [] = false
 sameOctets (x ∷ s) (y ∷ t) = eqb x y && sameOctets s t
 
+-- L8: only an ASCII capital changes
 unfoldable pub lower : ℕ → ℕ
 lower x = cond (leb (octet "A") x && leb x (octet "Z")) (x + 32) x
 
+-- L8: each ASCII capital of a list becomes small
 unfoldable pub lowered : List ℕ → List ℕ
 lowered s = map lower s
 
+-- B11: the case of ASCII letters makes no difference
 unfoldable pub sameName : List ℕ → List ℕ → Bool
 sameName s t = sameOctets (lowered s) (lowered t)
 

@@ -15,6 +15,6 @@ unfoldable pub without : (ℕ → Bool) → List ℕ → List ℕ
 without test [] = []
 without test (x ∷ s) = elim (test x) [ true ↦ without test s | false ↦ x ∷ without test s ]
 
--- "1 to .."
+-- at least 1 and at most so much
 abbrev pub oneTo : ℕ → ℕ → Bool
 oneTo most n = leb 1 n && leb n most

@@ -1,5 +1,6 @@
-// The common ground: blanks told; octets compared, searched, copied, lower-cased, tested for zeros, and read and written as
-// little-endian numbers. Each function's meaning is one definition of specs/.
+// The common ground: blanks told (L1 of SCOPE); octets compared, searched, copied as they are or with capitals made small
+// (L8), tested for zeros, and read and written as numbers with the least octet first (T2). Each function's meaning is one
+// definition of specs/.
 ghost use Prim.Native.Nat.{_+_, _≤_, _<_, max};
 ghost use mathlib.Core.Path.{_≡_};
 ghost use lib.Dec.{eqb};
@@ -9,7 +10,7 @@ ghost use Rattle.octets.specs.Finding.{holds, lengthBefore, Skipped};
 ghost use Rattle.octets.specs.Numbers.{number, digits};
 ghost use Rattle.octets.specs.Written.{putAt};
 
-// Is it a space or a tab?
+// Is it a space or a tab (L1)?
 pub fn is_blank(x: u8) -> bool
     ensures { λ r. ⌜ r ≡ blank x ⌝ }
 {
@@ -33,7 +34,7 @@ pub fn same(a: &[u8], b: &[u8]) -> bool
     true
 }
 
-// The octet with an ASCII capital made small, any other as it is.
+// The octet with an ASCII capital made small, any other as it is (L8).
 pub fn lower(x: u8) -> u8
     ensures { λ r. ⌜ r ≡ lowerOf x ⌝ }
 {
@@ -52,7 +53,7 @@ fn alike(x: u8, y: u8) -> bool
     lower(x) == lower(y)
 }
 
-// Are the two names equal, ASCII capitals and small letters being alike?
+// Are the two names equal, ASCII capitals and small letters being alike (B11)?
 pub fn same_name(a: &[u8], b: &[u8]) -> bool
     ensures { λ r. ⌜ r ≡ sameName (now (a .entry)) (now (b .entry)) ⌝ }
 {
@@ -165,7 +166,7 @@ pub fn put(out: &mut [u8], at: usize, src: &[u8])
     }
 }
 
-// Writes `src` into `out` from the place `at` on, its capitals as small letters.
+// Writes `src` into `out` from the place `at` on, its ASCII capitals as small letters (L8).
 pub fn put_lower(out: &mut [u8], at: usize, src: &[u8])
     requires { ⌜ at + length (now src) ≤ length (now out) ⌝ }
     ensures { λ _. ⌜ now (out .exit) ≡ putAt (now (out .entry)) at (lowered (now (src .entry))) ⌝ }
@@ -194,7 +195,7 @@ fn wide(x: u8) -> u64
     x as u64
 }
 
-// The number that stands in the `width` octets from the place `at` on, the least octet first.
+// The number that stands in the `width` octets from the place `at` on, the least octet first (T2).
 pub fn number_at(s: &[u8], at: usize, width: usize) -> u64
     requires { ⌜ (width ≤ 8) × (at + width ≤ length (now s)) ⌝ }
     ensures { λ r. ⌜ r ≡ number (take width (drop at (now (s .entry)))) ⌝ }
@@ -208,7 +209,7 @@ pub fn number_at(s: &[u8], at: usize, width: usize) -> u64
     n
 }
 
-// Writes a number into the `width` octets from the place `at` on, the least octet first.
+// Writes a number into the `width` octets from the place `at` on, the least octet first (T2).
 pub fn put_number(out: &mut [u8], at: usize, width: usize, n: u64)
     requires { ⌜ at + width ≤ length (now out) ⌝ }
     ensures { λ _. ⌜ now (out .exit) ≡ putAt (now (out .entry)) at (digits width n) ⌝ }

@@ -1,8 +1,8 @@
--- What a reader hands out after k others is the field of the number k.
+-- What a reader hands out after k others is the field of the number k (B14).
 --     Agrees s k o h     h is right where the fields are o: of a readable text the field of the number k and never broken, of an
 --                        unreadable one never over
 --     agrees             what is handed out is right
---     number-text, number-whole, number-on    the same as a caller asks it
+--     number-text, number-whole, number-on    what a caller asks of it
 --     number-of                               of a whole block
 -- Assumes nothing.
 use Prim.Native.Nat.{ℕ, zero, suc}

@@ -1,4 +1,5 @@
--- What is handed out of two blocks, worked out: a folded field, one without a value, and the end; a field, and a line that is none.
+-- What is handed out of two blocks (B14), worked out: a folded field, one without a value, and the end; a field, and a line that is
+-- none.
 -- Assumes nothing.
 use mathlib.Core.Path.{_≡_, refl}
 use mathlib.Core.List.{[], _∷_, map}

@@ -1,6 +1,6 @@
-// "A reader holds the block and its place and hands out one field at a time." The work is done by `hand_out` and
-// `place_behind`, which take the block and a place; what takes, makes or lends a reader is thin and leaves it to them. Who keeps
-// a place and not a reader calls `take`, and who has only a block and a number `field_number`.
+// A reader has a block and a place in it, and hands out the block's fields one by one (SCOPE, B14). The work is done by
+// `hand_out` and `place_behind`, which take the block and a place; what takes, makes or lends a reader is thin and leaves
+// it to them. Who keeps a place and not a reader calls `take`, and who has only a block and a number `field_number`.
 ghost use mathlib.Core.Path.{_≡_};
 ghost use Rattle.reader.specs.Reading.{handedAt, placeBehind, handedAfter, opened, movedOn, takenAt};
 
@@ -37,7 +37,7 @@ fn hand_out(block: &[u8], at: usize) -> Handed
     }
 }
 
-// Where a reader goes on that was at the place `at`: behind the field that it handed out.
+// Where a reader goes on that was at the place `at`: behind the field that it handed out; else it stays (B14).
 fn place_behind(handed: Handed, at: usize) -> usize
     ensures { λ r. ⌜ r ≡ placeBehind handed at ⌝ }
 {
@@ -97,7 +97,7 @@ pub fn take(block: &[u8], at: usize) -> Taken
     }
 }
 
-// The field of the number `k`, from 0, of a block: what a reader at its beginning hands out after `k` others.
+// The field of the number `k`, from 0, of a block: what a reader at its beginning hands out after `k` others (B14).
 pub fn field_number(block: &[u8], k: usize) -> Handed
     ensures { λ r. ⌜ r ≡ handedAfter k (now (block .entry)) 0 ⌝ }
 {

@@ -1,5 +1,5 @@
--- Rows of refusals: the first that holds decides, in any list.
---     exactly                    the number is n exactly when the row of n holds and none before it
+-- Rows of refusals: the first that holds decides, in any list (R31).
+--     exactly                    the number is n exactly when the row of n holds and none before it (C3)
 --     first-here, first-behind   the first row holds, or it does not
 --     first-front, first-rest    rows in front of others: one of them holds, or none does
 --     front-only                 a refusal of which there is no row among the last is one of the first
@@ -7,7 +7,7 @@
 --     by-refusal                 a refusal, or none
 --     refused-is, done-is        what is answered or left, by the refusal
 --     answer-refused, answer-done    the refusal, by the answer
--- The same as the code meets them:
+-- Rows as the code tests them, one after the other:
 --     when-refuses .. unless-passes      the row's test is known
 --     told-refuses .. denied-passes      a test of the code answers as the row's does
 --     not-denied                         a test that was passed holds
@@ -134,7 +134,7 @@ unfolding answeredBy
 answer-done (some q) e = cc
 answer-done none e = refl
 
--- The same as the code has them; x is what the call answers or leaves.
+-- Rows as the code tests them; x is what the call answers or leaves.
 module _ {A : Type 0} (f : Refusal → A) (d : A) (r : Refusal) (rest : List Row) (x : A) where
   -- the row's test is known
   module _ (b : Bool) where

@@ -1,12 +1,13 @@
--- "Refusal numbers, in order of checking", of paper 01.
+-- SCOPE, page R: each refusal's number, its words, and the index that comes with it.
 --     numberOf    the number of a refusal
 --     wordsOf     the words of a refusal: the C header, the README and the Python package say the same
---     indexOf     "A refusal carries its number (2 also the index)": the lowest broken slot's; 0 with all others
+--     indexOf     the index of the slot that refusal 2 is about; 0 with all others
 use Prim.Native.Nat.{ℕ}
 use Prim.Native.String.{String}
 use Rattle.refusals.specs.declared.Refusal.{Refusal}
 use Rattle.refusals.specs.declared.Refusal.the-variants.{TableLength, BrokenSlot, ReceiptTime, OuterBlock, Sender, Report, PayloadBlock, NoFreeSlot, OwnAddress, Recipients, KeyLength, OutputLength}
 
+-- R1 to R12: a refusal has the number of its rule
 abbrev pub numberOf : Refusal → ℕ
 numberOf TableLength = 1
 numberOf (BrokenSlot i) = 2
@@ -21,6 +22,7 @@ numberOf Recipients = 10
 numberOf KeyLength = 11
 numberOf OutputLength = 12
 
+-- R1 to R12: what each is about, in a few words
 abbrev pub wordsOf : Refusal → String
 wordsOf TableLength = "table length isn't 1 to 256 whole slots"
 wordsOf (BrokenSlot i) = "a slot is neither free nor sound"
@@ -35,6 +37,7 @@ wordsOf Recipients = "recipient list unreadable, or not 1 to 100 addresses"
 wordsOf KeyLength = "key argument isn't 1 to 2,048 octets"
 wordsOf OutputLength = "output shorter than the field, or fewer than 11 numbers lent"
 
+-- R33: an index comes with 2 alone
 abbrev pub indexOf : Refusal → ℕ
 indexOf TableLength = 0
 indexOf (BrokenSlot i) = i

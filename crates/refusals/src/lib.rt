@@ -1,9 +1,9 @@
-// Why calls refuse: one enum for all of them, its numbers, and the answer of a call that has nothing else to say. Which
-// refusal a call gives is said by rows (specs/Rows.antt): the first row that holds decides.
+// Why calls refuse: one enum for all of them, its numbers (SCOPE, page R), and the answer of a call that has nothing else
+// to say. Which refusal a call gives is said by rows (specs/Rows.antt): the first row that holds decides (R31).
 ghost use mathlib.Core.Path.{_≡_};
 ghost use Rattle.refusals.specs.Refusals.{numberOf, indexOf};
 
-// Named for the rows of "Refusal numbers", in their order.
+// Named for the rules R1 to R12, in their order.
 pub enum Refusal {
     TableLength,
     BrokenSlot(u32),
@@ -25,7 +25,7 @@ pub enum Answer {
     Refused(Refusal),
 }
 
-// The paper's number of a refusal.
+// The number of a refusal: that of its rule, R1 to R12.
 pub fn number(refusal: Refusal) -> u32
     ensures { λ r. ⌜ r ≡ numberOf refusal ⌝ }
 {
@@ -45,7 +45,7 @@ pub fn number(refusal: Refusal) -> u32
     }
 }
 
-// The index that a refusal carries: that of the lowest broken slot, and 0 with all others.
+// The index that comes with a refusal: that of the lowest broken slot, and 0 with all others (R33).
 pub fn index(refusal: Refusal) -> u32
     ensures { λ r. ⌜ r ≡ indexOf refusal ⌝ }
 {

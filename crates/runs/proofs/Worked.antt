@@ -1,4 +1,4 @@
--- Worked examples, by computing the definitions.
+-- Worked examples of L1, B7, D4, L7 and L12, by computing the definitions.
 -- Assumes nothing.
 use Prim.Native.Nat.{ℕ}
 use mathlib.Core.Path.{_≡_, refl}
@@ -12,7 +12,7 @@ use Rattle.runs.specs.declared.Class.the-variants.{Blank, Name, Digit, L
 runs : List (Class × List ℕ × ℕ)
 runs =
     (Blank, space ∷ tab ∷ lf ∷ [], 2)
-    -- "octets 33 to 126 without colon"
+    -- B7: both ends of the range are in, the colon is out
     ∷ (Name, 33 ∷ 126 ∷ ascii "Cc: x", 4)
     ∷ (Name, space ∷ [], 0)
     ∷ (Digit, ascii "2024Jan", 4)

@@ -1,4 +1,4 @@
--- Runs of octets, by the classes that paper 01 has in fields, lists, dates and addresses.
+-- Runs of octets, by the classes that SCOPE has in fields, lists, dates and addresses (L1, B7, D4, L7, L12).
 --     digit, letter, atomic    single octets
 --     belongs                  an octet of a class
 --     run                      how many octets that pass a test a text opens with
@@ -11,26 +11,29 @@ use Rattle.octets.specs.Octets.{ascii, octet, blank}
 use Rattle.runs.specs.declared.Class.{Class}
 use Rattle.runs.specs.declared.Class.the-variants.{Blank, Name, Digit, Letter, Atom, Label, Address}
 
+-- an ASCII digit
 abbrev pub digit : ℕ → Bool
 digit x = leb (octet "0") x && leb x (octet "9")
 
+-- an ASCII letter, capital or small
 abbrev pub letter : ℕ → Bool
 letter x = (leb (octet "A") x && leb x (octet "Z")) || (leb (octet "a") x && leb x (octet "z"))
 
--- RFC 5322, 3.2.3: what may stand in an atom besides letters and digits
+-- L1: the nineteen signs of atoms
 abbrev pub signs : List ℕ
 signs = ascii "!#$%&'*+-/=?^_`{|}~"
 
+-- is an octet one of a list?
 abbrev pub among : List ℕ → ℕ → Bool
 among [] x = false
 among (y ∷ s) x = eqb x y || among s x
 
--- "Octets of 128 and above may stand in atoms"
+-- L1: an atom octet is a letter, a digit, a sign, or an octet of 128 or more
 abbrev pub atomic : ℕ → Bool
 atomic x = letter x || digit x || among signs x || leb 128 x
 
--- Blanks are "spaces and tabs", a name is of "octets 33 to 126 without colon", a label of "ASCII letters, digits and hyphens". Atoms, dots
--- and "@" are what both sides of an address and the "@" between them are made of.
+-- L1: blanks and atom octets. B7: a name has the octets 33 to 126, the colon left out. D4: digits and letters. L7: a label has
+-- letters, digits and hyphens. L12: a run of atom octets, dots and `@` is an address or words.
 unfoldable pub belongs : Class → ℕ → Bool
 belongs Blank x = blank x
 belongs Name x = leb 33 x && leb x 126 && not (eqb x (octet ":"))

@@ -5,8 +5,8 @@ ghost use mathlib.Core.Path.{_≡_};
 ghost use lib.ListN.{drop};
 ghost use Rattle.runs.specs.Runs.{digit as digitOf, letter as letterOf, belongs, runLength};
 
-// The classes of octets that make runs: spaces and tabs; what a field's name is made of; digits; letters; what atoms are
-// made of, what labels, and what whole addresses.
+// The classes of octets that make runs: blanks (L1); what a field's name is made of (B7); digits and letters (D4); what
+// atoms are made of (L1), what labels (L7), and what whole addresses (L12).
 pub enum Class {
     Blank,
     Name,
@@ -35,8 +35,8 @@ fn letter(x: u8) -> bool
     ((b'A' <= x) & (x <= b'Z')) | ((b'a' <= x) & (x <= b'z'))
 }
 
-// Letters, digits, the signs ! # $ % & ' * + - / = ? ^ _ ` { | } ~ and the octets of 128 and above, as ranges. Small letters,
-// the most of what stands in atoms, are known by the first of them.
+// Letters, digits, the signs ! # $ % & ' * + - / = ? ^ _ ` { | } ~ and the octets of 128 and above (L1), as ranges. Small
+// letters, the most of what stands in atoms, are known by the first of them.
 fn atom(x: u8) -> bool
     ensures { λ r. ⌜ r ≡ belongs Class.Atom x ⌝ }
 {

@@ -1,9 +1,10 @@
--- What a caller chooses beside the message.
---     taken    "The gossip setting is take, skip or unset; unset takes."
+-- What a caller chooses beside the message. SCOPE, G1: the gossip setting.
+--     taken    is gossip taken?
 use mathlib.Core.Bool.{Bool, true, false}
 use Rattle.settings.specs.declared.Gossip.{Gossip}
 use Rattle.settings.specs.declared.Gossip.the-variants.{Take, Skip, Unset}
 
+-- G1: unless it is to be skipped, gossip is taken
 unfoldable pub taken : Gossip → Bool
 taken Take = true
 taken Skip = false

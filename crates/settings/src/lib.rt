@@ -1,9 +1,9 @@
-// What a caller chooses beside the message: today, whether gossip is taken. What a choice means is said by
+// What a caller chooses beside the message: whether gossip is taken (SCOPE, G1). What a choice means is said by
 // specs/Settings.antt.
 ghost use mathlib.Core.Path.{_≡_};
 ghost use Rattle.settings.specs.Settings.{taken};
 
-// Is gossip in encrypted mail taken? A caller that does not care leaves it unset.
+// Is gossip in encrypted mail taken (G1)? A caller that does not care leaves it unset.
 pub enum Gossip {
     Take,
     Skip,
@@ -17,7 +17,7 @@ pub struct Settings {
     pub key_limit: usize,
 }
 
-// "unset takes"
+// Is gossip taken? It is also where the setting was left unset (G1).
 pub fn is_taken(gossip: Gossip) -> bool
     ensures { λ r. ⌜ r ≡ taken gossip ⌝ }
 {

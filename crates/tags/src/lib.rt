@@ -8,7 +8,7 @@ ghost use Rattle.tags.specs.Tags.{withOctet, tagOf, inFirst};
 // The tag of nothing.
 const START: u32 = 5381;
 
-// The tag of some octets with one more behind them: itself plus itself moved up five places plus the octet.
+// The tag of some octets with one more behind them. A shift and a sum stand for the product with 33, and sums may wrap.
 fn with_octet(tag: u32, octet: u8) -> u32
     ensures { λ r. ⌜ r ≡ withOctet tag octet ⌝ }
 {

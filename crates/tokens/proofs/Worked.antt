@@ -1,4 +1,4 @@
--- Worked examples, by computing the definitions.
+-- Worked examples of L2 to L5, by computing the definitions.
 -- Assumes nothing.
 use Prim.Native.Nat.{ℕ}
 use mathlib.Core.Path.{_≡_, refl}
@@ -18,23 +18,23 @@ nested n = replicate n (octet "(") ++ replicate n (octet ")")
 -- a text, and what is left behind its spaces, tabs and comments
 skips : List (List ℕ × Option (List ℕ))
 skips =
-    -- "comment depth 16 readable, 17 not"
+    -- L2: depth 16 is the last that reads
     (nested 16 ++ ascii "x", some (ascii "x"))
     ∷ (nested 17 ++ ascii "x", none)
-    -- depth is counted afresh for each comment
+    -- L2: each outermost comment counts from 1 again
     ∷ (nested 9 ++ (nested 16 ++ ascii "x"), some (ascii "x"))
-    -- in any order, and none at all
+    -- L11: blanks and comments in any order, and none at all
     ∷ (ascii " (a (b) c) " ++ (tab ∷ ascii "() ,x"), some (ascii ",x"))
     ∷ (ascii "x", some (ascii "x"))
     ∷ ([], some [])
-    -- a backslash takes a parenthesis; a quote inside a comment means nothing
+    -- L4: a backslash takes a parenthesis; a quote inside a comment means nothing
     ∷ (ascii "(\\))x", some (ascii "x"))
     ∷ (ascii "(\\()x", some (ascii "x"))
     ∷ (ascii "(\")x", some (ascii "x"))
-    -- a comment lacks its end, a backslash its octet
+    -- L2, L4: a comment lacks its end, a backslash its octet
     ∷ (ascii "((a)", none)
     ∷ (ascii "(a\\", none)
-    -- control octets in a comment, also behind a backslash; a tab is none
+    -- L5: control octets in a comment, also behind a backslash; a tab is none
     ∷ (octet "(" ∷ 127 ∷ ascii ")x", none)
     ∷ (octet "(" ∷ octet "\\" ∷ 1 ∷ ascii ")x", none)
     ∷ (octet "(" ∷ octet "\\" ∷ tab ∷ ascii ")x", some (ascii "x"))
@@ -51,7 +51,7 @@ quotes : List (List ℕ × Option (List ℕ))
 quotes =
     (ascii "a (b\" c", some (ascii " c"))
     ∷ (ascii "\\\"\\\\\"c", some (ascii "c"))
-    -- octets of 128 and above may stand in quoted strings, and tabs
+    -- L4: a quoted string holds octets from 128 on, and tabs
     ∷ (195 ∷ 164 ∷ tab ∷ ascii "\"", some [])
     ∷ (ascii "abc\\\"", none)
     ∷ (octet "\\" ∷ 1 ∷ ascii "\"", none)

@@ -16,16 +16,17 @@ use Rattle.tokens.specs.declared.StepIn.the-variants.{On, Ends, Stops}
 use Rattle.tokens.specs.declared.Reached.{Reached}
 use Rattle.tokens.specs.declared.Reached.the-variants.{To, Unreadable}
 
+-- the place of what is left; unreadable where there is none
 unfoldable pub reached : List ℕ → Option (List ℕ) → Reached
 reached s none = Unreadable
 reached s (some rest) = To (length s - length rest)
 
--- is there an octet that a backslash may take?
+-- L4, L5: is there an octet that a backslash may take? A control octet is none.
 unfoldable pub takes : List ℕ → Bool
 takes [] = false
 takes (x ∷ s) = not (control x)
 
--- what stands next inside a comment or a quoted string, at the place `at` of a text
+-- L4, L5: what stands next inside a comment or a quoted string, at the place `at` of a text
 unfoldable pub stepIn : ℕ → ℕ → List ℕ → StepIn
 stepIn closing at [] = Stops
 stepIn closing at (x ∷ s) =
@@ -36,7 +37,7 @@ stepIn closing at (x ∷ s) =
       | Plain ↦ On (at + 1)
     ]
 
--- how many comments are open where `room` more may be
+-- L2: how many comments are open where `room` more may be
 abbrev pub opened : ℕ → ℕ
 opened room = depth - room
 

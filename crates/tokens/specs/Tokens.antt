@@ -1,5 +1,5 @@
--- Blanks, comments and quoted strings, as paper 01 has them in lists and dates. A reader takes the octets that are left and gives
--- the octets that are left behind what it read, or none where the text is unreadable.
+-- SCOPE, L1 to L5 and L11: blanks and comments, which lists and dates have (D5, D6), and quoted strings, which lists have. A reader
+-- takes the octets that are left and gives the octets that are left behind what it read, or none where the text is unreadable.
 --     control              control octets
 --     kindOf               what an octet is inside a comment or a quoted string
 --     past, skipped        behind spaces, tabs and comments
@@ -13,22 +13,24 @@ use Rattle.octets.specs.Octets.{octet, tab, blank}
 use Rattle.tokens.specs.declared.OctetKind.{OctetKind}
 use Rattle.tokens.specs.declared.OctetKind.the-variants.{Closes, Escapes, Control, Plain}
 
--- "control octets (below 32, and 127) other than tab"
+-- L1: an octet below 32, or 127, the tab excepted
 unfoldable pub control : ℕ → Bool
 control x = (ltb x 32 || eqb x 127) && not (eqb x tab)
 
--- What an octet is inside a comment or a quoted string, by the octet that closes it. "a backslash takes the next octet with it in comments
--- and quoted strings"; all else is plain, a quote inside a comment and a parenthesis inside a quoted string too.
+-- What an octet is inside a comment or a quoted string, by the octet that closes it. L4: a backslash takes the octet behind it. L5:
+-- a control octet is banned. All else is plain: a quote inside a comment, a parenthesis inside a quoted string, a tab, octets from
+-- 128 on.
 unfoldable pub kindOf : ℕ → ℕ → OctetKind
 kindOf closing x = cond (eqb x closing) Closes (cond (eqb x (octet "\\")) Escapes (cond (control x) Control Plain))
 
--- "A comment may hold comments, to depth 16, the outer one at 1"
+-- L2: how many comments may stand one inside the other, the outermost counted
 abbrev pub depth : ℕ
 depth = 16
 
--- What is left behind "spaces, tabs and comments", with so many comments open, and whether a backslash has just come. Outside of comments
--- what is left begins at the first octet that is neither a blank nor "(". Inside, a control octet is unreadable, also one that a backslash
--- takes; and so is a comment that lacks its end.
+-- What is left behind blanks and comments, with so many comments open, and whether a backslash has just come. L11: outside of
+-- comments what is left begins at the first octet that is neither a blank nor `(`. L2: a comment is unreadable where it would be
+-- too deep, and where it does not close. L4: behind a backslash nothing opens or closes. L5: a control octet is unreadable, also
+-- one that a backslash takes.
 unfoldable pub past : ℕ → Bool → List ℕ → Option (List ℕ)
 past zero taken [] = some []
 past (suc n) taken [] = none
@@ -49,11 +51,13 @@ past (suc n) false (x ∷ s) =
       ]
     ]
 
+-- L11, D5: blanks and comments may stand in front of a token; each outermost comment counts its depth anew (L2)
 abbrev pub skipped : List ℕ → Option (List ℕ)
 skipped s = past 0 false s
 
--- What is left behind the closing quote of a quoted string whose opening quote has been read, and whether a backslash has just come. A
--- control octet is unreadable, also one that a backslash takes; and so is a quoted string that lacks its end.
+-- What is left behind the closing quote of a quoted string whose opening quote has been read, and whether a backslash has just
+-- come. L3: without its closing quote it is unreadable. L4: a quote that a backslash takes closes nothing. L5: a control octet is
+-- unreadable, also one that a backslash takes.
 unfoldable pub afterQuote : Bool → List ℕ → Option (List ℕ)
 afterQuote taken [] = none
 afterQuote true (x ∷ s) = elim (control x) [ true ↦ none | false ↦ afterQuote false s ]

@@ -1,5 +1,5 @@
-// The tokens that lists and dates share: spaces, tabs and comments skipped, and quoted strings passed. A reader is given
-// the text and a place in it, and answers a place.
+// What lists and dates share: blanks and comments skipped (SCOPE, L11 and D5); and quoted strings passed, which lists have
+// (L3). A reader is given the text and a place in it, and answers a place.
 ghost use Prim.Native.Nat.{suc, _+_, _<_};
 ghost use mathlib.Core.Path.{_≡_};
 ghost use mathlib.Core.Bool.{false};
@@ -7,7 +7,7 @@ ghost use lib.ListN.{drop};
 ghost use Rattle.tokens.specs.Tokens.{control, kindOf, depth, skipped, afterQuote};
 ghost use Rattle.tokens.specs.Answers.{reached, takes as takesOf, stepIn, opened, Opening, Passed};
 
-// "A comment may hold comments, to depth 16, the outer one at 1"
+// Comments may stand one inside the other so deep, the outermost at 1 (L2).
 const DEPTH: usize = 16;
 
 // What an octet is inside a comment or a quoted string.
@@ -32,7 +32,7 @@ pub enum Reached {
     Unreadable,
 }
 
-// "control octets (below 32, and 127) other than tab"
+// Is it an octet below 32, or 127, the tab excepted (L1)?
 pub fn is_control(x: u8) -> bool
     ensures { λ r. ⌜ r ≡ control x ⌝ }
 {
@@ -55,7 +55,7 @@ fn kind_of(closing: u8, x: u8) -> OctetKind
     OctetKind::Plain
 }
 
-// Does an octet stand at the place `at` that a backslash before it may take?
+// Does an octet stand at the place `at` that a backslash before it may take? A control octet is none (L5).
 fn takes(s: &[u8], at: usize) -> bool
     ensures { λ r. ⌜ r ≡ takesOf (drop at (now (s .entry))) ⌝ }
 {

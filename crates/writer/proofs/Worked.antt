@@ -1,4 +1,4 @@
--- The paper's example and some beside it, by computing the definitions. Assumes nothing.
+-- Worked fields (W2 to W5), by computing the definitions. Assumes nothing.
 use Prim.Native.Nat.{_+_}
 use mathlib.Core.Path.{_≡_, refl}
 use mathlib.Core.Bool.{true, false}
@@ -9,19 +9,19 @@ use Rattle.keylines.specs.Lines.{laid, lines}
 use Rattle.address.specs.Address.{canonical}
 use Rattle.writer.specs.Writing.{preference, fieldText, written}
 
--- "`Autocrypt: addr=a@b.example; prefer-encrypt=mutual; keydata=` CRLF, space `Zm9v` CRLF"
+-- W2: a whole field, with the preference, of a key of one line
 whole : written (ascii "Autocrypt") (ascii "a@b.example") true (ascii "foo")
     ≡ ascii "Autocrypt: addr=a@b.example; prefer-encrypt=mutual; keydata=\r\n Zm9v\r\n"
 unfolding written fieldText preference canonical lowered lower encode letter lines laid
 whole = refl
 
--- the address in capitals, and no preference
+-- W5, W3: the address was given in capitals, and the preference is left out
 without : written (ascii "Autocrypt-Gossip") (ascii "A@B.Example") false (ascii "foob")
     ≡ ascii "Autocrypt-Gossip: addr=a@b.example; keydata=\r\n Zm9vYg==\r\n"
 unfolding written fieldText preference canonical lowered lower encode letter lines laid
 without = refl
 
--- 57 octets make one line of 76 characters, with nothing behind it; 58 make two
+-- W4: 57 octets make one line of 76 characters, with no empty line behind it; 58 make two
 one-line : length (written (ascii "A") (ascii "a@b") false (replicate 57 (octet "k"))) ≡ 1 + 7 + 3 + 12 + 79
 unfolding written fieldText preference canonical lowered lower encode letter lines laid
 one-line = refl

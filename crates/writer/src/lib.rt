@@ -1,5 +1,5 @@
-// Fields written: name, address, preference and key become the text of one header field. What it is stands
-// in specs/Writing.antt.
+// Fields written (SCOPE, W2 to W5): name, address, preference and key become the text of one header field. What it is
+// stands in specs/Writing.antt.
 ghost use Prim.Native.Nat.{_+_, _≤_};
 ghost use mathlib.Core.Path.{_≡_};
 ghost use mathlib.Core.Bool.{true};
@@ -11,7 +11,7 @@ ghost use Rattle.writer.specs.Writing.{preference, fieldText, written};
 ghost use Rattle.writer.specs.Steps.{opening, attributes};
 use address::Fitted;
 
-// What stands between the parts that a caller gives.
+// What stands between the parts that a caller gives (W2).
 const ADDR: [u8; 7] = *b": addr=";
 
 const PREFER_ENCRYPT: [u8; 23] = *b"; prefer-encrypt=mutual";
@@ -88,7 +88,7 @@ fn field_length(name: &[u8], address: &[u8], mutual: bool, key: &[u8]) -> usize
         + keylines::lines_length(key)
 }
 
-// Writes a field to the front of `out`, where it fits.
+// Writes a field to the front of `out`, where it fits; room for just the field is enough (W6).
 fn fit_field(name: &[u8], address: &[u8], mutual: bool, key: &[u8], out: &mut [u8]) -> Fitted
     requires { ⌜ (length (now name) ≤ 256) × (length (now address) ≤ 256) ⌝ }
     ensures { λ r. ⌜ r ≡ writtenOf (fieldText (now (name .entry)) (now (address .entry)) «mutual» (now (key .entry))) (length (now (out .entry))) ⌝ }
@@ -103,7 +103,7 @@ fn fit_field(name: &[u8], address: &[u8], mutual: bool, key: &[u8], out: &mut [u
     Fitted::Length(n)
 }
 
-// Writes the field of an address in canonical form to the front of `out`, where it fits.
+// Writes the field of an address, which it puts into canonical form (W5), to the front of `out`, where it fits (W6).
 pub fn write_field(name: &[u8], address: &[u8], mutual: bool, key: &[u8], out: &mut [u8]) -> Fitted
     requires { ⌜ (length (now name) ≤ 256) × (plain (now address) ≡ true) ⌝ }
     ensures { λ r. ⌜ r ≡ writtenOf (written (now (name .entry)) (now (address .entry)) «mutual» (now (key .entry))) (length (now (out .entry))) ⌝ }
