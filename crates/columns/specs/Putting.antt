@@ -7,10 +7,11 @@ use mathlib.Core.List.{List}
 use lib.ListN.{length}
 use Rattle.octets.specs.Written.{putAt}
 
+-- a text w from the place `at` on ends within the buffer d
 pub record Room (d : List ℕ) (at : ℕ) (w : List ℕ) : Type 0 where
   pub fits : at + length w ≤ length d
 
--- d is the buffer before, out afterwards, and o the place behind the text
+-- the text w was written from the place `at` on: d is the buffer before, out afterwards, and o the place behind the text
 pub record Put (d out : List ℕ) (at : ℕ) (w : List ℕ) (o : ℕ) : Type 0 where
   pub text : out ≡ putAt d at w
   pub place : o ≡ at + length w

@@ -28,6 +28,7 @@ pub record Compares (t tags : List ℕ) (i : ℕ) : Type 0 where
   pub tagged : TaggedTo t tags (i + 1)
   pub used : marked (slotAt t i) ≡ true
 
+-- R1, R2: what the check answers, with the tags of the table where it is sound
 pub record Checks (t tags : List ℕ) (r : Checked) : Type 0 where
   pub answer : r ≡ checked t
   pub opens : r ≡ Sound → Open t tags

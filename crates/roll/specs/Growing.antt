@@ -37,6 +37,6 @@ pub record Adds (roll tags places : List ℕ) (at : Rolled) (more : List (List �
   pub plainly : every plain more ≡ true
   pub roomy : Roomy (inRoll at roll ++ more) roll tags places
 
--- the memory as it came, and then as it is
+-- the roll is longer by these addresses: roll and `at` are the memory as it came and how far it went, out and r are those afterwards
 pub record Grew (roll : List ℕ) (at : Rolled) (more : List (List ℕ)) (out : List ℕ) (r : Rolled) : Type 0 where
   pub grown : inRoll r out ≡ inRoll at roll ++ more

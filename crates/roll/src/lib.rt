@@ -27,7 +27,7 @@ pub struct Rolled {
     pub many: usize,
 }
 
-// The tag of a plain address, by its canonical form.
+// The tag of a plain address, by its canonical form (L8).
 fn tag_of(address: &[u8]) -> u32
     requires { ⌜ plain (now address) ≡ true ⌝ }
     ensures { λ r. ⌜ r ≡ tagOf (canonical (now (address .entry))) ⌝ }
@@ -64,7 +64,7 @@ pub fn add(
     }
 }
 
-// Adds the addresses of a list, none where it is unreadable.
+// Adds the addresses of a list, none where it is unreadable (G4).
 pub fn add_list(
     roll: &mut [u8],
     tags: &mut [u32],

@@ -15,6 +15,7 @@ use Rattle.tags.specs.Tags.{tagOf}
 use Rattle.table.specs.Table.{mostSlots, slots, slotAt, checked}
 use Rattle.table.specs.declared.Checked.the-variants.{Sound}
 
+-- the tag of slot k: that of its address, and 0 where it is not used
 unfoldable pub tagAt : List ℕ → ℕ → ℕ
 tagAt t k = cond (marked (slotAt t k)) (tagOf (addressOf (slotAt t k))) 0
 
