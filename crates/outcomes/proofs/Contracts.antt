@@ -1,4 +1,4 @@
--- The contract of each public function, as the toolchain makes it of the source, is the claims of Outcomes or OutcomesInC: it requires nothing, it ensures
+-- C1, C2: the contract of each public function, as the toolchain makes it of the source, is the claims of Outcomes or OutcomesInC: it requires nothing, it ensures
 -- these claims, and nothing else. So a contract that is weakened, or a claim that is not the contract's, is refused here. That no public function is
 -- left out is read from the sources by tests/texts/test_outcomes.py. Assumes nothing.
 --     number-contract .. write-gossip-contract    the functions that autocrypt passes on
