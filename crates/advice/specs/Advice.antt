@@ -45,7 +45,8 @@ ratedBy seen (some d) g = elim (stale seen (d .timestamp)) [ true ↦ Discourage
 unfoldable pub rated : Entry → Advice
 rated e = ratedBy (orElse 0 (e .lastSeen)) (directOf e) (gossipOf e)
 
--- A4: a reply to an encrypted mail makes encrypt of discourage and of available, both preferences make it of available; nothing lifts disable
+-- A4: with a reply discourage and available become encrypt, and with both preferences available does; nothing lifts disable, and preferences do not
+-- lift discourage
 unfoldable pub raised : Bool → Bool → Advice → Advice
 raised reply both Disable = Disable
 raised reply both Discourage = elim reply [ true ↦ Encrypt | false ↦ Discourage ]

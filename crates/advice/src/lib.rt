@@ -52,8 +52,8 @@ fn rate(entry: Head) -> Advice
     Advice::Disable
 }
 
-// What reply and preferences make of it (A4): a reply to an encrypted mail makes encrypt of discourage and of available,
-// and both preferences make it of available.
+// What reply and preferences make of it (A4): with a reply discourage and available become encrypt, and with both
+// preferences available does.
 fn raise(advice: Advice, reply: bool, both: bool) -> Advice
     ensures { λ r. ⌜ r ≡ raised reply both advice ⌝ }
 {
@@ -181,7 +181,7 @@ fn key_part(numbers: Head, direct: usize, gossip: usize) -> Part
     }
 }
 
-// Where the key to encrypt to lies for one recipient.
+// Where the key to encrypt to lies for one recipient (A6); an empty part where there is none (A7).
 fn target(table: &[u8], tags: &[u32; Slot::MOST], address: &[u8]) -> Part
     requires { ⌜ Open (now table) (now tags) × (plain (now address) ≡ true) ⌝ }
     ensures { λ r. ⌜ r ≡ targetPart (now (table .entry)) (now (address .entry)) ⌝ }
@@ -199,7 +199,8 @@ fn target(table: &[u8], tags: &[u32; Slot::MOST], address: &[u8]) -> Part
     }
 }
 
-// Where the key of the recipient at a place of the list lies, the first being at 0.
+// Where the key to encrypt to lies for the recipient at a place of the list, the first being at 0 (A6, A10); past the list
+// the part is empty (A7).
 pub fn target_at(table: &[u8], tags: &[u32; Slot::MOST], recipients: &[u8], place: usize) -> Part
     requires { ⌜ Open (now table) (now tags) × (isSome (addresses (now recipients)) ≡ true) ⌝ }
     ensures { λ r. ⌜ r ≡ targetAt (now (table .entry)) (orElse [] (addresses (now (recipients .entry)))) place ⌝ }

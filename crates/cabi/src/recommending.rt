@@ -7,7 +7,7 @@ ghost use Rattle.recommend.specs.Recommending.{recommendedOf, targetPartOf};
 ghost use Rattle.cabi.specs.Numbers.{adviceInNumbers, partInNumbers};
 
 // `recommend` of the library: should a mail to these recipients be encrypted (A1)? `recipients` is a list of 1 to 100
-// addresses, not folded, `mutual` the user's own preference, and `reply` says that the mail replies to an encrypted one.
+// addresses, not folded, `mutual` the user's own preference, and `reply` is 1 for a reply to an encrypted mail, else 0.
 // Answers 0 with an advice: 1 disable, 2 discourage, 3 available, 4 encrypt. Or it answers the number of the refusal, 1, 2
 // or 10 in the order of testing, with the slot's index where it is 2, and 0 for the advice.
 #[no_mangle]

@@ -1,4 +1,4 @@
--- What the writing of a column asks and does.
+-- What the writing of a column (W8) asks and does.
 --     Room    there is room for a text from a place on
 --     Put     a text was written from a place on
 use Prim.Native.Nat.{ℕ, _+_, _≤_}

@@ -1,5 +1,5 @@
-// One column of a line of the listing: a text, a number, a time or a preference, each with the octet behind it, written into a
-// lent buffer. What they are stands in specs/Columns.antt.
+// One column of a line of the listing (W8, W9): a text, a number, a time or a preference, each with the octet behind it,
+// written into a lent buffer. What they are stands in specs/Columns.antt.
 ghost use Rattle.heads.specs.Entry.{present};
 ghost use Rattle.columns.specs.Columns.{decimal, timeText, preferenceText, ended};
 ghost use Rattle.columns.specs.Putting.{Room, Put};

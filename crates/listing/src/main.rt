@@ -1,6 +1,5 @@
-// The listing program (W7 to W10). It reads a table of at most 14 slots from standard input, and prints a line for each
-// used slot, or the number of a refusal. What it prints is said by the crate printout; reading and writing are all that it
-// does itself.
+// The listing program (W7, W8, W9, W10). Its input is a table of up to 14 slots; it prints a line for each used one, or
+// the number of a refusal. What it prints is said by the crate printout; reading and writing are all that it does itself.
 use libc::STDIN_FILENO;
 use libc::STDOUT_FILENO;
 

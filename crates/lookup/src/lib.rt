@@ -1,5 +1,5 @@
-// Looking through a table: whether it is sound, where an address stands in it, and what it has of an address. The check
-// makes a tag for each slot and hands them out; whoever looks for an address later compares these first.
+// Looking through a table: whether it is sound (T13), where an address stands in it (T15), and what it has of an address.
+// The check makes a tag for each slot and hands them out; whoever looks for an address later compares these first.
 ghost use Prim.Native.Nat.{_<_};
 ghost use mathlib.Core.Path.{_≡_};
 ghost use mathlib.Core.Bool.{_&&_};

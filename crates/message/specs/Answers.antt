@@ -66,13 +66,13 @@ directFrom date key (Key m n) = some (record { timestamp = date; key = take n ke
 unfoldable pub mailOf : List ℕ → List ℕ → Brought → List Gossiped → Message
 mailOf sender key b gossip = record { sender = sender; date = b .date; direct = directFrom (b .date) key (b .own); gossip = gossip }
 
--- the key of a field that was found
+-- F10: the key of a field that was found opens the lent memory, and has 1 to 2,048 octets
 pub record KeyIn (key : List ℕ) (n : ℕ) : Type 0 where
   pub some-octet : 1 ≤ n
   pub most : n ≤ keyLimit
   pub within : n ≤ length key
 
--- so of the field that counts, where there is one
+-- the field that counts has such a key, if there is one
 unfoldable pub OwnIn : List ℕ → Own → Type 0
 OwnIn key (Key m n) = KeyIn key n
 OwnIn key NoKey = Unit
@@ -111,7 +111,7 @@ pub record CarryingAs (most receipt : ℕ) (outer payload : List ℕ) (g : Gossi
   pub readably : readable payload ≡ true
   pub brings : Brings sender key b (heardIn most outer payload) (messageOf most receipt outer payload g)
 
--- R3 to R7: what each answer of the reading says
+-- R3, R4, R5, R6, R7: what each answer of the reading says
 unfoldable pub ReadAs : ℕ → ℕ → List ℕ → List ℕ → Gossip → List ℕ → List ℕ → Reading → Type 0
 ReadAs most receipt outer payload g sender key (Alone b) = AloneAs most receipt outer payload g sender key b
 ReadAs most receipt outer payload g sender key (Carrying b v) = CarryingAs most receipt outer payload g sender key b v

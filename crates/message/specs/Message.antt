@@ -27,9 +27,9 @@ use Rattle.keys.specs.Keys.{countedIn, gossipIn}
 unfoldable pub payloadIn : Gossip → List ℕ → List FieldText
 payloadIn g payload = elim (taken g) [ true ↦ fieldsIn payload | false ↦ [] ]
 
--- R3 to R7: the receipt time is above the largest time, the outer block is unreadable, there is no one sender, a Content-Type is a report, gossip
--- is taken and the payload is unreadable. An unreadable block has no fields; a payload of no octets is readable and has none (U1, G3). No row asks
--- what the message would change (R35)
+-- R3, R4, R5, R6, R7: the receipt time is above the largest time, the outer block is unreadable, there is not just one sender, a Content-Type is a
+-- report, gossip is taken and the payload is unreadable. An unreadable block has no fields; a payload of no octets is readable and has none (U1,
+-- G3). No row asks what the message would change (R35), and what Autocrypt would ignore is refused (R36)
 unfoldable pub messageRows : ℕ → List ℕ → List ℕ → Gossip → List Row
 messageRows receipt outer payload g =
     (ReceiptTime unless leb receipt timeLimit)
@@ -44,8 +44,8 @@ unfoldable pub directBy : ℕ → Option Field → Option Direct
 directBy date none = none
 directBy date (some f) = some (record { timestamp = date; key = f .key; «mutual» = f .isMutual })
 
--- what a message brings, by its sender and by the fields of the outer block and of the payload, with keys of at most so many octets: the effective
--- date for all of it (D14), the counted field (F13), and the accepted gossip about the recipients (G4, G5)
+-- D14, F13, G4, G5: what a message brings, by its sender and by the fields of the outer block and of the payload, with keys of at most so many
+-- octets: the effective date for all of it, the counted field, and the accepted gossip about the recipients
 unfoldable pub messageBy : ℕ → ℕ → List ℕ → List FieldText → List FieldText → Message
 messageBy most receipt sender outer payload =
     record {
@@ -55,6 +55,6 @@ messageBy most receipt sender outer payload =
       gossip = gossipIn most (recipientsIn outer) payload;
     }
 
--- what a message brings, by its blocks and the gossip setting (U1)
+-- U1: what a message brings, by its blocks and the gossip setting
 unfoldable pub messageOf : ℕ → ℕ → List ℕ → List ℕ → Gossip → Message
 messageOf most receipt outer payload g = messageBy most receipt (orElse [] (senderIn (fieldsIn outer))) (fieldsIn outer) (payloadIn g payload)

@@ -97,7 +97,7 @@ fn bring(
     }
 }
 
-// Refusals 6 and 7, with the sender known, and what his message brings.
+// Refusals 6 and 7, with the sender known, and what the message brings.
 fn read_sent(
     receipt: u64,
     outer: &[u8],

@@ -13,7 +13,7 @@ use Rattle.update.specs.Message.{Gossiped, Message}
 unfoldable pub bringsDirect : Message → List ℕ → Option Direct
 bringsDirect m a = elim (sameOctets (m .sender) a) [ true ↦ m .direct | false ↦ none ]
 
--- G9: the later of two keys, where there is one
+-- G9: the second of two keys, or the first where there is no second
 unfoldable pub lastOf : Option (List ℕ) → Option (List ℕ) → Option (List ℕ)
 lastOf first none = first
 lastOf first (some key) = some key
@@ -27,6 +27,6 @@ unfoldable pub lastKey : List Gossiped → List ℕ → Option (List ℕ)
 lastKey [] a = none
 lastKey (g ∷ rest) a = lastOf (keyAbout g a) (lastKey rest a)
 
--- G9: what a message brings an address by gossip is the key of the last accepted field about it
+-- G9: of all accepted fields about an address, the key of the last is what the message brings it
 unfoldable pub bringsGossip : Message → List ℕ → Option (List ℕ)
 bringsGossip m a = lastKey (m .gossip) a

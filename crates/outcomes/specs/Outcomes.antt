@@ -56,11 +56,11 @@ Entry table slot numbers r left = Meets (answerOf (refusedShowing table (length 
 abbrev pub Recommend : List ℕ → List ℕ → Bool → Bool → Recommended → List (Type 0)
 Recommend table recipients isMutual reply r = (r ≡ recommendedOf table recipients isMutual reply) ∷ []
 
--- A6, A9: the part that `target_part` answers, which does not depend on preference and reply
+-- A6, A7, A9: the part that `target_part` answers, which does not depend on preference and reply
 abbrev pub TargetPart : List ℕ → List ℕ → Bool → Bool → ℕ → Part → List (Type 0)
 TargetPart table recipients isMutual reply place r = (r ≡ targetPartOf table recipients place) ∷ []
 
--- A6, A9: the octets that `target_key` hands back: what they are, and which of the table's they are
+-- A6, A7, A9: the octets that `target_key` hands back: what they are, and which of the table's they are
 abbrev pub TargetKey : List ℕ → List ℕ → Bool → Bool → ℕ → List ℕ → List (Type 0)
 TargetKey table recipients isMutual reply place r =
     (r ≡ targetKeyOf table recipients place) ∷ (r ≡ octetsAt table (targetPartOf table recipients place)) ∷ []

@@ -40,7 +40,7 @@ VienghulacEntry table slot numbers r left = Meets (inNumbers (answerOf (refusedS
 abbrev pub VienghulacRecommend : List ℕ → List ℕ → Bool → Bool → Advice → List (Type 0)
 VienghulacRecommend table recipients isMutual reply r = (r ≡ adviceInNumbers (recommendedOf table recipients isMutual reply)) ∷ []
 
--- A6, A9: what `vienghulac_target_key` answers
+-- A6, A7, A9: what `vienghulac_target_key` answers
 abbrev pub VienghulacTargetKey : List ℕ → List ℕ → Bool → Bool → ℕ → Part → List (Type 0)
 VienghulacTargetKey table recipients isMutual reply place r = (r ≡ partInNumbers (targetPartOf table recipients place)) ∷ []
 

@@ -48,7 +48,7 @@ dateBy (some v) = dateOf v
 abbrev pub saidDate : List FieldText → Option ℕ
 saidDate fs = dateBy (onlyOne (valuesOf Date fs))
 
--- D2: the smaller of Date and receipt time; the receipt time where the Date is unavailable
+-- D2: Date or receipt time, whichever is smaller; the receipt time where the Date is unavailable
 unfoldable pub dateIn : List FieldText → ℕ → ℕ
 dateIn fs receipt = effectiveDate (saidDate fs) receipt
 

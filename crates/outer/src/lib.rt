@@ -69,7 +69,7 @@ pub fn is_report(block: &[u8], survey: Survey, text: &mut [u8]) -> bool
     }
 }
 
-// The Date, where there is exactly one Date field and it reads as a date (D1).
+// The Date of the message, which its one Date field has to give (D1).
 pub fn date(block: &[u8], survey: Survey, text: &mut [u8]) -> Dated
     requires { ⌜ SurveyAs (now block) survey × (length (now block) ≤ length (now text)) ⌝ }
     ensures { λ r. ⌜ r ≡ datedOf (saidDate (fieldsIn (now (block .entry)))) ⌝ }

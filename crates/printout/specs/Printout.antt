@@ -56,7 +56,7 @@ listing (Slot i) t = ascii "refused 2\n"
 abbrev pub mostListed : ℕ
 mostListed = 14
 
--- W7: longer input is refused for its length, whatever it holds
+-- W7: input that is longer than that is refused with 1, whatever it holds; no input is refused by the check
 unfoldable pub printed : List ℕ → List ℕ
 printed t = elim (leb (length t) (mostListed * slotLength)) [ true ↦ listing (checked t) t | false ↦ ascii "refused 1\n" ]
 

@@ -20,7 +20,7 @@ use slots::Slot;
 // than half as long as all else of a short mail.
 const SHORT: usize = 8192;
 
-// The most addresses that a block can have (B1, L6): one takes three octets, and one stands between it and the next.
+// The most addresses that a block can have (B1, L6): one takes three octets, and another stands between it and the next.
 const MOST_RECIPIENTS: usize = header::LIMIT / 4;
 
 // Refusal 8 for a message with a payload (R8): gossip counts that is about its recipients.
@@ -140,13 +140,14 @@ fn process_open(
 // inside the decrypted mail, empty where there is none. `gossip` says whether gossip is taken: unset takes it, and with
 // skip the payload is not looked at (G1, G2).
 //
-// Where nothing is refused, the answer is `Done`. The sender has an entry then, with last seen and with the key that the
-// mail brings, unless a younger one was there (U5, U6, U7, U8, U9). So have the recipients whom accepted gossip is about,
-// with the key from there (G5, G7). An address that is new takes the lowest free slot (U4). The date of all this is the
-// smaller of the mail's Date and the receipt time (D2).
+// Where nothing is refused, the answer is `Done`. The sender then has an entry (U5): last seen is raised to the mail's
+// date, and the key and preference of the field that counts, if there is one, are stored with that date, unless a younger
+// key was there (U6, U7, U8, U9). Each recipient whom accepted gossip is about has an entry with the key from there,
+// unless younger gossip was there (G5, G7). An address that is new takes the free slot with the lowest index (U4). The
+// mail's date is its Date or the receipt time, whichever is smaller (D2).
 //
 // The refusals, in the order of testing (U2):
-//     1, 2   the table is none, as in `check`
+//     1, 2   what `check` refuses (R1, R2)
 //     3      the receipt time is above the largest time, 253,402,300,799 (R3)
 //     4      the outer block is unreadable (R4)
 //     5      the outer block has no From field or several, or its one From does not give just one address (R5)

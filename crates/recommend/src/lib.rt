@@ -1,5 +1,5 @@
 // Recommending (page A): what is advised for a mail to a list of recipients, and the key to encrypt to for each of them,
-// handed back as a part of the lent table.
+// which is a part of the table that was lent.
 ghost use mathlib.Core.Path.{_≡_};
 ghost use lib.ListN.{length};
 ghost use Rattle.addresslist.specs.List.{addresses};
@@ -50,10 +50,10 @@ fn admit(table: &[u8], tags: &mut [u32; Slot::MOST], recipients: &[u8]) -> Answe
 }
 
 // What is advised for a mail to these recipients (A1). `recipients` is a list of 1 to 100 addresses as in a To field, read
-// as it is, so that a line ending in it makes it unreadable (L19). `mutual` is the user's own preference; `reply` says
-// that the mail replies to an encrypted one. For the whole list the lowest advice of its recipients is answered (A5), from
-// low to high: disable, discourage, available, encrypt. The refusals, in the order of testing: 1 and 2 for the table, as
-// in `check`, and 10 where the list is unreadable, or gives no address or more than 100 (R10). The table is not written.
+// as it is, so that a line ending in it makes it unreadable (L19). `mutual` is the user's own preference, and `reply` is
+// true for a reply to an encrypted mail. For the whole list the lowest advice of its recipients is answered (A5), from low
+// to high: disable, discourage, available, encrypt. The refusals, in the order of testing: 1 and 2 for the table, as in
+// `check`, and 10 where the list is unreadable, or gives no address or more than 100 (R10). The table is not written.
 pub fn recommend(table: &[u8], recipients: &[u8], mutual: bool, reply: bool) -> Recommended
     ensures { λ r. ⌜ r ≡ recommendedOf (now (table .entry)) (now (recipients .entry)) «mutual» reply ⌝ }
 {
@@ -88,8 +88,8 @@ pub fn target_part(table: &[u8], recipients: &[u8], mutual: bool, reply: bool, p
     }
 }
 
-// The octets of that key, as a part of the lent table (A6): those that `target_part` tells of with the same arguments, and
-// none where its part is empty.
+// The octets of that key, where they stand in the table (A6): those that `target_part` tells of with the same arguments,
+// and none where its part is empty.
 pub fn target_key<'a>(
     table: &'a [u8],
     recipients: &[u8],

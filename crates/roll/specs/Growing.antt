@@ -1,4 +1,4 @@
--- A roll that grows at the front of lent memory, and its index with it. How far they go says a `Rolled`.
+-- A roll that grows at the front of lent memory (G4, R8), and its index with it. How far they go says a `Rolled`.
 --     inRoll    the addresses of the roll
 --     Kept      the memory has a roll of plain addresses, and its index
 --     Roomy     the memory has room for addresses; a place in it is a number of 16 bits

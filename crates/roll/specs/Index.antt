@@ -1,4 +1,4 @@
--- The index of a roll: for each address its tag and where it begins, so that addresses are looked for among numbers.
+-- The index of a roll: for each address its tag and where it begins, so that addresses are looked for among numbers (G5, R8).
 --     tagsOf        the tags of addresses, each that of the canonical form
 --     placesFrom    where addresses begin that stand in a roll from a place on
 --     addressAt     the address that begins at a place

@@ -1,4 +1,4 @@
--- What the count of newcomers asks for, and what it knows between two steps. The roll of those that are known to be new is `known`, its index
+-- What the count of newcomers (R8) asks for, and what it knows between two steps. The roll of those that are known to be new is `known`, its index
 -- `numbers` and `spots`; `at` says how far they go.
 --     Reads                     a block that can be read, and a text for its values
 --     Asks                      whether an address is new
@@ -63,8 +63,8 @@ unfoldable pub RollsAs : List ℕ → ℕ → List ℕ → List ℕ → List ℕ
 RollsAs t free known numbers spots (Seated at) = Rolls t free known numbers spots at
 RollsAs t free known numbers spots Full = Unit
 
--- The gossip of a payload, with keys of at most `limit` octets, for which there is room; the roll is as it is left where the last address had its
--- slot.
+-- What is asked for where the gossip of a payload is counted: keys have at most `limit` octets, for which there is room, and the roll is as `meet`
+-- leaves it.
 pub record Seats (t tags : List ℕ) (free limit : ℕ) (payload recipients listed places text known numbers spots : List ℕ) (at : Rolled) : Type 0 where
   pub tagged : Tagged t tags
   pub rolls : RollsAs t free known numbers spots (Seated at)

@@ -171,7 +171,7 @@ pub fn has_room(
     }
 }
 
-// Is there a slot for the sender of a message without gossip: one of his own, or a free one (R8)?
+// Is there a slot for the sender of a message without gossip: its own entry's, or a free one (R8)?
 pub fn has_room_alone(table: &[u8], tags: &[u32; Slot::MOST], sender: &[u8]) -> bool
     requires { ⌜ Tagged (now table) (now tags) ⌝ }
     ensures { λ r. ⌜ r ≡ roomBeside (now (table .entry)) [] (now (sender .entry) ∷ []) ⌝ }

@@ -1,5 +1,5 @@
-// One slot of the table and the entry that it holds: what stands where, whether it is free or sound, and the writers of
-// slots. A slot is lent as a part of 4,392 octets.
+// One slot of the table and the entry that it holds (page T): what stands where, whether it is free or sound, and the
+// writers of slots. A slot is lent as a part of 4,392 octets.
 ghost use Prim.Native.Nat.{_+_, _≤_, min};
 ghost use mathlib.Core.Path.{_≡_};
 ghost use mathlib.Core.Bool.{true};

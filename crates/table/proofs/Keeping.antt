@@ -1,7 +1,7 @@
 -- A sound table, and that writing a good entry keeps it sound (C4).
 --     table-sound, sound-table    what the check tells, and back
 --     used-sound, unused-free     its used slots are sound and its other slots free
---     alone                   no two slots have one address
+--     alone                   no two slots have one address (T8.3, T15)
 --     others-not              where an address stands, no other slot has it
 --     write-sound             a good entry written where no other slot has its address
 --     write-new, write-own    the two places of that kind: a slot when the address is new, and the address's own

@@ -1,5 +1,5 @@
-// The table of slots: the free slots, what a slot holds, and the one slot that is lent on to a writer. Whether a table is
-// sound, and where an address stands in it, is answered by the crate `lookup`.
+// The table of slots (page T): the free slots, what a slot holds, and the one slot that is lent on to a writer. Whether a
+// table is sound, and where an address stands in it, is answered by the crate `lookup`.
 ghost use Prim.Native.Nat.{_<_, _≤_};
 ghost use mathlib.Core.Path.{_≡_};
 ghost use mathlib.Core.Bool.{true};

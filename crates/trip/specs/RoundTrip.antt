@@ -48,7 +48,7 @@ pub record ReadsBack (name address key : List ℕ) (m : Bool) (octets : List ℕ
   pub among : (s : List ℕ) (fs : List FieldText) → Lines s fs → (rest : List ℕ) → belongs Blank (getD rest 0 0) ≡ false
       → fields (s ++ (octets ++ rest)) ≡ inFrontAll fs (inFront found (fields rest))
 
--- C6, C7: whole fields stand in front of the octets, and what follows does not continue them
+-- C6, C7, C8: whole fields stand in front of the octets, and what follows does not continue them
 pub record Holding (block octets : List ℕ) : Type 0 where
   pub front : List ℕ
   pub before : List FieldText

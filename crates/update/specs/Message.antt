@@ -27,8 +27,8 @@ pub record Gossiped : Type 0 where
   pub address : List ℕ
   pub key : List ℕ
 
--- The sender's canonical address (U3), the effective date, which is one for the whole message (D14), the direct half of the counted field, if there
--- is one, whose timestamp is the date (U8), and the accepted gossip in order (G5).
+-- U3, D14, U8, G5: the sender's canonical address, the effective date, which is one for the whole message, the direct half of the counted field, if
+-- there is one, whose timestamp is the date, and the accepted gossip in order
 pub record Message : Type 0 where
   pub sender : List ℕ
   pub date : ℕ
@@ -77,8 +77,8 @@ unfoldable pub entryHeard : ℕ → List Gossiped → List ℕ → Option Entry 
 entryHeard date [] b e = e
 entryHeard date (g ∷ rest) b e = entryHeard date rest b (entryPut (g .address) (heard date (g .key)) b e)
 
--- U6 to U9, G7: what a message does to the entry of an address, wherever that stands: the sender's part if it is the sender, then the gossip about
--- it. An address that the message has nothing about keeps what it has
+-- U6, U7, U8, U9, G7, G8: what a message does to the entry of an address, wherever that stands: the sender's part if it is the sender, then the
+-- gossip about it. An address that the message has nothing about keeps what it has
 unfoldable pub entryAfter : Message → List ℕ → Option Entry → Option Entry
 entryAfter m b e = entryHeard (m .date) (m .gossip) b (entryPut (m .sender) (updated (m .date) (m .direct)) b e)
 
@@ -93,12 +93,12 @@ pub record GoodGossiped (g : Gossiped) : Type 0 where
   pub octets : AllOctets (g .address)
   pub key : GoodKey (g .key)
 
--- so of each of them
+-- each of these is such gossip
 unfoldable pub GoodGossipeds : List Gossiped → Type 0
 GoodGossipeds [] = Unit
 GoodGossipeds (g ∷ rest) = GoodGossiped g × GoodGossipeds rest
 
--- what holds of every message that is read from octets: the sender's address is canonical, its date is a time (D2), and what it brings is good
+-- what holds of every message that is read from octets: the sender's address is canonical, the date is a time (D2), and what it brings is good
 pub record GoodMessage (m : Message) : Type 0 where
   pub canonical : isCanonical (m .sender) ≡ true
   pub octets : AllOctets (m .sender)

@@ -62,7 +62,8 @@ younger date old = stays (above theDirect) old date none
 unfoldable pub withField : Option Direct → Entry → Entry
 withField brought e = withHalf theDirect brought e
 
--- U6 to U9: the sender's entry once a message came in. The direct half that this brings, if any, has the date for its timestamp
+-- U6, U7, U8, U9: the sender's entry once a message came in; U10 has examples. The direct half that this brings, if any, has the date for its
+-- timestamp
 unfoldable pub updated : ℕ → Option Direct → Entry → Entry
 updated date brought e = taking theDirect (above theDirect) date brought e
 
@@ -80,7 +81,7 @@ unfoldable pub begunAt : Found → List ℕ → List ℕ → List ℕ
 begunAt (At i) t a = withSlot t i (slotOf (newcomer a))
 begunAt Nothing t a = t
 
--- U4: an address without an entry takes the free slot with the lowest index; one that has an entry keeps its slot
+-- U4: an address that has no entry gets the free slot with the lowest index; one that has an entry keeps its slot
 unfoldable pub begun : List ℕ → List ℕ → List ℕ
 begun t a = elim (found t a) [ At i ↦ t | Nothing ↦ begunAt (lowestFree t) t a ]
 

@@ -29,11 +29,12 @@ autocryptField address isMutual key = written autocryptName address isMutual key
 unfoldable pub gossipField : List ℕ → List ℕ → List ℕ
 gossipField address key = written gossipName address false key
 
--- W6: an output of 3,200 octets is always enough, as the C header promises: an address has at most 254 octets, and the lines of a key at most 2,840
+-- W6: an output of 3,200 octets is always enough, as the C header promises: 254 octets are the most for an address, and 2,840 for the lines of a
+-- key
 abbrev pub fieldRoom : ℕ
 fieldRoom = 3200
 
--- R9, R11, R12: the address is a plain one and nothing else, the key has 1 to 2,048 octets, and the output has room for the field
+-- R9, R11, R12: refused unless the address is a plain one and nothing else, the key has 1 to 2,048 octets, and the output has room for the field
 unfoldable pub writingRows : List ℕ → List ℕ → List ℕ → ℕ → List Row
 writingRows address key field room =
     (OwnAddress unless plain address)

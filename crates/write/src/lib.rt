@@ -37,11 +37,11 @@ fn write(name: &[u8], address: &[u8], mutual: bool, key: &[u8], out: &mut [u8]) 
 }
 
 // Writes an Autocrypt field to the front of `out`, and answers its length (W1, W2). `address` is the sender's own and
-// `key` the octets of the key; `mutual` says that the sender prefers encryption, and without it that attribute is left out
-// (W3). The address is written in canonical form (W5), the key as Base64, a space before each of its lines and CRLF behind
-// it (W4). What `out` holds behind the field stays as it was (W6). The refusals, in the order of testing: 9 where
-// `address` is not a plain address and nothing else (R9), 11 where `key` has no octet or more than 2,048 (R11), 12 where
-// `out` is shorter than the field (R12). Then `out` stays as it was (R32). An `out` of 3,200 octets is always long enough.
+// `key` the octets of the key. `mutual` says whether the preference is mutual; without it that attribute is left out (W3).
+// The address is written in canonical form (W5), the key as Base64, a space before each of its lines and CRLF behind it
+// (W4). What `out` holds behind the field stays as it was (W6). The refusals, in the order of testing: 9 where `address`
+// is not a plain address and nothing else (R9), 11 where `key` has no octet or more than 2,048 (R11), 12 where `out` is
+// shorter than the field (R12). Then `out` stays as it was (R32). An `out` of 3,200 octets is always long enough (W6).
 pub fn write_autocrypt(address: &[u8], key: &[u8], mutual: bool, out: &mut [u8]) -> Written
     ensures { λ r. ⌜ r ≡ writtenOf autocryptName (now (address .entry)) «mutual» (now (key .entry)) (length (now (out .entry))) ⌝ }
     ensures { λ _. ⌜ now (out .exit) ≡ leftByWriting autocryptName (now (address .entry)) «mutual» (now (key .entry)) (now (out .entry)) ⌝ }
