@@ -68,7 +68,7 @@ targetAt t [] place = noPart
 targetAt t (a ∷ rest) zero = targetPart t a
 targetAt t (a ∷ rest) (suc place) = targetAt t rest place
 
--- A6: the octets of a part, counted from the first octet of the table t
+-- A6, A11: the octets of a part, which is no copy: so many octets of the table t, from the start on
 unfoldable pub octetsAt : List ℕ → Part → List ℕ
 octetsAt t p = take (p .length) (drop (p .start) t)
 

@@ -34,7 +34,7 @@ pub fn check(table: &[u8]) -> Answer
 // Tells what a slot of the table holds, in eleven numbers, which are written to the front of `numbers` (T14). Their
 // places:
 //     0         1 for a used slot, else 0
-//     1         what the entry has, as a sum: 1 for last seen, 2 for the direct half, 4 for the gossip half, 8 for mutual (T5)
+//     1         what the entry has, as a sum (T5): 1 last seen, 2 the direct half, 4 the gossip half, 8 mutual
 //     2, 3, 4   last seen, the Autocrypt timestamp and the gossip timestamp, in seconds since 1970 (T6); 0 where absent
 //     5, 6      where the address begins, counted from the table's first octet, and its length
 //     7, 8      start and length of the direct key; 0 and 0 where there is none

@@ -1,5 +1,5 @@
--- C7 and C8: what is written is what processing leaves in the table. So a program that leaves the table untouched, or writes at the first message
--- alone, does not do (C12).
+-- C7 and C8: what is written is what processing leaves in the table. No program meets this that leaves the table untouched, or writes at the first
+-- message alone (C12).
 --     direct-read, gossip-read                 a message with a field that is read back, where processing answers 0
 --     autocrypt-processed, gossip-processed    so with the two fields that can be written (W2, W3)
 --     autocrypt-answered, gossip-answered      and with what the two writers leave in front of the output when they answer 0

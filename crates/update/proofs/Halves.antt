@@ -1,4 +1,4 @@
--- What a message leaves of an entry, whatever the entry holds (C13).
+-- What a message leaves of an entry, whatever the entry holds. Three of the mistakes that C13 names are excluded by it.
 --     keyless-direct                  U9: a mail without a key clears nothing
 --     updated-gossip                  the sender's part leaves the gossip half
 --     heard-seen, heard-direct        G8: gossip fills neither last seen nor the direct half
