@@ -1,4 +1,4 @@
--- Recommendations depend on what the tables hold of addresses only, and not on the slots that it stands in.
+-- C10: recommendations depend on what the tables hold of addresses only, and not on the slots that it stands in.
 --     advice-alike, target-alike  tables that hold the same of every address give the same advice for one, and the same key
 --     advised-alike .. targets-alike     and the same advice and keys for a list
 -- Assumes nothing.

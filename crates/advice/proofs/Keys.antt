@@ -2,7 +2,7 @@
 --     key-octets, key-within          the key to encrypt to of an entry
 --     target-octets, target-within    of an address
 --     place-octets, place-within      of a place in a list
---     place-past                      an empty part past the list
+--     place-past                      an empty part past the list (A7)
 -- Assumes nothing.
 use Prim.Native.Nat.{ℕ, zero, suc, _≤_, zero-le}
 use mathlib.Core.Path.{_≡_, refl, sym, ap, _∙_}

@@ -1,4 +1,4 @@
--- The advice for a whole list is the lowest of its recipients'.
+-- A5: the advice for a whole list is the lowest of its recipients'.
 --     overall-one, overall-two      by `lowerOf` over the list, from its front, as the loop goes
 --     handed-given, handed-rest     an address that is handed out of a readable list stands in front of the rest, which is readable
 --     Lowest t s m reply least here     what the loop of `overall_advice` knows

@@ -1,5 +1,5 @@
--- The paper's examples of recommending, and what is easy to get wrong, by computing the definitions.
---     gap-of-35-days, gap-of-more    the paper's two
+-- Examples of page A, and what is easily got wrong, by computing the definitions.
+--     gap-of-35-days, gap-of-more    both ends of the limit on the gap (A3, C14)
 --     one-recipient                  no entry and no key; gossip alone; what a reply and preferences raise
 --     whole-list                     the four answers for a list
 --     which-key                      the key to encrypt to
@@ -27,7 +27,7 @@ seenAfter gap isMutual gossip =
 abbrev without : Option Gossip → Entry
 without gossip = record { address = []; lastSeen = some 1000; direct = none; gossip = gossip }
 
--- "No reply, no preference: gap 3,024,000 is available, 3,024,001 discourage."
+-- A3, C14: without reply and preference a gap of 35 days is available, and one second more is discourage
 pub gap-of-35-days : adviceFor false false (some (seenAfter 3024000 false none)) ≡ Available
 unfolding adviceFor raised prefersBy directOf gossipOf rated ratedBy stale orElse
 gap-of-35-days = refl

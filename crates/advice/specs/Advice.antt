@@ -1,4 +1,4 @@
--- "Recommending", of paper 01, over entries: which slots they stand in does not matter.
+-- SCOPE, page A: advice and target keys over entries. Which slots they stand in does not matter (C10).
 --     patience, stale          35 days
 --     directOf, gossipOf       the keys of an entry that may be used
 --     rated                    the advice for an entry before reply and preferences
@@ -19,59 +19,62 @@ use Rattle.table.specs.Entries.{entryIn}
 use Rattle.advice.specs.declared.Advice.{Advice}
 use Rattle.advice.specs.declared.Advice.the-variants.{Disable, Discourage, Available, Encrypt}
 
--- "3,024,000 (35 days)"
+-- A3: 3,024,000 seconds, which are 35 days
 abbrev pub patience : ℕ
 patience = 3024000
 
--- "last seen exceeds the timestamp by more than 3,024,000"
+-- A2, A3: last seen lies more than that above the timestamp; a gap of exactly so much does not
 unfoldable pub stale : ℕ → ℕ → Bool
 stale seen timestamp = ltb (timestamp + patience) seen
 
--- the keys that may be used: all that are there
+-- A2: the direct half that may be used, which is each that is there
 unfoldable pub directOf : Entry → Option Direct
 directOf e = e .direct
 
+-- A2: the gossip half that may be used, which is each that is there
 unfoldable pub gossipOf : Entry → Option Gossip
 gossipOf e = e .gossip
 
--- "no key, disable. Only gossip, .. discourage. Else .. discourage if last seen exceeds the timestamp by more than 3,024,000 .., otherwise
--- available."; a direct key implies that last seen is present
+-- A2: no key is disable, gossip alone discourage, a direct key discourage or available by its gap. Beside a direct half last seen is there (T8.10)
 unfoldable pub ratedBy : ℕ → Option Direct → Option Gossip → Advice
 ratedBy seen none none = Disable
 ratedBy seen none (some g) = Discourage
 ratedBy seen (some d) g = elim (stale seen (d .timestamp)) [ true ↦ Discourage | false ↦ Available ]
 
+-- A2: the advice that an entry gets first
 unfoldable pub rated : Entry → Advice
 rated e = ratedBy (orElse 0 (e .lastSeen)) (directOf e) (gossipOf e)
 
--- "A reply to an encrypted mail makes either one encrypt; so do available and both sides mutual.": nothing lifts disable, and preferences do
--- not lift discourage
+-- A4: with a reply discourage and available become encrypt, and with both preferences available does; nothing lifts disable, and preferences do not
+-- lift discourage
 unfoldable pub raised : Bool → Bool → Advice → Advice
 raised reply both Disable = Disable
 raised reply both Discourage = elim reply [ true ↦ Encrypt | false ↦ Discourage ]
 raised reply both Available = elim (reply || both) [ true ↦ Encrypt | false ↦ Available ]
 raised reply both Encrypt = Encrypt
 
--- the recipient's own preference, which stands with the direct key
+-- A4: the recipient's own preference, which stands with the direct half
 unfoldable pub prefersBy : Option Direct → Bool
 prefersBy none = false
 prefersBy (some d) = d .«mutual»
 
--- "Per recipient": "no entry .., disable"
+-- A2, A4: the advice for a recipient; without an entry it is disable
 unfoldable pub adviceFor : Bool → Bool → Option Entry → Advice
 adviceFor isMutual reply none = Disable
 adviceFor isMutual reply (some e) = raised reply (isMutual && prefersBy (directOf e)) (rated e)
 
--- "Only gossip, target gossip key .. Else the direct key"; no octets without one
+-- A2: the target key is the direct key, else the gossip key; it has no octets where there is neither
 unfoldable pub targetBy : Option Direct → Option Gossip → List ℕ
 targetBy none none = []
 targetBy none (some g) = g .key
 targetBy (some d) g = d .key
 
+-- A2: the target key of a recipient; none without an entry
 unfoldable pub targetOf : Option Entry → List ℕ
 targetOf none = []
 targetOf (some e) = targetBy (directOf e) (gossipOf e)
 
+-- A5: one recipient has disable
 unfoldable pub anyDisable : List Advice → Bool
 anyDisable [] = false
 anyDisable (Disable ∷ rest) = true
@@ -79,6 +82,7 @@ anyDisable (Discourage ∷ rest) = anyDisable rest
 anyDisable (Available ∷ rest) = anyDisable rest
 anyDisable (Encrypt ∷ rest) = anyDisable rest
 
+-- A5: all recipients have encrypt
 unfoldable pub allEncrypt : List Advice → Bool
 allEncrypt [] = true
 allEncrypt (Disable ∷ rest) = false
@@ -86,6 +90,7 @@ allEncrypt (Discourage ∷ rest) = false
 allEncrypt (Available ∷ rest) = false
 allEncrypt (Encrypt ∷ rest) = allEncrypt rest
 
+-- A5: one recipient has discourage
 unfoldable pub anyDiscourage : List Advice → Bool
 anyDiscourage [] = false
 anyDiscourage (Disable ∷ rest) = anyDiscourage rest
@@ -93,7 +98,7 @@ anyDiscourage (Discourage ∷ rest) = true
 anyDiscourage (Available ∷ rest) = anyDiscourage rest
 anyDiscourage (Encrypt ∷ rest) = anyDiscourage rest
 
--- "Whole list: any disable; all encrypt; any discourage; else available, first match."
+-- A5: for the whole list the first that fits: disable if one has it, encrypt if all have it, discourage if one has it, available
 unfoldable pub overall : List Advice → Advice
 overall list =
     elim (anyDisable list) [
@@ -104,16 +109,18 @@ overall list =
       ]
     ]
 
--- of an address as it stands in a list: "Addresses are compared in canonical form only."
+-- A2, T15: the advice for an address as it stands in a list: its entry is that of its canonical form
 unfoldable pub adviceIn : List ℕ → Bool → Bool → List ℕ → Advice
 adviceIn t isMutual reply a = adviceFor isMutual reply (entryIn t (canonical a))
 
+-- A2, T15: the target key for an address as it stands in a list, by the entry of its canonical form
 unfoldable pub targetIn : List ℕ → List ℕ → List ℕ
 targetIn t a = targetOf (entryIn t (canonical a))
 
--- the advice for each address of a list, in order
+-- A5: the advice for each address of a list, in order
 unfoldable pub advised : List ℕ → Bool → Bool → List (List ℕ) → List Advice
 advised t isMutual reply list = map (adviceIn t isMutual reply) list
 
+-- A6, A10: the target key for each address of a list, in order
 unfoldable pub targets : List ℕ → List (List ℕ) → List (List ℕ)
 targets t list = map (targetIn t) list

@@ -1,4 +1,4 @@
--- From entries to what the code reads and hands out: numbers of an entry, and parts of the table.
+-- SCOPE, page A, from entries to what the code reads and hands out: numbers of an entry, and parts of the table.
 --     ratedAs               the advice by the numbers of an entry
 --     lowerOf               the lower of two
 --     noPart                the empty part
@@ -20,7 +20,7 @@ use Rattle.advice.specs.declared.Advice.{Advice}
 use Rattle.advice.specs.declared.Advice.the-variants.{Disable, Discourage, Available, Encrypt}
 use Rattle.advice.specs.declared.Part.{Part}
 
--- `rated` of Advice.antt, by the entry's numbers
+-- A2: the advice that an entry gets first, by its numbers: `rated` of Advice.antt
 unfoldable pub ratedAs : Head → Advice
 ratedAs n =
     elim (n .direct) [
@@ -28,7 +28,7 @@ ratedAs n =
       | false ↦ elim (n .gossip) [ true ↦ Discourage | false ↦ Disable ]
     ]
 
--- "Whole list: any disable; all encrypt; any discourage; else available": the lowest, from disable up to encrypt
+-- A1, A5: the lower of two advices, from disable up to encrypt. That of a whole list is the lowest of the recipients'
 unfoldable pub lowerOf : Advice → Advice → Advice
 lowerOf Disable b = Disable
 lowerOf Discourage Disable = Disable
@@ -41,11 +41,11 @@ lowerOf Available Available = Available
 lowerOf Available Encrypt = Available
 lowerOf Encrypt b = b
 
--- "an empty part"
+-- A7: the empty part, whose start and length are 0
 abbrev pub noPart : Part
 noPart = record { start = 0; length = 0 }
 
--- the key to encrypt to, of an entry with these numbers, whose keys begin there
+-- A2, A6: the target key of an entry with these numbers, whose keys begin there; an empty part without one
 unfoldable pub keyPart : Head → ℕ → ℕ → Part
 keyPart n direct gossip =
     elim (n .direct) [
@@ -53,24 +53,25 @@ keyPart n direct gossip =
       | false ↦ elim (n .gossip) [ true ↦ record { start = gossip; length = n .«gossip_length» } | false ↦ noPart ]
     ]
 
+-- A6, A7: the target key of what the table has of an address; an empty part where that is nothing
 unfoldable pub partIn : Held → Part
 partIn (Entry n direct gossip) = keyPart n direct gossip
 partIn NoEntry = noPart
 
--- the key to encrypt to for an address as it stands in a list
+-- A6: the target key for an address as it stands in a list, by its canonical form
 unfoldable pub targetPart : List ℕ → List ℕ → Part
 targetPart t a = partIn (heldOf t (canonical a))
 
--- "a list place from 0 .. an empty part without one, past the list"
+-- A6, A7, A10: the target key at a place of the list, the first being at 0; past the list the part is empty
 unfoldable pub targetAt : List ℕ → List (List ℕ) → ℕ → Part
 targetAt t [] place = noPart
 targetAt t (a ∷ rest) zero = targetPart t a
 targetAt t (a ∷ rest) (suc place) = targetAt t rest place
 
--- the octets of a part of the table t
+-- A6, A11: the octets of a part, which is no copy: so many octets of the table t, from the start on
 unfoldable pub octetsAt : List ℕ → Part → List ℕ
 octetsAt t p = take (p .length) (drop (p .start) t)
 
--- a word of statements: no contract cites it
+-- the part ends within the table: a word of statements, which no contract cites
 abbrev pub Within : List ℕ → Part → Type 0
 Within t p = p .start + p .length ≤ length t

@@ -1,5 +1,5 @@
-// Recommending: what is advised for one recipient and for a whole list, and where the key to encrypt to lies in the
-// table. What is right is said by specs/Advice.antt, over entries; specs/Places.antt leads from there to the table.
+// Recommending (page A): what is advised for one recipient and for a whole list, and where the key to encrypt to lies in
+// the table. What is right is said by specs/Advice.antt, over entries; specs/Places.antt leads from there to the table.
 ghost use Prim.Native.Nat.{_≤_};
 ghost use mathlib.Core.Path.{_≡_};
 ghost use mathlib.Core.Bool.{true};
@@ -17,10 +17,10 @@ use heads::Head;
 use lookup::Held;
 use slots::Slot;
 
-// "discourage if last seen exceeds the timestamp by more than 3,024,000 (35 days)"
+// A3: 35 days, in seconds. A key is advised against where last seen lies further than that above its timestamp.
 const PATIENCE: u64 = 3024000;
 
-// What is advised, from the least to the most.
+// What is advised, from the lowest to the highest (A1).
 pub enum Advice {
     Disable,
     Discourage,
@@ -28,13 +28,14 @@ pub enum Advice {
     Encrypt,
 }
 
-// A part of the table: so many octets from a place on.
+// A part of the table: so many octets from a place on, counted from the table's first octet. An empty one has start and
+// length 0 (A6, A7).
 pub struct Part {
     pub start: usize,
     pub length: usize,
 }
 
-// What the entry with these numbers gets before reply and preferences are looked at.
+// What the entry with these numbers gets before reply and preferences are looked at (A2).
 fn rate(entry: Head) -> Advice
     requires { ⌜ entry .timestamp ≤ timeLimit ⌝ }
     ensures { λ r. ⌜ r ≡ ratedAs entry ⌝ }
@@ -51,7 +52,8 @@ fn rate(entry: Head) -> Advice
     Advice::Disable
 }
 
-// A reply to an encrypted mail, and available where both sides prefer it, make it encrypt.
+// What reply and preferences make of it (A4): with a reply discourage and available become encrypt, and with both
+// preferences available does.
 fn raise(advice: Advice, reply: bool, both: bool) -> Advice
     ensures { λ r. ⌜ r ≡ raised reply both advice ⌝ }
 {
@@ -73,7 +75,7 @@ fn raise(advice: Advice, reply: bool, both: bool) -> Advice
     }
 }
 
-// The lesser of two: so a list gets the least of its recipients' advice.
+// The lower of two: so a list gets the lowest of its recipients' advices (A5).
 fn lower(a: Advice, b: Advice) -> Advice
     ensures { λ r. ⌜ r ≡ lowerOf a b ⌝ }
 {
@@ -95,7 +97,7 @@ fn lower(a: Advice, b: Advice) -> Advice
     }
 }
 
-// What the table has of an address: its canonical form is looked for.
+// What the table has of an address: its canonical form is looked for (T15).
 fn locate(table: &[u8], tags: &[u32; Slot::MOST], address: &[u8]) -> Held
     requires { ⌜ Open (now table) (now tags) × (plain (now address) ≡ true) ⌝ }
     ensures { λ r. ⌜ r ≡ heldOf (now (table .entry)) (canonicalOf (now (address .entry))) ⌝ }
@@ -107,7 +109,7 @@ fn locate(table: &[u8], tags: &[u32; Slot::MOST], address: &[u8]) -> Held
     }
 }
 
-// What is advised for one recipient.
+// What is advised for one recipient (A2, A4).
 fn advise(
     table: &[u8],
     tags: &[u32; Slot::MOST],
@@ -131,7 +133,7 @@ fn advise(
     }
 }
 
-// What is advised for a whole list, which has to be readable.
+// What is advised for a whole list (A5), which has to be readable.
 pub fn overall_advice(
     table: &[u8],
     tags: &[u32; Slot::MOST],
@@ -157,7 +159,7 @@ pub fn overall_advice(
     }
 }
 
-// Where the key to encrypt to lies, of the entry with these numbers, whose keys begin there.
+// Where the key to encrypt to lies, of the entry with these numbers, whose keys begin there (A2).
 fn key_part(numbers: Head, direct: usize, gossip: usize) -> Part
     ensures { λ r. ⌜ r ≡ keyPart numbers direct gossip ⌝ }
 {
@@ -179,7 +181,7 @@ fn key_part(numbers: Head, direct: usize, gossip: usize) -> Part
     }
 }
 
-// Where the key of one recipient lies.
+// Where the key to encrypt to lies for one recipient (A6); an empty part where there is none (A7).
 fn target(table: &[u8], tags: &[u32; Slot::MOST], address: &[u8]) -> Part
     requires { ⌜ Open (now table) (now tags) × (plain (now address) ≡ true) ⌝ }
     ensures { λ r. ⌜ r ≡ targetPart (now (table .entry)) (now (address .entry)) ⌝ }
@@ -197,7 +199,8 @@ fn target(table: &[u8], tags: &[u32; Slot::MOST], address: &[u8]) -> Part
     }
 }
 
-// Where the key of the recipient at a place of the list lies, the first being at 0.
+// Where the key to encrypt to lies for the recipient at a place of the list, the first being at 0 (A6, A10); past the list
+// the part is empty (A7).
 pub fn target_at(table: &[u8], tags: &[u32; Slot::MOST], recipients: &[u8], place: usize) -> Part
     requires { ⌜ Open (now table) (now tags) × (isSome (addresses (now recipients)) ≡ true) ⌝ }
     ensures { λ r. ⌜ r ≡ targetAt (now (table .entry)) (orElse [] (addresses (now (recipients .entry)))) place ⌝ }

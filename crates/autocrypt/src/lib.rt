@@ -1,5 +1,16 @@
-// The library as its callers see it: each name stands here for the crate that it comes from. Everything is done in memory
-// that the caller lends; no call keeps anything, and none requires anything of its arguments.
+// The library as its callers see it. Each name stands here for the crate that it comes from, where a comment says what it
+// does.
+//     check, entry                             look at a table (T13, T14)
+//     process, Gossip                          take in a received mail (U1), with the gossip setting (G1)
+//     recommend, target_key, target_part       advice for a mail to be sent, and the keys to encrypt to (A1, A6)
+//     write_autocrypt, write_gossip            write a field for a mail to be sent (W1)
+//     Answer, Recommended, Written             what calls answer, each with a case for a refusal
+//     Advice, Part                             an advice (A1), and a part of a table (A6)
+//     Refusal, number, index                   why a call refuses, its number, and the index that comes with 2 (R33)
+//
+// Everything is done in memory that the caller lends; no call keeps anything, and none requires anything of its arguments
+// (C1). What each answers, and leaves in lent memory, is fixed for every input (C2), and a refused call writes nothing
+// (R32).
 pub use advice::Advice;
 pub use advice::Part;
 pub use inspect::check;

@@ -82,7 +82,7 @@ of-part p = refl
 
 pub ruleset answering = (of-done, of-refused, of-wrote, of-not-written, of-advice, of-not-advised, of-part, numbers-same, written-same, advice-same, part-same, needs)
 
--- "take, skip or unset"
+-- G1: take, skip, and unset for every other number
 module _ (n : ℕ) where
   pub set-take : n ≡ 1 → Take ≡ settingOf n
   unfolding settingOf

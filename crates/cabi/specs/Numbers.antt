@@ -1,6 +1,6 @@
--- Answers in numbers, as C has them.
---     inNumbers                        "A refusal carries its number (2 also the index)"; 0 and 0 where there is none
---     writtenInNumbers                 "Success answers 0, writing also the length of the field": a refusal has no length, 0 stands for that
+-- SCOPE, R33, R34, G1, A1 and A6: answers in numbers, as C has them.
+--     inNumbers                        the number of a refusal, and the index that comes with 2; 0 and 0 where there is none
+--     writtenInNumbers                 the length of the field; a refusal has none, and 0 stands for that
 --     settingOf                        the gossip setting
 --     adviceNumber, adviceInNumbers    the advice, 0 where the call refuses
 --     partInNumbers                    a part of the table
@@ -24,28 +24,32 @@ use Rattle.cabi.specs.declared.numbers.Advice.{Advice}
 use Rattle.cabi.specs.declared.numbers.Part.{Part}
 use Rattle.cabi.specs.declared.numbers.Written.{Written}
 
+-- R33: 0, or the number of the refusal; the index is 0 with all answers but 2
 unfoldable pub inNumbers : Refusing → Answer
 inNumbers Done = record { number = 0; index = 0 }
 inNumbers (Refused r) = record { number = numberOf r; index = indexOf r }
 
+-- R34: 0 and the length of the field, or the number of the refusal and the length 0
 unfoldable pub writtenInNumbers : Writing → Written
 writtenInNumbers (Wrote n) = record { number = 0; length = n }
 writtenInNumbers (NotWritten r) = record { number = numberOf r; length = 0 }
 
--- "take, skip or unset": 1, 2, and any other number
+-- G1: 1 stands for take and 2 for skip, and every other number is unset
 unfoldable pub settingOf : ℕ → Gossip
 settingOf n = elim (eqb n 1) [ true ↦ Take | false ↦ elim (eqb n 2) [ true ↦ Skip | false ↦ Unset ] ]
 
--- 0 stands for no advice
+-- A1: the advices are 1 to 4, from low to high
 abbrev pub adviceNumber : Kind → ℕ
 adviceNumber Disable = 1
 adviceNumber Discourage = 2
 adviceNumber Available = 3
 adviceNumber Encrypt = 4
 
+-- A1: 0 and the advice, or the number of the refusal, its index, and 0 for the advice
 unfoldable pub adviceInNumbers : Recommended → Advice
 adviceInNumbers (Advised a) = record { number = 0; index = 0; advice = adviceNumber a }
 adviceInNumbers (NotAdvised r) = record { number = numberOf r; index = indexOf r; advice = 0 }
 
+-- A6: start and length of a part, counted from the table's first octet
 unfoldable pub partInNumbers : Place → Part
 partInNumbers p = record { start = p .start; length = p .length }

@@ -2,21 +2,21 @@
 ghost use mathlib.Core.Path.{_≡_};
 ghost use Rattle.cabi.specs.Numbers.{inNumbers, writtenInNumbers, adviceNumber, adviceInNumbers, partInNumbers};
 
-// vienghulac_answer
+// vienghulac_answer: 0 or the number of a refusal, and the index of a slot with 2, else 0 (R33).
 #[repr(C)]
 pub struct Answer {
     pub number: u32,
     pub index: u32,
 }
 
-// vienghulac_written
+// vienghulac_written: 0 and the length of the field, or the number of a refusal and 0 (R34).
 #[repr(C)]
 pub struct Written {
     pub number: u64,
     pub length: u64,
 }
 
-// vienghulac_advice
+// vienghulac_advice: 0 and an advice from 1 to 4, or the number of a refusal, its index, and 0 for the advice (A1).
 #[repr(C)]
 pub struct Advice {
     pub number: u32,
@@ -24,13 +24,14 @@ pub struct Advice {
     pub advice: u32,
 }
 
-// vienghulac_part
+// vienghulac_part: start and length of a part, counted from the table's first octet; 0 and 0 where it is empty (A6, A7).
 #[repr(C)]
 pub struct Part {
     pub start: u64,
     pub length: u64,
 }
 
+// R33: the number of a refusal and the index that it carries, 0 and 0 where there is none.
 pub fn in_numbers(answer: autocrypt::Answer) -> Answer
     ensures { λ r. ⌜ r ≡ inNumbers answer ⌝ }
 {
@@ -46,6 +47,7 @@ pub fn in_numbers(answer: autocrypt::Answer) -> Answer
     }
 }
 
+// R34: the length of the field; with a refusal it is 0.
 pub fn written_in_numbers(answer: autocrypt::Written) -> Written
     ensures { λ r. ⌜ r ≡ writtenInNumbers answer ⌝ }
 {
@@ -61,6 +63,7 @@ pub fn written_in_numbers(answer: autocrypt::Written) -> Written
     }
 }
 
+// A1: from low to high.
 fn advice_number(advice: autocrypt::Advice) -> u32
     ensures { λ r. ⌜ r ≡ adviceNumber advice ⌝ }
 {
@@ -72,6 +75,7 @@ fn advice_number(advice: autocrypt::Advice) -> u32
     }
 }
 
+// A1: the advice; with a refusal it is 0.
 pub fn advice_in_numbers(answer: autocrypt::Recommended) -> Advice
     ensures { λ r. ⌜ r ≡ adviceInNumbers answer ⌝ }
 {
@@ -89,6 +93,7 @@ pub fn advice_in_numbers(answer: autocrypt::Recommended) -> Advice
     }
 }
 
+// A6: the part, its two numbers as wide as C has them.
 pub fn part_in_numbers(part: autocrypt::Part) -> Part
     ensures { λ r. ⌜ r ≡ partInNumbers part ⌝ }
 {

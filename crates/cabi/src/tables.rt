@@ -1,4 +1,4 @@
-// A table looked at.
+// A table looked at (T13, T14).
 use crate::numbers;
 use crate::numbers::Answer;
 ghost use mathlib.Core.Path.{_≡_};
@@ -7,6 +7,8 @@ ghost use Rattle.refusals.specs.Rows.{firstOf, answerOf};
 ghost use Rattle.inspect.specs.Inspecting.{tableRows, refusedShowing, leftByShowing};
 ghost use Rattle.cabi.specs.Numbers.{inNumbers};
 
+// `check` of the library: is this a table that the other calls take (T13)? Answers 0, or the number of the refusal, 1 or
+// 2, and with 2 the index of the lowest slot that is neither free nor sound (R2).
 #[no_mangle]
 pub extern "C" fn vienghulac_check(table: &[u8]) -> Answer
     ensures { λ r. ⌜ r ≡ inNumbers (answerOf (firstOf (tableRows (now (table .entry))))) ⌝ }
@@ -14,6 +16,9 @@ pub extern "C" fn vienghulac_check(table: &[u8]) -> Answer
     numbers::in_numbers(autocrypt::check(table))
 }
 
+// `entry` of the library: what a slot of the table holds, the first being at 0, in eleven numbers at the front of
+// `numbers` (T14). Answers 0, or the number of the refusal, 1, 2 or 12 in the order of testing. For a free slot and for
+// one past the last all eleven are 0; with a refusal the numbers stay as they were (R32).
 #[no_mangle]
 pub extern "C" fn vienghulac_entry(table: &[u8], slot: u64, numbers: &mut [u64]) -> Answer
     ensures { λ r. ⌜ r ≡ inNumbers (answerOf (refusedShowing (now (table .entry)) (length (now (numbers .entry))))) ⌝ }

@@ -1,4 +1,4 @@
-// The two fields written.
+// The two fields written (W1).
 use crate::numbers;
 use crate::numbers::Written;
 ghost use mathlib.Core.Path.{_≡_};
@@ -8,6 +8,10 @@ ghost use Rattle.names.specs.Names.{autocrypt as autocryptName, gossip as gossi
 ghost use Rattle.write.specs.Writing.{writtenOf, leftByWriting};
 ghost use Rattle.cabi.specs.Numbers.{writtenInNumbers};
 
+// `write_autocrypt` of the library: writes the Autocrypt field for the sender's address and key to the front of `out`,
+// with the preference where `mutual` says so (W2, W3). Answers 0 and the length of the field, or the number of the
+// refusal, 9, 11 or 12 in the order of testing, and the length 0 (R34). What `out` holds behind the field stays as it was,
+// and so does all of it with a refusal (W6, R32). An `out` of 3,200 octets is always long enough.
 #[no_mangle]
 pub extern "C" fn vienghulac_write_autocrypt(
     address: &[u8],
@@ -21,6 +25,8 @@ pub extern "C" fn vienghulac_write_autocrypt(
     numbers::written_in_numbers(autocrypt::write_autocrypt(address, key, mutual, out))
 }
 
+// `write_gossip` of the library: writes the Autocrypt-Gossip field for a recipient's address and key to the front of
+// `out`; it has no preference (W3). Answers, and leaves `out`, as `vienghulac_write_autocrypt` does.
 #[no_mangle]
 pub extern "C" fn vienghulac_write_gossip(address: &[u8], key: &[u8], out: &mut [u8]) -> Written
     ensures { λ r. ⌜ r ≡ writtenInNumbers (writtenOf gossipName (now (address .entry)) false (now (key .entry)) (length (now (out .entry)))) ⌝ }

@@ -1,5 +1,5 @@
-// One column of a line of the listing: a text, a number, a time or a preference, each with the octet behind it, written into a
-// lent buffer. What they are stands in specs/Columns.antt.
+// One column of a line of the listing (W8, W9): a text, a number, a time or a preference, each with the octet behind it,
+// written into a lent buffer. What they are stands in specs/Columns.antt.
 ghost use Rattle.heads.specs.Entry.{present};
 ghost use Rattle.columns.specs.Columns.{decimal, timeText, preferenceText, ended};
 ghost use Rattle.columns.specs.Putting.{Room, Put};
@@ -15,7 +15,8 @@ pub fn put_text(out: &mut [u8], at: usize, text: &[u8], end: u8) -> usize
     o + 1
 }
 
-// Writes a number in base ten: the digits before the last, by a call of itself that goes at most 19 deep, and the last.
+// Writes a number in base ten (W9): the digits before the last, by a call of itself that goes at most 19 deep, and the
+// last.
 pub fn put_decimal(out: &mut [u8], at: usize, n: u64) -> usize
     requires { ⌜ Room (now out) at (decimal n) ⌝ }
     ensures { λ r. ⌜ Put (now (out .entry)) (now (out .exit)) at (decimal n) r ⌝ }
@@ -39,7 +40,7 @@ pub fn put_number(out: &mut [u8], at: usize, n: u64, end: u8) -> usize
     o + 1
 }
 
-// Writes a time, or a hyphen where there is none, and a space behind it.
+// Writes a time, or a hyphen where there is none (W9), and a space behind it.
 pub fn put_time(out: &mut [u8], at: usize, is_there: bool, seconds: u64) -> usize
     requires { ⌜ Room (now out) at (ended (timeText (present «is_there» seconds)) 32) ⌝ }
     ensures { λ r. ⌜ Put (now (out .entry)) (now (out .exit)) at (ended (timeText (present «is_there» seconds)) 32) r ⌝ }
@@ -51,7 +52,7 @@ pub fn put_time(out: &mut [u8], at: usize, is_there: bool, seconds: u64) -> usiz
     }
 }
 
-// Writes the preference and a space behind it.
+// Writes the preference, `mutual` or `none` (W8), and a space behind it.
 pub fn put_preference(out: &mut [u8], at: usize, mutual: bool) -> usize
     requires { ⌜ Room (now out) at (ended (preferenceText «mutual») 32) ⌝ }
     ensures { λ r. ⌜ Put (now (out .entry)) (now (out .exit)) at (ended (preferenceText «mutual») 32) r ⌝ }

@@ -1,8 +1,8 @@
--- A message, delivered: first it is asked whether there is room, and only then written.
+-- A message, delivered: first it is asked whether there is room (R8), and only then written (U2).
 --     carries-seeks .. carries-on    what the parts of the work ask for
 --     put-all                        the table with the sender's part and the gossip
 --     full-answered .. put-left      whether there is room, and the table afterwards
---     alone-full .. alone-left       the same with no gossip to look for
+--     alone-full .. alone-left       whether there is room for a message with no gossip to look for, and the table afterwards
 --     the rulesets                   carrying and delivering, for `deliver`; putting, for `put_message`; alone, for `deliver_alone`
 -- Assumes nothing.
 use Prim.Native.Nat.{ℕ}

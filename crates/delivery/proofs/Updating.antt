@@ -1,4 +1,4 @@
--- The sender's entry, updated by what his message brings.
+-- The sender's entry, updated by what the message brings (U6, U7, U8, U9).
 --     key-within, key-some, key-most     its key, where there is one
 --     updated-keyed, updated-keyless     the table afterwards
 --     the ruleset                        updating, for `update_sender`

@@ -1,7 +1,7 @@
--- What the writing of a message asks for.
+-- What the writing of a message (U2) asks for.
 --     Listens     an open table, a date, a payload with a text for its values, and the recipients whom gossip may be about
 --     Sends       an open table, and what a message brings to it
---     Carries     .. and a payload with a text for its values, and the recipients
+--     Carries     what a message brings to an open table, a payload with a text for its values, and the recipients
 use Prim.Native.Nat.{ℕ, _≤_}
 use mathlib.Core.List.{List}
 use Rattle.heads.specs.Head.{timeLimit}

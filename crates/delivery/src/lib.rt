@@ -1,5 +1,5 @@
-// A message that was read, delivered to a table, whole or not at all: only where there is a free slot for each address that
-// is new with it, the writing. What is right is said by specs/Delivery.antt.
+// A message that was read, delivered to a table, whole or not at all (U2): it is written only where there is a free slot
+// for each address that is new with it (R8). What is right is said by specs/Delivery.antt.
 ghost use mathlib.Core.Path.{_≡_};
 ghost use mathlib.Core.List.{[]};
 ghost use Rattle.refusals.specs.Rows.{firstOf, answerOf};
@@ -17,7 +17,7 @@ use refusals::Answer;
 use refusals::Refusal;
 use slots::Slot;
 
-// Puts the gossip of the payload into the table, field by field.
+// Puts the accepted gossip of the payload into the table, field by field in order (G5, G9).
 fn hear_all(
     table: &mut [u8],
     tags: &mut [u32; Slot::MOST],
@@ -60,7 +60,7 @@ fn hear_all(
     }
 }
 
-// Updates the entry of the sender.
+// Updates the entry of the sender, with the field that counts or without one (U5).
 fn update_sender(
     table: &mut [u8],
     tags: &mut [u32; Slot::MOST],
@@ -83,7 +83,7 @@ fn update_sender(
     }
 }
 
-// Writes the message into the table, which has room for it.
+// Writes the message into the table, which has room for it: the sender first, then the gossip (U4).
 fn put_message(
     table: &mut [u8],
     tags: &mut [u32; Slot::MOST],
@@ -116,7 +116,8 @@ fn put_message(
     );
 }
 
-// Delivers the message of the sender, with the roll of those whom gossip of the payload may be about, if there is room for it.
+// Delivers the message of the sender, with the roll of those whom gossip of the payload may be about, or refuses it with 8
+// where there is no room for it (R8).
 pub fn deliver(
     table: &mut [u8],
     tags: &mut [u32; Slot::MOST],
@@ -166,7 +167,7 @@ pub fn deliver(
     Answer::Done
 }
 
-// Delivers a message in which no gossip is looked for: nobody asks for its recipients.
+// Delivers a message in which no gossip is looked for, or refuses it with 8: nobody asks for its recipients.
 pub fn deliver_alone(
     table: &mut [u8],
     tags: &mut [u32; Slot::MOST],

@@ -1,5 +1,5 @@
-// What one slot of the table holds, told as eleven numbers in lent memory: used or not, the bits, the three times, and
-// where the address and the keys lie in the table.
+// What one slot of the table holds, told as eleven numbers in lent memory (T14): used or not, the bits, the three times,
+// and where the address and the keys lie in the table.
 ghost use Prim.Native.Nat.{_+_, _^_, _<_, _≤_};
 ghost use mathlib.Core.Path.{_≡_};
 ghost use lib.ListN.{length};
@@ -67,8 +67,8 @@ fn is_used(table: &[u8], slot: usize) -> bool
     table::is_used(table, slot)
 }
 
-// Writes the numbers of a slot to the front of `numbers`. Where there is no entry they are those of one that is empty and not
-// used: zeros.
+// Writes the numbers of a slot to the front of `numbers`. Where there is no entry they are those of one that is empty and
+// not used: zeros (T14).
 pub fn tell(table: &[u8], slot: usize, numbers: &mut [u64])
     requires { ⌜ shownCount ≤ length (now numbers) ⌝ }
     ensures { λ _. ⌜ now (numbers .exit) ≡ onto (shownAt (now (table .entry)) slot) (now (numbers .entry)) ⌝ }

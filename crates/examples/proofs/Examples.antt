@@ -1,4 +1,4 @@
--- The paper's P examples, all in one table, hold of the definitions: by computing them. Assumes nothing.
+-- C14: its examples, all in one table, hold of the definitions: by computing them. Assumes nothing.
 use mathlib.Core.Path.{refl}
 use mathlib.Core.Option.{bind}
 use Rattle.octets.specs.Octets as octets

@@ -1,1 +1,1 @@
-// No code: theorems, in proofs/.
+// No code: the examples of C14 hold, as a theorem in proofs/.

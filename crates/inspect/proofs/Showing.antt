@@ -1,7 +1,7 @@
 -- One entry by its slot: the ways through the code, and what comes with each answer.
 --     too-few, enough       fewer than eleven numbers are lent, or not
 --     the ruleset           showing, for `entry`
---     refused-untouched     a refusal leaves the lent numbers as they were
+--     refused-untouched     a refusal leaves the lent numbers as they were (R32)
 --     done-there            success: the numbers of the slot stand in front of the rest
 --     index-lowest          the index with 2 is that of the lowest slot that is neither free nor sound
 -- Assumes nothing.

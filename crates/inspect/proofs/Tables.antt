@@ -1,4 +1,4 @@
--- Rows 1 and 2: what they come to, by the answer of the table's check, and back.
+-- Rows 1 and 2 (R1, R2): what they come to, by the answer of the table's check, and back.
 --     slot-fits                          the index of a broken slot is a small number
 --     sound-rows, length-rows, slot-rows    the rows, by the answer of the check
 --     rows-sound, checked-sound          neither row holds only where the check finds nothing

@@ -1,4 +1,4 @@
--- A table looked at: refusals 1 and 2, which every call on a table begins with, and one entry by its slot.
+-- SCOPE, T13 and T14: a table looked at. Refusals 1 and 2, which every call on a table begins with, and one entry by its slot.
 --     isSound, brokenSlot           what the check answers: nothing is wrong; the lowest slot that is
 --     tableRows                     rows 1 and 2
 --     Opens                         the answer on them, with the tags of the table where neither holds
@@ -23,17 +23,19 @@ use Rattle.table.specs.declared.Checked.{Checked}
 use Rattle.table.specs.declared.Checked.the-variants.{Sound, Length, Slot}
 use Rattle.entry.specs.Shown.{shownCount, shownAt}
 
+-- T13: the check found a sound table
 unfoldable pub isSound : Checked → Bool
 isSound Sound = true
 isSound Length = false
 isSound (Slot i) = false
 
+-- R2: the index of the lowest slot that is neither free nor sound; 0 where the answer has none
 unfoldable pub brokenSlot : Checked → ℕ
 brokenSlot Sound = 0
 brokenSlot Length = 0
 brokenSlot (Slot i) = i
 
--- "1: table length isn't 1 to 256 whole slots"; "2: a slot is neither free nor sound; the lowest such index is returned"
+-- R1, R2: the length is not that of 1 to 256 whole slots; some slot is neither free nor sound, and the lowest index of such a one is answered
 unfoldable pub tableRows : List ℕ → List Row
 tableRows t = (TableLength unless whole t) ∷ (BrokenSlot (brokenSlot (checked t)) unless isSound (checked t)) ∷ []
 
@@ -42,13 +44,14 @@ pub record Opens (t tags : List ℕ) (r : Answer) : Type 0 where
   pub answer : r ≡ answerOf (firstOf (tableRows t))
   pub opens : r ≡ Done → Open t tags
 
--- 12 where fewer than eleven numbers are lent
+-- T14, R12: behind rows 1 and 2, 12 where fewer than eleven numbers are lent
 unfoldable pub showingRows : List ℕ → ℕ → List Row
 showingRows t room = tableRows t ++ ((OutputLength unless leb shownCount room) ∷ [])
 
+-- T14, R31: the first of these rows that holds
 unfoldable pub refusedShowing : List ℕ → ℕ → Option Refusal
 refusedShowing t room = firstOf (showingRows t room)
 
--- numbers behind the eleventh stay as lent
+-- T14, R32: the numbers of the slot, and behind the eleventh what was there; with a refusal all stay as they were
 unfoldable pub leftByShowing : List ℕ → ℕ → List ℕ → List ℕ
 leftByShowing t slot numbers = unlessRefused (refusedShowing t (length numbers)) numbers (onto (shownAt t slot) numbers)

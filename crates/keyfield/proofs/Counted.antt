@@ -1,4 +1,4 @@
--- The field that counts, as callers ask for it.
+-- The field that counts (F12, F13), as callers ask for it.
 --     naming-sender, naming-other, naming-spoiled    a field that names the sender, one that names another, and one that is spoiled
 --     valid-is                                       what is valid is a field that names the sender
 --     counted-none, counted-one, counted-two         what counts, by how many are valid

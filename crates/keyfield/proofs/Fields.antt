@@ -1,4 +1,4 @@
--- What a valid field says, as callers ask for it.
+-- What a field says that is valid in form (F11), as callers ask for it.
 --     said-plain, said-octets                   the address of what a value says is plain, and octets where the value is
 --     KeyOf, key-parts, key-made                a key is what its text decodes to, 1 octet up to the limit
 --     FieldOf, field-parts                      a field is made of what its value says and of its key

@@ -1,4 +1,4 @@
--- What a written value reads as. (";" is 59.)
+-- C6: what a written value reads as. (`;` is 59.)
 --     key-trimmed                      trimming key data does not change its key
 --     valueOf                          the value that is written for an address, a preference and the text of a key
 --     read-back, read-back-key         it is the field of that address in canonical form, that preference, and the key that the text stands for
@@ -26,7 +26,7 @@ pub key-trimmed : (limit : ℕ) (v : List ℕ) → keyOf limit (trimmed v) ≡ k
 unfolding keyOf
 key-trimmed limit v = rw (without-trimmed v)
 
--- what is written: " addr=ADDRESS", " prefer-encrypt=mutual" where it is mutual, and " keydata=TEXT", joined by ";"
+-- what is written: ` addr=ADDRESS`, ` prefer-encrypt=mutual` where it is mutual, and ` keydata=TEXT`, joined by `;`
 abbrev pub valueOf : List ℕ → Bool → List ℕ → List ℕ
 valueOf a m text = ascii " addr=" ++ a ++ (cond m (ascii "; prefer-encrypt=mutual") [] ++ (ascii "; keydata=" ++ text))
 
@@ -46,7 +46,7 @@ module _ (address : Option (List ℕ)) (m : Option Bool) (p : List ℕ) where
   from-last v e = rw (saidFrom, e)
 
 module _ (a text : List ℕ) (p : plain a ≡ true) (t : every (other 59) text ≡ true) where
-  -- an address has neither blanks nor ";"
+  -- an address has neither blanks nor `;`
   free : (test : ℕ → Bool) → ((x : ℕ) → addressOctet x ≡ true → test x ≡ true) → every test a ≡ true
   free test weaker = every-weaker addressOctet test weaker a (plain-octets a p)
 

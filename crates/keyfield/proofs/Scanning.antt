@@ -1,4 +1,4 @@
--- The pieces of a value, read in order. (";" is 59.)
+-- The pieces of a value, read in order. (`;` is 59.)
 --     Scanning s at address preference     what is said comes to what the pieces from `at` on say behind the address and the preference
 --     scan-begin .. scan-spoils            the loop's steps
 -- Assumes nothing.

@@ -1,5 +1,4 @@
--- Worked examples, by computing the definitions: those of paper 01 on fields, and what its readings K1 to K9 name.
--- Assumes nothing.
+-- Worked examples of page F, by computing the definitions. Assumes nothing.
 use Prim.Native.Nat.{ℕ}
 use mathlib.Core.Path.{_≡_, refl}
 use mathlib.Core.Bool.{Bool, true, false}
@@ -27,8 +26,8 @@ plainF = record { address = ascii "a@b"; isMutual = false; key = ascii "f" }
 abbrev pub mutualF : Field
 mutualF = record { address = ascii "a@b"; isMutual = true; key = ascii "f" }
 
--- "`addr=a@b.example; keydata=Zm9v` from A@B.example counts; with `type=1;` before keydata it doesn't; with `_type=1;` it does; with a final `;` it
--- doesn't." "two valid, even equal, count as none"
+-- F13, C14: one valid field counts, also with an ignored attribute (F5) and beside fields that are not valid. An unknown attribute (F5), a `;` at
+-- the end (F8) and a second valid field, even an equal one, leave none.
 abbrev pub Counts : Option Field → List (List ℕ) → Type 0
 Counts f values = counted 2048 values (canonical (ascii "A@B.example")) ≡ f
 
@@ -41,20 +40,20 @@ WhatCounts =
     × Counts none (ascii "addr=a@b.example; keydata=Zm9v" ∷ ascii "addr=a@b.example; keydata=Zm9v" ∷ [])
     × Counts (some foo) (ascii "addr=c@d; keydata=Zm9v" ∷ ascii "addr=a@b.example; keydata=Zm9v" ∷ ascii "spoiled" ∷ [])
 
--- "`Zg==` is `f`; `Zh==` and `Zg` spoil the field."
+-- F9, C14: unused bits have to be zero, and padding has to be there
 abbrev pub KeyData : Type 0
 KeyData =
     (fieldOf 2048 (ascii "addr=a@b;keydata=Zg==") ≡ some plainF)
     × (fieldOf 2048 (ascii "addr=a@b;keydata=Zh==") ≡ none)
     × (fieldOf 2048 (ascii "addr=a@b;keydata=Zg") ≡ none)
 
--- A key of the limit's octets is one, and a key of one octet more is none.
+-- F10: a key of as many octets as the limit says is one, and a key of one octet more is none
 abbrev Limits : Type 0
 Limits =
     (fieldOf 3 (ascii "addr=a@b.example;keydata=Zm9v") ≡ some foo)
     × (fieldOf 2 (ascii "addr=a@b.example;keydata=Zm9v") ≡ none)
 
--- K4, K5, K7, K9: preferences, ignored names, blanks, an address with a "="
+-- F2, F5, F7, F9: blanks around names and values and in key data, another value of `prefer-encrypt`, ignored names, an address with `=`
 abbrev GoodOnes : Type 0
 GoodOnes =
     (fieldOf 2048 (ascii " addr = A@b\t; prefer-encrypt\t= mutual ;keydata= Z g=\t= ") ≡ some mutualF)
@@ -62,7 +61,7 @@ GoodOnes =
     × (fieldOf 2048 (ascii "_=; _=1; addr=a@b; _x=y=z; _=; keydata=Zg==") ≡ some plainF)
     × (fieldOf 2048 (ascii "addr=a=b@c; keydata=Zg==") ≡ some (record { address = ascii "a=b@c"; isMutual = false; key = ascii "f" }))
 
--- K1, K2, K3, K4, K5, K8: what spoils a field
+-- what spoils a field: F1 to F8, and empty key data (F10)
 spoiledOnes : List (List ℕ)
 spoiledOnes =
     ascii ""

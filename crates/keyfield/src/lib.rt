@@ -1,5 +1,5 @@
-// One Autocrypt or Autocrypt-Gossip value, unfolded: its pieces are read from the first to the last, and the
-// key is decoded once the rest is known to be good. What is right is said by specs/Field.antt.
+// One Autocrypt or Autocrypt-Gossip value, unfolded: its pieces are read from the first to the last (page F), and the key
+// is decoded once the rest is known to be good. What is right is said by specs/Field.antt.
 ghost use Prim.Native.Nat.{_≤_};
 ghost use mathlib.Core.Path.{_≡_};
 ghost use lib.ListN.{length};
@@ -41,6 +41,7 @@ pub enum Read {
     Spoiled,
 }
 
+// F7: no `prefer-encrypt` is no preference.
 fn is_mutual(preference: Preference) -> bool
     ensures { λ r. ⌜ r ≡ mutualBy (stated preference) ⌝ }
 {
@@ -50,7 +51,7 @@ fn is_mutual(preference: Preference) -> bool
     }
 }
 
-// What has been read where the key data stands last: the address must have come before.
+// What has been read where the key data stands last: the address must have come before (F6).
 fn whole(address: AddressAt, preference: Preference, start: usize, end: usize) -> Scanned
     ensures { λ r. ⌜ r ≡ wholeOf address preference start end ⌝ }
 {
@@ -66,7 +67,7 @@ fn whole(address: AddressAt, preference: Preference, start: usize, end: usize) -
     }
 }
 
-// Reads the pieces in order. The key data stands in the last one, and only there.
+// Reads the pieces in order (F1). The key data stands in the last one, and only there (F8).
 fn scan(s: &[u8]) -> Scanned
     ensures { λ r. ⌜ Scans (now (s .entry)) r ⌝ }
 {
@@ -95,8 +96,8 @@ fn scan(s: &[u8]) -> Scanned
     }
 }
 
-// Writes the key that key data stands for, of 1 to `limit` octets, to the front of `key`. Where there is none, what `key`
-// holds means nothing.
+// Writes the key that key data stands for, of 1 to `limit` octets (F9, F10), to the front of `key`. Where there is none,
+// what `key` holds means nothing.
 fn read_key(text: &[u8], limit: usize, key: &mut [u8]) -> Key
     requires { ⌜ limit ≤ length (now key) ⌝ }
     ensures { λ r. ⌜ KeyAs limit (now (text .entry)) (now (key .exit)) r ⌝ }
@@ -112,8 +113,8 @@ fn read_key(text: &[u8], limit: usize, key: &mut [u8]) -> Key
     }
 }
 
-// Reads a field's value, and writes its key, of 1 to `limit` octets, to the front of `key`. Where the field is spoiled, what
-// `key` holds means nothing.
+// Reads a field's value, and writes its key, of 1 to `limit` octets, to the front of `key`. Where the field is spoiled,
+// what `key` holds means nothing.
 pub fn read_field(value: &[u8], limit: usize, key: &mut [u8]) -> Read
     requires { ⌜ limit ≤ length (now key) ⌝ }
     ensures { λ r. ⌜ ReadAs limit (now (value .entry)) (now (key .exit)) r ⌝ }

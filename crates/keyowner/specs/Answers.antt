@@ -1,4 +1,4 @@
--- From the rules to what the code answers and leaves in lent memory.
+-- From the rules on whose key a field brings (F12, G5) to what the code answers and leaves in lent memory.
 --     OwnAt, OwnAs                a field of the sender, its key in lent memory
 --     Accepts                     a gossip field that may be accepted: what the roll of the recipients and lent memory have to be
 --     AcceptedAt, AcceptedAs      one that is accepted, its address and its key in lent memory
@@ -24,6 +24,7 @@ pub record OwnAt (limit : ℕ) (sender : List ℕ) (field : Option Field) (key :
   pub is : field ≡ some (record { address = sender; isMutual = m; key = take n key })
   pub opens : Opens limit key n
 
+-- the answer on a field of the sender: its preference and its key, or that it is none
 unfoldable pub OwnAs : ℕ → List ℕ → Option Field → List ℕ → Own → Type 0
 OwnAs limit sender field key (Key m n) = OwnAt limit sender field key m n
 OwnAs limit sender field key NoKey = field ≡ none
@@ -41,6 +42,7 @@ pub record AcceptedAt (limit : ℕ) (gossip : Option Gossiped) (address key : Li
   pub address-within : n ≤ length address
   pub opens : Opens limit key k
 
+-- the answer on a gossip field: its address and its key, or that it is not accepted
 unfoldable pub AcceptedAs : ℕ → Option Gossiped → List ℕ → List ℕ → Accepted → Type 0
 AcceptedAs limit gossip address key (Gossip n k) = AcceptedAt limit gossip address key n k
 AcceptedAs limit gossip address key NotAccepted = gossip ≡ none

@@ -1,5 +1,5 @@
-// Whose key one field brings: that of the sender, in an Autocrypt field, or that of a recipient, in a gossip field. What is
-// right is said by specs/Owners.antt and by the definitions of `keyfield`.
+// Whose key one field brings: that of the sender, in an Autocrypt field (F12), or that of a recipient, in a gossip field
+// (G5). What is right is said by specs/Owners.antt and by the definitions of `keyfield`.
 //
 // What a lent key or address holds behind the length that is answered means nothing.
 ghost use Prim.Native.Nat.{_≤_};
@@ -25,8 +25,8 @@ pub enum Accepted {
     NotAccepted,
 }
 
-// Is the Autocrypt field with this value valid for the sender? Its key, of 1 to `limit` octets, is then written to the front
-// of `key`.
+// Is the Autocrypt field with this value valid for the sender (F12)? Its key, of 1 to `limit` octets, is then written to
+// the front of `key`.
 pub fn valid_for(value: &[u8], limit: usize, sender: &[u8], key: &mut [u8]) -> Own
     requires { ⌜ (isCanonical (now sender) ≡ true) × (limit ≤ length (now key)) ⌝ }
     ensures { λ r. ⌜ OwnAs limit (now (sender .entry)) (validFor limit (now (sender .entry)) (now (value .entry))) (now (key .exit)) r ⌝ }
@@ -47,8 +47,8 @@ pub fn valid_for(value: &[u8], limit: usize, sender: &[u8], key: &mut [u8]) -> O
     }
 }
 
-// Is the gossip field with this value accepted? Its address and its key, of 1 to `limit` octets, are then written to the
-// front of the two.
+// Is the gossip field with this value accepted (G5)? Its address and its key, of 1 to `limit` octets, are then written to
+// the front of `address` and `key`.
 pub fn accept(
     value: &[u8],
     limit: usize,

@@ -29,8 +29,8 @@ countedOf s = countedIn 2048 (fieldsIn (ascii s)) (ascii "a@b")
 abbrev key : String → Option Field
 key k = some (record { address = ascii "a@b"; isMutual = false; key = ascii k })
 
--- From a@b: one valid field counts, folded and from a name in any case, also beside one of another address, a spoiled one and gossip. Two count as
--- none, even if they are equal; so does none.
+-- F13: from a@b one valid field counts, folded and from a field name in any case, also beside one of another address, a spoiled one and gossip. Of
+-- two none counts, even if they are equal.
 counts :
     map countedOf
     ("Autocrypt: addr=A@b; keydata=Zg==\r\nFrom: a@b\r\n"
@@ -46,7 +46,8 @@ counts = refl
 abbrev gossip : String → String → Gossiped
 gossip a k = record { address = ascii a; key = ascii k }
 
--- In order, in canonical form and each time it is said; not what is about nobody in the lists, spoiled, or an Autocrypt field. A preference is ignored.
+-- G5, G7: in order, in canonical form and each time it is said; not what is about nobody in the lists, spoiled, or an Autocrypt field. A preference
+-- is ignored.
 heard :
     gossipIn 2048 (ascii "C@d" ∷ ascii "a@b" ∷ [])
     (fieldsIn

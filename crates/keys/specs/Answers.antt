@@ -1,10 +1,10 @@
--- From the rules to what the code asks for, answers and leaves in lent memory.
+-- From the rules on counted and accepted fields (F13, G5) to what the code asks for, answers and leaves in lent memory.
 --     Takes, TakenAt, TakenAs        a value of a kind of fields, from a place of a block on: asked for, and the first of these
 --     validFrom                      the Autocrypt fields that are valid, from a place of a block on
---     Seeks, ValidAt, ValidAs        .. asked for, and the first of these
+--     Seeks, ValidAt, ValidAs        one of these asked for, and the first of them
 --     Weighs                         the one that counts, asked for
 --     gossipFrom, gossipOf           the accepted gossip from a place of a payload on, and that of the whole, by the roll of the recipients
---     Hears, HeardAt, HeardAs        .. asked for, and the first of it
+--     Hears, HeardAt, HeardAs        some of it asked for, and the first of it
 use Prim.Native.Nat.{ℕ, _<_, _≤_}
 use mathlib.Core.Path.{_≡_}
 use mathlib.Core.Bool.{Bool, true}
@@ -47,10 +47,12 @@ pub record TakenAt (kind : Kind) (s : List ℕ) (at : ℕ) (text : List ℕ) (n 
   pub upto : e ≤ length s
   pub readable : isSome (fieldsFrom s e) ≡ true
 
+-- the answer: the first value of the kind, or that there is none
 unfoldable pub TakenAs : Kind → List ℕ → ℕ → List ℕ → Taken → Type 0
 TakenAs kind s at text (Value n e) = TakenAt kind s at text n e
 TakenAs kind s at text NoValue = valuesFrom kind s at ≡ []
 
+-- F12: the Autocrypt fields that are valid for the sender, from a place of a block on
 unfoldable pub validFrom : ℕ → List ℕ → List ℕ → ℕ → List Field
 validFrom limit sender s at = validFields limit sender (valuesFrom Autocrypt s at)
 
@@ -66,6 +68,7 @@ pub record ValidAt (limit : ℕ) (sender s : List ℕ) (at : ℕ) (key : List �
   pub opens : Opens limit key n
   pub readable : isSome (fieldsFrom s e) ≡ true
 
+-- the answer: the first valid field, or that there is none
 unfoldable pub ValidAs : ℕ → List ℕ → List ℕ → ℕ → List ℕ → Valid → Type 0
 ValidAs limit sender s at key (Key m n e) = ValidAt limit sender s at key m n e
 ValidAs limit sender s at key NoMore = validFrom limit sender s at ≡ []
@@ -78,10 +81,11 @@ pub record Weighs (limit : ℕ) (block : List ℕ) (survey : Survey) (sender tex
   pub key-room : limit ≤ length key
   pub spare-room : limit ≤ keyLimit
 
+-- G5: the accepted gossip from a place of a payload on
 unfoldable pub gossipFrom : ℕ → List (List ℕ) → List ℕ → ℕ → List Gossiped
 gossipFrom limit recipients payload at = accepted limit recipients (valuesFrom AutocryptGossip payload at)
 
--- by the roll of the recipients
+-- G5: the accepted gossip of a payload, by the roll of the recipients
 abbrev pub gossipOf : ℕ → List ℕ → List ℕ → List Gossiped
 gossipOf limit recipients payload = gossipIn limit (unrolled recipients) (fieldsIn payload)
 
@@ -103,6 +107,7 @@ pub record HeardAt (limit : ℕ) (recipients : List (List ℕ)) (payload : List 
   pub upto : e ≤ length payload
   pub readable : isSome (fieldsFrom payload e) ≡ true
 
+-- the answer: the first accepted gossip, or that there is none
 unfoldable pub HeardAs : ℕ → List (List ℕ) → List ℕ → ℕ → List ℕ → List ℕ → Heard → Type 0
 HeardAs limit recipients payload at address key (Next e n k) = HeardAt limit recipients payload at address key e n k
 HeardAs limit recipients payload at address key Over = gossipFrom limit recipients payload at ≡ []

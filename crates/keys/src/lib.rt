@@ -1,5 +1,5 @@
-// The keys that a message brings: that of the Autocrypt field that counts, and those of accepted gossip. What is right is
-// said by specs/Keys.antt. A key has at most `limit` octets.
+// The keys that a message brings: that of the Autocrypt field that counts (F13), and those of accepted gossip (G5). What
+// is right is said by specs/Keys.antt. A key has at most `limit` octets.
 //
 // Values are unfolded into a lent text, which has to be as long as the block. What it holds afterwards means nothing, nor
 // does what a lent key or address holds behind the length that is answered.
@@ -55,7 +55,8 @@ fn take_value(block: &[u8], at: usize, last: usize, kind: Kind, text: &mut [u8])
     }
 }
 
-// The first valid Autocrypt field of the sender from the place `at` on, its key written to the front of `key`.
+// The first Autocrypt field from the place `at` on that is valid for the sender (F12), its key written to the front of
+// `key`.
 fn next_valid(
     block: &[u8],
     limit: usize,
@@ -88,8 +89,8 @@ fn next_valid(
     }
 }
 
-// The Autocrypt field that counts, its key written to the front of `key`: there is a valid one and no second. The key of a
-// second one is read into spare memory, which has room for the longest key of a table.
+// The Autocrypt field that counts, its key written to the front of `key`: there is a valid one and no second (F13). The
+// key of a second one is read into spare memory, which has room for the longest key of a table.
 pub fn counted_field(
     block: &[u8],
     limit: usize,
@@ -123,7 +124,8 @@ pub fn counted_field(
     }
 }
 
-// The next accepted gossip of the payload from the place `at` on, its address and key written to the front of the two.
+// The next accepted gossip of the payload from the place `at` on (G5), its address and key written to the front of
+// `address` and `key`.
 pub fn next_gossip(
     payload: &[u8],
     limit: usize,

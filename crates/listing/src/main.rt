@@ -1,10 +1,10 @@
-// The listing program. It reads a table of at most 14 slots from standard input, and prints a line for each used slot or
-// the number of a refusal. What it prints is printout's to say; reading and writing are all that it does itself.
+// The listing program (W7, W8, W9, W10). Its input is a table of up to 14 slots; it prints a line for each used one, or
+// the number of a refusal. What it prints is said by the crate printout; reading and writing are all that it does itself.
 use libc::STDIN_FILENO;
 use libc::STDOUT_FILENO;
 
 fn main() {
-    // more than 14 slots, so that longer input is seen to be longer
+    // room for more than 14 slots, so that longer input is seen to be longer (W7)
     let mut space = io::large_buffer();
     let given = io::read_full(STDIN_FILENO, &mut space);
     let mut out = [0u8; printout::ROOM];

@@ -1,4 +1,4 @@
--- Refusals 1 and 2: whether a slot is right, and the scan for the lowest that is not.
+-- R1 and R2: whether a slot is right, and the scan for the lowest that is not.
 --     tag-unused, tag-used              the tag of one slot
 --     right-free .. right-used          the answers on one slot
 --     lower-seeks .. lower-none         whether its address stands in a lower one

@@ -1,7 +1,7 @@
--- What those that look through a table ask for, and what the check hands out.
+-- What those that look through a table (T13, T15) ask for, and what the check hands out.
 --     Seeks       a tag is that of an address, to be looked for in the first n slots, whose tags are there
 --     Judges      the tags up to that of slot i are there
---     Compares    and slot i is used
+--     Compares    the tags up to that of slot i are there, and the slot is used
 --     Checks      the answer of the check, with the tags where it is that the table is sound
 use Prim.Native.Nat.{ℕ, _+_, _<_, _≤_}
 use mathlib.Core.Path.{_≡_}
@@ -28,6 +28,7 @@ pub record Compares (t tags : List ℕ) (i : ℕ) : Type 0 where
   pub tagged : TaggedTo t tags (i + 1)
   pub used : marked (slotAt t i) ≡ true
 
+-- R1, R2: what the check answers, with the tags of the table where it is sound
 pub record Checks (t tags : List ℕ) (r : Checked) : Type 0 where
   pub answer : r ≡ checked t
   pub opens : r ≡ Sound → Open t tags

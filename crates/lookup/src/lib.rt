@@ -1,5 +1,5 @@
-// Looking through a table: whether it is sound, where an address stands in it, and what it has of an address. The check
-// makes a tag for each slot and hands them out; whoever looks for an address later compares these first.
+// Looking through a table: whether it is sound (T13), where an address stands in it (T15), and what it has of an address.
+// The check makes a tag for each slot and hands them out; whoever looks for an address later compares these first.
 ghost use Prim.Native.Nat.{_<_};
 ghost use mathlib.Core.Path.{_≡_};
 ghost use mathlib.Core.Bool.{_&&_};
@@ -36,8 +36,8 @@ fn could_hold(slot: &[u8], length: usize) -> bool
     slots::is_marked(slot) & (slots::address_of(slot).len() == length)
 }
 
-// The lowest of the first `n` slots that holds the address: tags are compared before lengths, and these before octets; the
-// first octet that differs leads on to the next slot, and the first equal address out of the scan.
+// The lowest of the first `n` slots that holds the address (T12): tags are compared before lengths, and these before
+// octets; the first octet that differs leads on to the next slot, and the first equal address out of the scan.
 fn search(table: &[u8], tags: &[u32; Slot::MOST], address: &[u8], tag: u32, n: usize) -> Found
     requires { ⌜ Seeks (now table) (now tags) (now address) tag n ⌝ }
     ensures { λ r. ⌜ r ≡ lowest (hasAddress (now (address .entry))) (now (table .entry)) 0 n ⌝ }
@@ -67,8 +67,8 @@ fn search(table: &[u8], tags: &[u32; Slot::MOST], address: &[u8], tag: u32, n: u
     found
 }
 
-// The same. Where there are more than a few slots, they are looked through only if one of them has the tag: all tags are
-// compared first, several at once.
+// The lowest of the first `n` slots that holds the address, as `search` finds it. Where there are more than a few slots,
+// they are looked through only if one of them has the tag: all tags are compared first, several at once.
 fn lowest_with(table: &[u8], tags: &[u32; Slot::MOST], address: &[u8], tag: u32, n: usize) -> Found
     requires { ⌜ Seeks (now table) (now tags) (now address) tag n ⌝ }
     ensures { λ r. ⌜ r ≡ lowest (hasAddress (now (address .entry))) (now (table .entry)) 0 n ⌝ }
@@ -81,7 +81,7 @@ fn lowest_with(table: &[u8], tags: &[u32; Slot::MOST], address: &[u8], tag: u32,
     search(table, tags, address, tag, n)
 }
 
-// The slot that holds the address.
+// The slot that holds the canonical address (T15).
 pub fn find(table: &[u8], tags: &[u32; Slot::MOST], address: &[u8]) -> Found
     requires { ⌜ Tagged (now table) (now tags) ⌝ }
     ensures { λ r. ⌜ r ≡ found (now (table .entry)) (now (address .entry)) ⌝ }
@@ -125,7 +125,7 @@ fn tag_at(table: &[u8], i: usize) -> u32
     tags::tag_of(slots::address_of(slot))
 }
 
-// Does the address of the used slot stand in a lower one?
+// Does the address of the used slot stand in a lower one (T8.3)?
 fn in_lower(table: &[u8], tags: &[u32; Slot::MOST], i: usize) -> bool
     requires { ⌜ Compares (now table) (now tags) i ⌝ }
     ensures { λ r. ⌜ r ≡ inLower (now (table .entry)) i ⌝ }
@@ -136,7 +136,7 @@ fn in_lower(table: &[u8], tags: &[u32; Slot::MOST], i: usize) -> bool
     }
 }
 
-// Is the slot free, or sound with its address in no lower slot?
+// Is the slot free, or sound with its address in no lower slot (R2)?
 fn is_right(table: &[u8], tags: &[u32; Slot::MOST], i: usize) -> bool
     requires { ⌜ Judges (now table) (now tags) i ⌝ }
     ensures { λ r. ⌜ r ≡ right (now (table .entry)) i ⌝ }
@@ -151,7 +151,7 @@ fn is_right(table: &[u8], tags: &[u32; Slot::MOST], i: usize) -> bool
     !in_lower(table, tags, i)
 }
 
-// Is the length that of 1 to 256 whole slots?
+// Is the length that of 1 to 256 whole slots (R1)?
 fn is_whole(table: &[u8]) -> bool
     ensures { λ r. ⌜ r ≡ whole (now (table .entry)) ⌝ }
 {
@@ -159,8 +159,8 @@ fn is_whole(table: &[u8]) -> bool
     (table.len() % Slot::LEN == 0) & (1 <= n) & (n <= Slot::MOST)
 }
 
-// Is it a table? Every call asks this first, and gets the tags with the answer. Those of the slots that are passed are
-// there for the slots above.
+// Is it a table (R1, R2)? Every call asks this first, and gets the tags with the answer. Those of the slots that are
+// passed are there for the slots above.
 pub fn check(table: &[u8], tags: &mut [u32; Slot::MOST]) -> Checked
     requires { ⌜ length (now tags) ≡ mostSlots ⌝ }
     ensures { λ r. ⌜ Checks (now (table .entry)) (now (tags .exit)) r ⌝ }

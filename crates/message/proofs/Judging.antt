@@ -1,4 +1,4 @@
--- Rows 6 and 7: whether the message is a report, and whether its payload is searched.
+-- Rows 6 and 7 (R6, R7): whether the message is a report, and whether its payload is searched.
 --     judge-skipped .. judge-searched     the payload
 --     judge-report, judge-on              the message
 --     the rulesets                        judging, for `judge_payload`; reporting, for `judge`

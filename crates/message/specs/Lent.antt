@@ -1,8 +1,8 @@
--- What the reading of a message asks for, and what it knows between its tests.
+-- What the reading of a message (R3, R4, R5, R6, R7) asks for, and what it knows between its tests.
 --     Lent       room for the values of the outer block, for an address and for a key of at most so many octets
 --     Walked     the outer block is readable, its survey is known, and there is room for its values
---     Opened     .. and the receipt time is in range
---     Sent       .. and this is the sender
+--     Opened     that much is known, the receipt time is in range, and there is room for an address and a key
+--     Sent       that much is known, the receipt time is in range, this is the sender, and there is room for a key
 use Prim.Native.Nat.{ℕ, _≤_, min}
 use mathlib.Core.Path.{_≡_}
 use mathlib.Core.List.{List}

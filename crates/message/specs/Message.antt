@@ -1,9 +1,9 @@
--- What a message says, of paper 01: the refusals for which no table is asked, and what the message brings where none of them is given.
+-- SCOPE, R3 to R7, and pages U and G: the refusals for which no table is asked, and what a message brings where none of them is given.
 --     payloadIn       the fields in which gossip is looked for
 --     messageRows     rows 3 to 7
 --     directBy        the direct half that its field brings
 --     messageBy       what it brings, by its sender and the fields of its blocks
---     messageOf       .. by its blocks
+--     messageOf       what it brings, by its blocks
 use Prim.Native.Nat.{ℕ}
 use mathlib.Core.Bool.{true, false, not, _&&_}
 use mathlib.Core.List.{List, [], _∷_}
@@ -23,12 +23,13 @@ use Rattle.update.specs.Message.{Message}
 use Rattle.outer.specs.Outer.{senderIn, isReported, dateIn, recipientsIn}
 use Rattle.keys.specs.Keys.{countedIn, gossipIn}
 
--- none of the payload's fields is looked at where gossip is not taken
+-- G2: none of the payload's fields is looked at where gossip is not taken
 unfoldable pub payloadIn : Gossip → List ℕ → List FieldText
 payloadIn g payload = elim (taken g) [ true ↦ fieldsIn payload | false ↦ [] ]
 
--- "receipt time above the limit", "outer header block unreadable", "not exactly one From field, or it isn't a readable list of exactly one
--- address", "a Content-Type is multipart/report", "gossip is taken and the payload block is unreadable". An unreadable block has no fields.
+-- R3, R4, R5, R6, R7: the receipt time is above the largest time, the outer block is unreadable, there is not just one sender, a Content-Type is a
+-- report, gossip is taken and the payload is unreadable. An unreadable block has no fields; a payload of no octets is readable and has none (U1,
+-- G3). No row asks what the message would change (R35), and what Autocrypt would ignore is refused (R36)
 unfoldable pub messageRows : ℕ → List ℕ → List ℕ → Gossip → List Row
 messageRows receipt outer payload g =
     (ReceiptTime unless leb receipt timeLimit)
@@ -38,13 +39,13 @@ messageRows receipt outer payload g =
     ∷ (PayloadBlock when (taken g && not (readable payload)))
     ∷ []
 
--- "With a counted field set timestamp, key and preference."
+-- U8: the direct half of a counted field, with the effective date as its timestamp
 unfoldable pub directBy : ℕ → Option Field → Option Direct
 directBy date none = none
 directBy date (some f) = some (record { timestamp = date; key = f .key; «mutual» = f .isMutual })
 
--- the sender, the effective date, the counted field and the accepted gossip, of the fields of the outer block and of the payload, with keys of at most so
--- many octets
+-- D14, F13, G4, G5: what a message brings, by its sender and by the fields of the outer block and of the payload, with keys of at most so many
+-- octets: the effective date for all of it, the counted field, and the accepted gossip about the recipients
 unfoldable pub messageBy : ℕ → ℕ → List ℕ → List FieldText → List FieldText → Message
 messageBy most receipt sender outer payload =
     record {
@@ -54,5 +55,6 @@ messageBy most receipt sender outer payload =
       gossip = gossipIn most (recipientsIn outer) payload;
     }
 
+-- U1: what a message brings, by its blocks and the gossip setting
 unfoldable pub messageOf : ℕ → ℕ → List ℕ → List ℕ → Gossip → Message
 messageOf most receipt outer payload g = messageBy most receipt (orElse [] (senderIn (fieldsIn outer))) (fieldsIn outer) (payloadIn g payload)

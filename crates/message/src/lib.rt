@@ -1,7 +1,8 @@
-// What a message says, read before anything is decided about a table: its sender, its effective date, the field that counts,
-// and whether there is gossip to look for. What is right is said by specs/Message.antt.
+// What a message says, read before anything is decided about a table: its sender (U3), its effective date (D2), the field
+// that counts (F13), and whether there is gossip to look for. What is right is said by specs/Message.antt.
 //
-// Values are unfolded into a lent text, which has to be as long as the outer block. What it holds afterwards means nothing.
+// Values are unfolded into a lent text, which has to be as long as the outer block. What it holds afterwards means
+// nothing.
 ghost use mathlib.Core.Bool.{false};
 ghost use Rattle.fields.specs.Fields.{fieldsIn};
 ghost use Rattle.outer.specs.Outer.{isReported};
@@ -40,7 +41,7 @@ pub enum Judged {
     Searched,
 }
 
-// Refusal 7. An empty payload is none.
+// Refusal 7 (R7): only where gossip is taken (G2). An empty payload is none (G3).
 fn judge_payload(payload: &[u8], settings: Settings) -> Judged
     ensures { λ r. ⌜ JudgedAs false (now (payload .entry)) (settings .gossip) r ⌝ }
 {
@@ -57,7 +58,7 @@ fn judge_payload(payload: &[u8], settings: Settings) -> Judged
     Judged::Searched
 }
 
-// Refusals 6 and 7.
+// Refusals 6 and 7 (R6, R7).
 fn judge(
     outer: &[u8],
     survey: Survey,
@@ -96,7 +97,7 @@ fn bring(
     }
 }
 
-// Refusals 6 and 7, with the sender known, and what his message brings.
+// Refusals 6 and 7, with the sender known, and what the message brings.
 fn read_sent(
     receipt: u64,
     outer: &[u8],
@@ -153,8 +154,8 @@ fn read_on(
     }
 }
 
-// Reads a message: refusals 3 to 7, and what it brings where none of them is given. The sender's canonical address is written
-// to the front of `sender`, and the key of the field that counts to the front of `key`.
+// Reads a message: refusals 3 to 7 in order (R3 to R7), and what it brings where none of them is given. The sender's
+// canonical address is written to the front of `sender`, and the key of the field that counts to the front of `key`.
 pub fn read(
     receipt: u64,
     outer: &[u8],

@@ -1,4 +1,4 @@
--- Why fetch order asks that messages agree: two messages in both orders. Assumes nothing.
+-- Why C11 asks that messages agree: two messages in both orders. Assumes nothing.
 --     direct-differs    two direct keys at one date: the last one stands
 --     gossip-differs    so does the last of two gossip keys
 use Prim.Native.Nat.{ℕ}

@@ -1,4 +1,4 @@
--- Two messages and one entry, by the paper's order: which of them comes first does not matter, where they agree.
+-- C11, of two messages and one entry: which of them comes first does not matter, where they agree.
 --     shareOf, entry-share    what a message brings one address, and that this is all that it does to its entry
 --     entry-keeps             a message keeps what is known of an entry
 --     entry-swap              two messages in either order

@@ -1,7 +1,7 @@
--- Demand 3 in words of the calls: `process` one call after the other, in two orders.
+-- C11 in words of the calls: `process` one call after the other, in two orders.
 --     left-after, answer-fits        on a sound table a call leaves what its message does
 --     call-good                      what a call brings is good
---     calls-in-any-order             the whole of demand 3
+--     calls-in-any-order             the whole of C11
 --     broken-stays                   any other table stays as it is, in whatever order
 -- Assumes nothing.
 use Prim.Native.Nat.{ℕ}
@@ -99,8 +99,8 @@ module _ (c : Call) where
 process-delivers : Delivers slotForm slotCalling
 process-delivers = record { leaves = λ t h c. left-after c t (h .sound); fitting = λ t h c. answer-fits c t (h .sound); good = call-good }
 
--- Demand 3: two orders of the same calls, from one sound table. If 8 is among the answers of neither, and any two messages that bring an
--- address something at the same date bring it the same, the tables that they end with say the same.
+-- C11: two orders of the same calls, from one sound table. If 8 is among the answers of neither, and any two messages that bring an address
+-- something at the same date bring it the same, the tables that they end with say the same.
 pub calls-in-any-order : (t : List ℕ) (cs ds : List Call) → AllOctets t → checked t ≡ Sound → ((c : Call) → List·Memᴰ c cs → OctetCall c)
     → List·Permᴰ cs ds
     → (List·Memᴰ (Refused NoFreeSlot) (answers t cs) → ⊥) → (List·Memᴰ (Refused NoFreeSlot) (answers t ds) → ⊥)

@@ -1,8 +1,8 @@
--- Demand 3: fetch order is immaterial.
+-- C11: the order of fetching does not matter.
 --     step, fetched-well    a run from a sound table: its tables are sound, and each entry goes its own way
 --     Alike, fetch-alike    two orders lead to sound tables with the same entry of every address, in any form of table
 --     say-the-same          sound tables of slots with the same entries give the same recommendations and target keys
---     fetch-order           the whole of demand 3 for slots
+--     fetch-order           the whole of C11 for slots
 -- Assumes nothing.
 use Prim.Native.Nat.{ℕ}
 use mathlib.Core.Path.{_≡_, refl, sym, ap, _∙_}
@@ -95,8 +95,8 @@ say-the-same t u h =
       target-key = λ recipients. key-alike t u (h .sound .sound) (h .sound-too .sound) (h .entry) recipients;
     }
 
--- Demand 3: from one sound table, two orders of the same messages lead to tables that say the same, where neither order refuses one for
--- room and any two that bring an address something at the same date bring it the same.
+-- C11: from one sound table, two orders of the same messages lead to tables that say the same, where neither order refuses one for room and any two
+-- that bring an address something at the same date bring it the same.
 pub fetch-order : (t : List ℕ) (ms ns : List (Option Message)) → AllOctets t → checked t ≡ Sound
     → ((m : Message) → List·Memᴰ (some m) ms → GoodMessage m) → List·Permᴰ ms ns → allFit t ms ≡ true → allFit t ns ≡ true → Agreeing ms
     → SayTheSame (fetched t ms) (fetched t ns)

@@ -1,4 +1,4 @@
--- What demand 3 asks of a form of table, and that slots have it.
+-- What C11 asks of a form of table, and that slots have it.
 --     Lawful          entries of a sound table are known, good messages keep it sound, and change each entry as `entryAfter` says
 --     slots-lawful    the form of slots
 -- Assumes nothing.

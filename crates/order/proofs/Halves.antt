@@ -20,7 +20,7 @@ use Rattle.update.specs.Update.{Order, stays, withHalf, taking, theDirect, theG
 use Rattle.update.proofs.Writing.{taking-stays, taking-takes}
 use Rattle.order.proofs.Later.{over, later, Orderly, later-stays, later-replaces, later-holds, Settled, later-swap, later-twice}
 
--- "a direct key implies last seen present and not below the Autocrypt timestamp"
+-- T8.10: beside a direct half last seen is there, and is at least the Autocrypt timestamp
 pub record Seen (seen : Option ℕ) (d : Direct) : Type 0 where
   pub was-seen : isSome seen ≡ true
   pub not-below : d .timestamp ≤ orElse 0 seen

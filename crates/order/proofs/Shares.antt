@@ -23,7 +23,7 @@ pub record Share : Type 0 where
   pub direct : Option Direct
   pub gossip : Option Gossip
 
--- "Update of the sender": where the address is the sender's
+-- U6, U7, U8, U9: the sender's part, where the address is the sender's
 unfoldable pub sentBy : Order Direct → List ℕ → Bool → ℕ → Option Direct → Option Entry → Option Entry
 sentBy order b true date brought e = some (taking theDirect order date brought (orElse (newcomer b) e))
 sentBy order b false date brought e = e
@@ -44,7 +44,7 @@ unfolding Known Timely newcomer orElse
 known-else b none k = tt
 known-else b (some e) k = k
 
--- "Gossip fields are read in order from the payload."
+-- G5: gossip behind gossip, in order
 module _ (order : Order Gossip) (o : Orderly theGossip order) (b : List ℕ) where
   pub heard-both : (x y : Option Gossip) (e : Option Entry) → heardOf order b y (heardOf order b x e) ≡ heardOf order b (later theGossip order y x) e
   unfolding heardOf later orElse

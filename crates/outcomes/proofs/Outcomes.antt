@@ -1,9 +1,9 @@
--- Demand 1: every input has one outcome, and a refusal leaves lent memory as it was.
+-- C2 and R32: every input has one outcome, and a refusal leaves lent memory as it was.
 --     one-answer, one-outcome       two outcomes that meet the same equations are the same: the general statement
 --     number-unique .. write-gossip-unique    so for each public function
 --     vienghulac-check-unique ..    and for each function of include/vienghulac.h
 --     process-refusal, entry-refusal, write-autocrypt-refusal, write-gossip-refusal    what a refusal leaves
--- That each number is given exactly when its row holds and no row before it is `exactly` of refusals/proofs/Rows, for the rows of every call.
+-- That each number is given exactly when its row holds and no row before it (C3) is `exactly` of refusals/proofs/Rows, for the rows of every call.
 -- Assumes nothing.
 use Prim.Native.Nat.{ℕ}
 use mathlib.Core.Path.{_≡_, sym, _∙_}
@@ -74,7 +74,7 @@ pub write-gossip-unique : (address key out : List ℕ) (r q : Written) (left oth
     → AllOf (WriteGossip address key out r left) → AllOf (WriteGossip address key out q other) → (r ≡ q) × (left ≡ other)
 write-gossip-unique address key out r q left other = one-outcome _ _ r q left other
 
--- the same in numbers
+-- one outcome of each function of the C interface, too
 pub vienghulac-check-unique : (table : List ℕ) (r q : AnswerInC) → AllOf (VienghulacCheck table r) → AllOf (VienghulacCheck table q) → r ≡ q
 vienghulac-check-unique table r q = one-answer _ r q
 
@@ -104,7 +104,7 @@ pub vienghulac-write-gossip-unique : (address key out : List ℕ) (r q : Written
     → AllOf (VienghulacWriteGossip address key out r left) → AllOf (VienghulacWriteGossip address key out q other) → (r ≡ q) × (left ≡ other)
 vienghulac-write-gossip-unique address key out r q left other = one-outcome _ _ r q left other
 
--- "A refusal carries its number .. and writes nothing."
+-- R32: a refused call writes nothing
 pub process-refusal : (table : List ℕ) (receipt : ℕ) (outer payload : List ℕ) (gossip : Gossip) (refusal : Refusal) (left : List ℕ)
     → AllOf (Process table receipt outer payload gossip (Refused refusal) left) → left ≡ table
 process-refusal table receipt outer payload gossip refusal left h =

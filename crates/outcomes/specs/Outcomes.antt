@@ -1,10 +1,12 @@
--- What the contracts of the public functions ask of an outcome: of the answer r, and of what the memory lent for writing holds afterwards. Each is
--- the list of what a contract ensures, clause by clause, in the words of the sources; that the contract is this list is shown in proofs/Contracts.
+-- SCOPE, C2: what the contracts of the public functions ask of an outcome: of the answer r, and of what the memory lent for writing holds
+-- afterwards. Each is the list of what a contract ensures, clause by clause, in the words of the sources; that the contract is this list is shown
+-- in proofs/Contracts.
 --     Meets                              an outcome of a function that is lent memory for writing: two equations
 --     Number, Index, Check               number, index, check
 --     Process, Entry                     process, entry
 --     Recommend, TargetPart, TargetKey   recommend, target_part, target_key
 --     WriteAutocrypt, WriteGossip        write_autocrypt, write_gossip
+-- Number and values of an answer come from one definition for each call (C5).
 use Prim.Native.Nat.{ℕ}
 use mathlib.Core.Path.{_≡_}
 use mathlib.Core.Bool.{Bool, false}
@@ -25,42 +27,50 @@ use Rattle.names.specs.Names.{autocrypt as autocryptName, gossip as gossipName}
 use Rattle.write.specs.Writing.{writtenOf, leftByWriting}
 use Rattle.write.specs.declared.Written.{Written}
 
--- the answer and the memory that are promised, and those that are given
+-- C2: the answer is the one that is promised, and so is what the memory holds
 abbrev pub Meets : {A : Type 0} → A → List ℕ → A → List ℕ → List (Type 0)
 Meets answer memory r left = (r ≡ answer) ∷ (left ≡ memory) ∷ []
 
+-- R33: what `number` gives for a refusal
 abbrev pub Number : Refusal → ℕ → List (Type 0)
 Number refusal r = (r ≡ numberOf refusal) ∷ []
 
+-- R33: what `index` gives for a refusal
 abbrev pub Index : Refusal → ℕ → List (Type 0)
 Index refusal r = (r ≡ indexOf refusal) ∷ []
 
+-- T13: what `check` answers
 abbrev pub Check : List ℕ → Answer → List (Type 0)
 Check table r = (r ≡ answerOf (firstOf (tableRows table))) ∷ []
 
+-- U2: what `process` answers, and the table that it leaves
 abbrev pub Process : List ℕ → ℕ → List ℕ → List ℕ → Gossip → Answer → List ℕ → List (Type 0)
 Process table receipt outer payload gossip r left =
     Meets (answerOf (refusedProcessing table receipt outer payload gossip)) (leftByProcessing table receipt outer payload gossip) r left
 
--- the numbers that are lent, and those that are left
+-- T14: what `entry` answers for the numbers that are lent, and the numbers that it leaves
 abbrev pub Entry : List ℕ → ℕ → List ℕ → Answer → List ℕ → List (Type 0)
 Entry table slot numbers r left = Meets (answerOf (refusedShowing table (length numbers))) (leftByShowing table slot numbers) r left
 
+-- A1: what `recommend` answers
 abbrev pub Recommend : List ℕ → List ℕ → Bool → Bool → Recommended → List (Type 0)
 Recommend table recipients isMutual reply r = (r ≡ recommendedOf table recipients isMutual reply) ∷ []
 
+-- A6, A7, A9: the part that `target_part` answers, which does not depend on preference and reply
 abbrev pub TargetPart : List ℕ → List ℕ → Bool → Bool → ℕ → Part → List (Type 0)
 TargetPart table recipients isMutual reply place r = (r ≡ targetPartOf table recipients place) ∷ []
 
--- the octets of the part that is handed back: what they are, and which of the table's they are
+-- A6, A7, A9: the octets that `target_key` hands back: what they are, and which of the table's they are
 abbrev pub TargetKey : List ℕ → List ℕ → Bool → Bool → ℕ → List ℕ → List (Type 0)
 TargetKey table recipients isMutual reply place r =
     (r ≡ targetKeyOf table recipients place) ∷ (r ≡ octetsAt table (targetPartOf table recipients place)) ∷ []
 
+-- W1, W6: what `write_autocrypt` answers, and the output that it leaves
 abbrev pub WriteAutocrypt : List ℕ → List ℕ → Bool → List ℕ → Written → List ℕ → List (Type 0)
 WriteAutocrypt address key isMutual out r left =
     Meets (writtenOf autocryptName address isMutual key (length out)) (leftByWriting autocryptName address isMutual key out) r left
 
+-- W1, W6: what `write_gossip` answers, and the output that it leaves; it has no preference (W3)
 abbrev pub WriteGossip : List ℕ → List ℕ → List ℕ → Written → List ℕ → List (Type 0)
 WriteGossip address key out r left =
     Meets (writtenOf gossipName address false key (length out)) (leftByWriting gossipName address false key out) r left

@@ -26,7 +26,8 @@ use Rattle.outer.specs.Outer.{canonicalOf, senderBy, senderIn, anyReport
 abbrev senderOf : String → Option (List ℕ)
 senderOf s = senderIn (fieldsIn (ascii s))
 
--- In canonical form, from a name in any case. Two From fields, two addresses, an unreadable list, no From field and an unreadable block have no sender.
+-- U3, R5: in canonical form, from a field name in any case. Two From fields, two addresses, an unreadable list, no From field and an unreadable
+-- block have no sender.
 senders :
     map senderOf
     ("From: A <Alice@B.ORG>\r\nTo: b@c\r\n"
@@ -44,7 +45,7 @@ senders = refl
 abbrev isReport : String → Bool
 isReport s = isReported (fieldsIn (ascii s))
 
--- each Content-Type is looked at, and no other field
+-- R6: each Content-Type is looked at, and no other field
 reports :
     map isReport
     ("Content-Type: multipart/report"
@@ -60,7 +61,7 @@ reports = refl
 abbrev dateOf : String → ℕ
 dateOf s = dateIn (fieldsIn (ascii s)) 100
 
--- one Date field; none, two, and one that is later than the receipt
+-- D1, D2: one Date field; none, two, and one that is later than the receipt
 dates :
     map dateOf
     ("date: Thu, 1 Jan\n 1970 00:01 GMT\n"
@@ -72,7 +73,7 @@ dates :
 unfolding header.fieldsOf header.fields header.fieldsWithin inFront header.unfolded header.over header.ofEnding header.opensField run header.rawLength belongs header.closes sameName sameOctets lowered lower blank past kindOf control bind calendar.leap calendar.leapDay calendar.monthLength calendar.yearDays calendar.monthDays calendar.dayCount words.openingOf words.further words.tokenAt words.firstToken words.onlyIf words.digitOf words.valueFrom words.numberOf words.hereOr words.placeFrom words.markOf words.dayOf words.monthOf words.yearBy words.yearOf words.twoDigits words.offsetBy words.offsetOf words.hoursWest words.eastBy words.westBy words.meant date.readOf date.andThen date.next date.optional date.existing date.calendarDay date.timeOfDay date.localTime date.zoned date.ended date.dateOf date.effectiveDate orElse fieldsIn isKind valuesOf onlyOne dateBy dateIn
 dates = refl
 
--- as they stand, in order; an unreadable list gives none, and takes none from the others
+-- G4: as they stand, in order; an unreadable list gives none, and takes none from the others
 recipients : recipientsIn (fieldsIn (ascii "Cc: C <c@D>\nTo: a@b, a@c\nBcc: x@y\nTo: b@c,\nREPLY-TO: e@f")) ≡ map ascii ("c@D" ∷ "a@b" ∷ "a@c" ∷ "e@f" ∷ [])
 unfolding header.fieldsOf header.fields header.fieldsWithin inFront header.unfolded header.over header.ofEnding header.opensField run header.rawLength belongs header.closes sameName sameOctets lowered lower openingOf holds runToken quotedToken tokenAt firstToken afterAddress after listedBy listed addresses orElse atom localPart freeEnds label domain plain every onFirst pieces before behind control blank kindOf past afterQuote fieldsIn isKind valuesOf addressesIn recipientsIn
 recipients = refl

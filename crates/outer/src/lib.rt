@@ -1,6 +1,5 @@
-// What the outer block of a message says besides keys: its sender, whether it is a report, and its Date. Its recipients are
-// read by the crate recipients.
-// What is right is said by specs/Outer.antt.
+// What the outer block of a message says besides keys: its sender (U3), whether it is a report (R6), and its Date (D1).
+// Its recipients are read by the crate recipients. What is right is said by specs/Outer.antt.
 //
 // Values are unfolded into a lent text, which has to be as long as the block. What it holds afterwards means nothing.
 ghost use Prim.Native.Nat.{_≤_};
@@ -18,13 +17,13 @@ use fields::Named;
 use fields::Only;
 use fields::Survey;
 
-// The length of the sender's canonical address; or there is not exactly one sender.
+// The length of the sender's canonical address; or there is not exactly one sender (R5).
 pub enum Sender {
     Address(usize),
     NotOne,
 }
 
-// Writes the sender's canonical address to the front of `out`.
+// Writes the sender's canonical address to the front of `out` (U3).
 pub fn sender_of(block: &[u8], survey: Survey, text: &mut [u8], out: &mut [u8]) -> Sender
     requires { ⌜ SurveyAs (now block) survey × (length (now block) ≤ length (now text)) × (addressRoom ≤ length (now out)) ⌝ }
     ensures { λ r. ⌜ r ≡ senderOf (senderIn (fieldsIn (now (block .entry)))) ⌝ }
@@ -48,7 +47,7 @@ pub fn sender_of(block: &[u8], survey: Survey, text: &mut [u8], out: &mut [u8]) 
     }
 }
 
-// Is a Content-Type multipart/report?
+// Is some Content-Type a report? All of them are asked (R6).
 pub fn is_report(block: &[u8], survey: Survey, text: &mut [u8]) -> bool
     requires { ⌜ SurveyAs (now block) survey × (length (now block) ≤ length (now text)) ⌝ }
     ensures { λ r. ⌜ r ≡ isReported (fieldsIn (now (block .entry))) ⌝ }
@@ -70,7 +69,7 @@ pub fn is_report(block: &[u8], survey: Survey, text: &mut [u8]) -> bool
     }
 }
 
-// The Date, where there is exactly one Date field.
+// The Date of the message, which its one Date field has to give (D1).
 pub fn date(block: &[u8], survey: Survey, text: &mut [u8]) -> Dated
     requires { ⌜ SurveyAs (now block) survey × (length (now block) ≤ length (now text)) ⌝ }
     ensures { λ r. ⌜ r ≡ datedOf (saidDate (fieldsIn (now (block .entry)))) ⌝ }

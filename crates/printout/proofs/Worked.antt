@@ -1,5 +1,5 @@
 -- What is printed, worked out by computing it.
---     one-line                  the line of the paper's example
+--     one-line                  the line of an entry that has no gossip half (W8, W9)
 --     free-slot, no-octets      a table that prints nothing, and one that is refused
 -- Assumes nothing.
 use mathlib.Core.Path.{_≡_, refl}

@@ -1,4 +1,4 @@
-// The listing program's text, written into a lent buffer. What it is stands in specs/Printout.antt.
+// The listing program's text, written into a lent buffer (W7 to W10). What it is stands in specs/Printout.antt.
 ghost use Prim.Native.Nat.{_<_, _≤_};
 ghost use mathlib.Core.Path.{_≡_};
 ghost use lib.ListN.{length};
@@ -12,12 +12,14 @@ use heads::Head;
 use slots::Slot;
 use table::Checked;
 
-// The most slots that are listed.
+// W7: the most slots that are listed.
 const MOST: usize = 14;
 
+// W7: how many octets they have; longer input is refused.
 const LONGEST: usize = MOST * Slot::LEN;
 
-// Room that a line never exceeds: an address, five numbers of at most 20 digits, a preference, and an octet behind each.
+// Room that a line never exceeds: an address, five numbers of at most 20 digits, a preference, and an octet behind each of
+// the seven columns.
 const LINE: usize = Slot::ADDRESS_ROOM + 5 * 20 + 6 + 7;
 
 // Room for all that is printed.
@@ -33,7 +35,7 @@ fn put_direct(out: &mut [u8], at: usize, n: Head) -> usize
     columns::put_preference(&mut *out, measured, n.mutual)
 }
 
-// Writes what it says of the gossip half, which ends it.
+// Writes what a line says of the gossip half, and ends the line.
 fn put_gossip(out: &mut [u8], at: usize, n: Head) -> usize
     requires { ⌜ Room (now out) at (gossipPart n) ⌝ }
     ensures { λ r. ⌜ Put (now (out .entry)) (now (out .exit)) at (gossipPart n) r ⌝ }
@@ -42,7 +44,7 @@ fn put_gossip(out: &mut [u8], at: usize, n: Head) -> usize
     columns::put_number(&mut *out, timed, n.gossip_length as u64, b'\n')
 }
 
-// Writes what an entry says behind its address.
+// Writes what a line says behind the address: last seen and the two halves (W8).
 fn put_numbers(out: &mut [u8], at: usize, n: Head) -> usize
     requires { ⌜ Room (now out) at (numbersPart n) ⌝ }
     ensures { λ r. ⌜ Put (now (out .entry)) (now (out .exit)) at (numbersPart n) r ⌝ }
@@ -52,7 +54,7 @@ fn put_numbers(out: &mut [u8], at: usize, n: Head) -> usize
     put_gossip(&mut *out, direct, n)
 }
 
-// Writes the line of a slot, where it is used.
+// Writes the line of a slot, if it is used (W8).
 fn put_slot(t: &[u8], i: usize, out: &mut [u8], at: usize) -> usize
     requires { ⌜ (checked (now t) ≡ Sound) × (i < slotsOf (now t)) × Room (now out) at (slotText (slotAt (now t) i)) ⌝ }
     ensures { λ r. ⌜ Put (now (out .entry)) (now (out .exit)) at (slotText (slotAt (now (t .entry)) i)) r ⌝ }

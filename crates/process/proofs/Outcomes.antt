@@ -1,11 +1,11 @@
 -- What comes with each answer of processing.
 --     sound-first, unsound-first         with a sound table rows 3 to 8 decide, with another one 1 and 2
 --     message-refused, message-fits, message-full     a sound table: which of 3 to 8 it is, or none
---     room-first, room-left              .. by row 8 alone, where 3 to 7 do not hold
---     refused-untouched, done-left       a refusal leaves the table as it was; success leaves the one to which the message was applied
+--     room-first, room-left              it is decided by row 8 alone, where 3 to 7 do not hold
+--     refused-untouched, done-left       a refusal leaves the table as it was (R32); success leaves the one to which the message was applied
 --     done-sound, done-in-order, done-room     success: the table was sound, no row held, and there was room
 --     index-lowest                       the index with 2 is that of the lowest slot that is neither free nor sound
---     processed-keeps, processed-octets  a sound table stays sound, whatever the message
+--     processed-keeps, processed-octets  C4: a sound table stays sound, whatever the message
 --     done-entry                         success: what the entry of any address is afterwards
 -- Assumes nothing.
 use Prim.Native.Nat.{ℕ}

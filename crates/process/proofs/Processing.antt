@@ -1,9 +1,9 @@
 -- Processing: the ways through the code.
 --     gathers .. carried-left           `deliver_carrying`: the roll of the recipients, and what is delivered by it
 --     alone-within, carrying-within     `process_with`: the sender's address stands in lent memory
---     refused-answered, refused-done    .. the message is refused
---     alone-sends .. alone-done         .. it comes alone
---     carrying-readied .. carrying-done .. it carries a payload
+--     refused-answered, refused-done    `process_with`: the message is refused
+--     alone-sends .. alone-done         `process_with`: it comes alone
+--     carrying-readied .. carrying-done    `process_with`: it carries a payload
 --     roomy-short, roomy-long           `process_open`: a text that is as long as the blocks need
 --     opened .. table-left              `process`: rows 1 and 2
 -- Assumes nothing.

@@ -1,4 +1,4 @@
--- Processing a message, of paper 01: refusals 1 to 8 in order, and the table afterwards.
+-- SCOPE, U1 and U2: processing a message. Refusals 1 to 8 in order, and the table afterwards.
 --     processingRows, refusedProcessing       all rows
 --     leftByProcessing                        what the table holds afterwards
 use Prim.Native.Nat.{ℕ}
@@ -13,14 +13,16 @@ use Rattle.message.specs.Message.{messageRows, messageOf}
 use Rattle.delivery.specs.Delivery.{roomRows}
 use Rattle.slots.specs.Slot.{keyLimit}
 
+-- U2: the rows of the table (R1, R2), those of the message (R3, R4, R5, R6, R7), and that of the room (R8), in this order
 unfoldable pub processingRows : List ℕ → ℕ → List ℕ → List ℕ → Gossip → List Row
 processingRows t receipt outer payload g =
     tableRows t ++ (messageRows receipt outer payload g ++ roomRows t (messageOf keyLimit receipt outer payload g))
 
+-- U2, R31: the first of these rows that holds
 unfoldable pub refusedProcessing : List ℕ → ℕ → List ℕ → List ℕ → Gossip → Option Refusal
 refusedProcessing t receipt outer payload g = firstOf (processingRows t receipt outer payload g)
 
--- "A message is applied whole or refused whole."
+-- U2, R32: where none holds the message is taken in full; with a refusal the table stays as it was
 unfoldable pub leftByProcessing : List ℕ → ℕ → List ℕ → List ℕ → Gossip → List ℕ
 leftByProcessing t receipt outer payload g =
     unlessRefused (refusedProcessing t receipt outer payload g) t (applied t (messageOf keyLimit receipt outer payload g))

@@ -1,4 +1,4 @@
--- What is known between the stages of processing. Only the crate's own contracts speak of it.
+-- What is known between the stages of processing (U2). Only the crate's own contracts speak of it.
 --     Roomy       the table is open, and there is room for the values of both blocks
 --     Readied     a message with a payload was read
 use Prim.Native.Nat.{ℕ, _≤_, min}

@@ -1,5 +1,5 @@
-// Processing a message: the table is checked, the message is read, and then it is delivered. Each function below answers what is
-// left to be answered and written of the whole call, which is said by specs/Processing.antt.
+// Processing a message (U1, U2): the table is checked, the message is read, and then it is delivered. Each function below
+// answers what is left to be answered and written of the whole call, which is said by specs/Processing.antt.
 ghost use mathlib.Core.Path.{_≡_};
 ghost use Rattle.refusals.specs.Rows.{firstOf, answerOf};
 ghost use Rattle.slots.specs.Slot.{keyLimit};
@@ -20,10 +20,10 @@ use slots::Slot;
 // than half as long as all else of a short mail.
 const SHORT: usize = 8192;
 
-// The most addresses that a block can have: one takes three octets and what stands between it and the next.
+// The most addresses that a block can have (B1, L6): one takes three octets, and another stands between it and the next.
 const MOST_RECIPIENTS: usize = header::LIMIT / 4;
 
-// Refusal 8 for a message with a payload: gossip counts that is about its recipients.
+// Refusal 8 for a message with a payload (R8): gossip counts that is about its recipients.
 fn deliver_carrying(
     table: &mut [u8],
     tags: &mut [u32; Slot::MOST],
@@ -134,7 +134,28 @@ fn process_open(
     process_with(table, tags, receipt, outer, payload, gossip, &mut text)
 }
 
-// Processes a message: its outer header block, and the header block of its decrypted payload, empty where there is none.
+// Processes a message: brings the table up to date with one received mail (U1). `receipt` is when the mail came in, in
+// seconds since 1970 (T6). `outer` is the mail's header block as it was received: what stands behind its first empty line
+// is not looked at, but counts for the limit of 65,536 octets (B1, B5). `payload` is the header block of the root part
+// inside the decrypted mail, empty where there is none. `gossip` says whether gossip is taken: unset takes it, and with
+// skip the payload is not looked at (G1, G2).
+//
+// Where nothing is refused, the answer is `Done`. The sender then has an entry (U5): last seen is raised to the mail's
+// date, and the key and preference of the field that counts, if there is one, are stored with that date, unless a younger
+// key was there (U6, U7, U8, U9). Each recipient whom accepted gossip is about has an entry with the key from there,
+// unless younger gossip was there (G5, G7). An address that is new takes the free slot with the lowest index (U4). The
+// mail's date is its Date or the receipt time, whichever is smaller (D2).
+//
+// The refusals, in the order of testing (U2):
+//     1, 2   what `check` refuses (R1, R2)
+//     3      the receipt time is above the largest time, 253,402,300,799 (R3)
+//     4      the outer block is unreadable (R4)
+//     5      the outer block has no From field or several, or its one From does not give just one address (R5)
+//     6      some Content-Type of the outer block is a report (R6)
+//     7      gossip is taken, and the payload is unreadable (R7)
+//     8      the message needs more new entries than there are free slots (R8)
+// With a refusal the table stays as it was, octet by octet (R32). Parts of the table that were handed out before end where
+// the answer is `Done` (A11).
 pub fn process(
     table: &mut [u8],
     receipt: u64,

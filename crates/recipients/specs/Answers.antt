@@ -1,4 +1,4 @@
--- The roll of the recipients in lent memory.
+-- SCOPE, G4: the roll of the recipients in lent memory.
 --     Gathers       what the memory has to be
 --     GatheredAs    what it has then: the roll of `recipientsIn` (crate outer), and its index
 use Prim.Native.Nat.{ℕ, _*_, _≤_}
@@ -21,6 +21,7 @@ pub record Gathers (block : List ℕ) (survey : Survey) (text roll tags places :
   pub numbers : length block ≤ 4 * length tags
   pub spots : length block ≤ 4 * length places
 
+-- G4: the roll has the recipients of the outer block, in order
 pub record GatheredAs (block roll tags places : List ℕ) (r : Rolled) : Type 0 where
   pub kept : Kept roll tags places r
   pub list : inRoll r roll ≡ recipientsIn (fieldsIn block)

@@ -1,5 +1,5 @@
-// The recipients of a message: the addresses of its To, Cc and Reply-To fields, made a roll with an index, in which those of
-// gossip are looked for.
+// The recipients of a message (G4): the addresses of its To, Cc and Reply-To fields, made a roll with an index, in which
+// those of gossip are looked for.
 //
 // Values are unfolded into a lent text, which has to be as long as the block. What it holds afterwards means nothing.
 ghost use Rattle.recipients.specs.Answers.{Gathers, GatheredAs};
@@ -8,7 +8,8 @@ use fields::Named;
 use fields::Survey;
 use roll::Rolled;
 
-// Makes the roll of all recipients at the front of `roll`, and its index at that of `tags` and `places`.
+// Makes the roll of all recipients at the front of `roll`, and its index at that of `tags` and `places`. Each field is
+// read by itself, and an unreadable one adds nothing (G4).
 pub fn gather(
     block: &[u8],
     survey: Survey,

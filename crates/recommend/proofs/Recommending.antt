@@ -1,5 +1,5 @@
 -- Recommending: what the code finds out, and what it answers by it.
---     list-none, list-counted           "1 to 100 addresses", as the code counts them
+--     list-none, list-counted           the list (R10), as the code counts its addresses
 --     admits-not, admits-both           what `admit` answers, with the tags of the table
 --     admitted-sound, admitted-list     where no row holds the table is sound, and the list is readable
 --     table-taken                       and open with its tags

@@ -1,4 +1,4 @@
--- Two sound tables that hold the same of every address give the same answers and the same keys, whichever slots these stand in.
+-- C10: two sound tables that hold the same of every address give the same answers and the same keys, whichever slots these stand in.
 --     recommended-alike    what the first call answers
 --     key-alike            the key that the second hands back
 -- Assumes nothing.

@@ -1,6 +1,6 @@
--- "Recommending", of paper 01, with its refusals: what the first call answers, and the key that the second hands back. What is advised and
+-- SCOPE, page A, with refusals 1, 2 and 10: what `recommend` answers, and the key that the call for a target key hands back. What is advised and
 -- which key is a recipient's target key is said by the crate `advice`.
---     mostRecipients, recipientList             "1 to 100 addresses"
+--     mostRecipients, recipientList             a list that is readable and gives 1 to 100 addresses
 --     recommendingRows, refusedRecommending     rows 1, 2 and 10
 --     Admits                                    the answer on them, with the tags of the table where none holds
 --     recommendedOf                             the answer
@@ -27,37 +27,39 @@ use Rattle.advice.specs.declared.Part.{Part}
 use Rattle.recommend.specs.declared.Recommended.{Recommended}
 use Rattle.recommend.specs.declared.Recommended.the-variants.{Done, Refused}
 
--- "1 to 100 addresses"
+-- R10: at most 100 addresses
 abbrev pub mostRecipients : ℕ
 mostRecipients = 100
 
--- "recipient list unreadable, or not 1 to 100 addresses", denied; equal addresses count as often as they stand
+-- R10: the list is readable and gives 1 to 100 addresses, each counted as often as it stands
 unfoldable pub recipientList : Option (List (List ℕ)) → Bool
 recipientList none = false
 recipientList (some list) = oneTo mostRecipients (length list)
 
+-- A1, R10: behind rows 1 and 2, 10 for the list, which is read as it is, not unfolded (L19)
 unfoldable pub recommendingRows : List ℕ → List ℕ → List Row
 recommendingRows table recipients = tableRows table ++ ((Recipients unless recipientList (addresses recipients)) ∷ [])
 
+-- A1, R31: the first of these rows that holds
 unfoldable pub refusedRecommending : List ℕ → List ℕ → Option Refusal
 refusedRecommending table recipients = firstOf (recommendingRows table recipients)
 
--- the tags are handed on where there is nothing to refuse
+-- the answer on these rows; the tags are handed on where there is nothing to refuse
 pub record Admits (table tags recipients : List ℕ) (r : Answer) : Type 0 where
   pub answer : r ≡ answerOf (refusedRecommending table recipients)
   pub opens : r ≡ Admitted → Open table tags
 
--- what the first call answers
+-- A1, A5: what `recommend` answers: a refusal, or the advice for the whole list
 unfoldable pub recommendedOf : List ℕ → List ℕ → Bool → Bool → Recommended
 recommendedOf table recipients isMutual reply =
     answeredBy (refusedRecommending table recipients) Refused (Done (overall (advised table isMutual reply (orElse [] (addresses recipients)))))
 
--- "A second call .. hands back that recipient's target key as a part of the lent table, an empty part without one, past the list or where the
--- first call refuses."
+-- A6, A7: the target key at a place of the list, as a part of the table; an empty part where `recommend` refuses. Neither the advice for the list
+-- (A8) nor preference and reply (A9) change it
 unfoldable pub targetPartOf : List ℕ → List ℕ → ℕ → Part
 targetPartOf table recipients place = unlessRefused (refusedRecommending table recipients) noPart (targetAt table (orElse [] (addresses recipients)) place)
 
--- the key that this part is: that of the entry
+-- A6, A7: the octets of that part: the target key of the entry, and none where the part is empty
 unfoldable pub targetKeyOf : List ℕ → List ℕ → ℕ → List ℕ
 targetKeyOf table recipients place =
     unlessRefused (refusedRecommending table recipients) [] (getD (targets table (orElse [] (addresses recipients))) place [])

@@ -1,5 +1,5 @@
-// Recommending: what is advised for a mail to a list of recipients, and the key to encrypt to for each of them, handed
-// back as a part of the lent table.
+// Recommending (page A): what is advised for a mail to a list of recipients, and the key to encrypt to for each of them,
+// which is a part of the table that was lent.
 ghost use mathlib.Core.Path.{_≡_};
 ghost use lib.ListN.{length};
 ghost use Rattle.addresslist.specs.List.{addresses};
@@ -13,16 +13,16 @@ use refusals::Answer;
 use refusals::Refusal;
 use slots::Slot;
 
-// What is advised for all recipients of a mail; or recommending is refused.
+// What is advised for all recipients of a mail; or the call is refused (A1).
 pub enum Recommended {
     Done(Advice),
     Refused(Refusal),
 }
 
-// "1 to 100 addresses"
+// R10: at most so many addresses.
 const MOST_RECIPIENTS: usize = 100;
 
-// Is the list readable, and are there 1 to 100 addresses in it?
+// Is the list readable, and does it give 1 to 100 addresses (R10)?
 fn is_recipient_list(list: &[u8]) -> bool
     ensures { λ r. ⌜ r ≡ recipientList (addresses (now (list .entry))) ⌝ }
 {
@@ -32,7 +32,8 @@ fn is_recipient_list(list: &[u8]) -> bool
     }
 }
 
-// Are the table and the list such that a recommendation can be given? The tags of the table come with the answer.
+// Refusals 1, 2 and 10: are the table and the list such that a recommendation can be given? The tags of the table come
+// with the answer.
 fn admit(table: &[u8], tags: &mut [u32; Slot::MOST], recipients: &[u8]) -> Answer
     requires { ⌜ length (now tags) ≡ mostSlots ⌝ }
     ensures { λ r. ⌜ Admits (now (table .entry)) (now (tags .exit)) (now (recipients .entry)) r ⌝ }
@@ -48,8 +49,11 @@ fn admit(table: &[u8], tags: &mut [u32; Slot::MOST], recipients: &[u8]) -> Answe
     }
 }
 
-// What is advised for a mail to these recipients: `mutual` is the sender's own preference, `reply` says that the mail
-// replies to an encrypted one.
+// What is advised for a mail to these recipients (A1). `recipients` is a list of 1 to 100 addresses as in a To field, read
+// as it is, so that a line ending in it makes it unreadable (L19). `mutual` is the user's own preference, and `reply` is
+// true for a reply to an encrypted mail. For the whole list the lowest advice of its recipients is answered (A5), from low
+// to high: disable, discourage, available, encrypt. The refusals, in the order of testing: 1 and 2 for the table, as in
+// `check`, and 10 where the list is unreadable, or gives no address or more than 100 (R10). The table is not written.
 pub fn recommend(table: &[u8], recipients: &[u8], mutual: bool, reply: bool) -> Recommended
     ensures { λ r. ⌜ r ≡ recommendedOf (now (table .entry)) (now (recipients .entry)) «mutual» reply ⌝ }
 {
@@ -66,8 +70,11 @@ pub fn recommend(table: &[u8], recipients: &[u8], mutual: bool, reply: bool) -> 
     }
 }
 
-// Where the key of the recipient at a place of the list lies in the table, the first being at 0. The arguments are those of
-// `recommend`; which key it is depends on neither preference nor reply.
+// The key to encrypt to for the recipient at a place of the list, the first being at 0 (A6): where it lies in the table,
+// and how long it is. The arguments are those of `recommend`; which key it is depends on neither preference nor reply
+// (A9), nor on what the whole list gets (A8). Places count addresses in order, those in groups where they stand (A10). The
+// part is empty, with start and length 0, where the recipient has no key, where the place is past the list, and where
+// `recommend` refuses (A7). It is no copy: it means what it meant until the next call that writes the table (A11).
 pub fn target_part(table: &[u8], recipients: &[u8], mutual: bool, reply: bool, place: usize) -> Part
     ensures { λ r. ⌜ r ≡ targetPartOf (now (table .entry)) (now (recipients .entry)) place ⌝ }
 {
@@ -81,7 +88,8 @@ pub fn target_part(table: &[u8], recipients: &[u8], mutual: bool, reply: bool, p
     }
 }
 
-// That key as a part of the lent table.
+// The octets of that key, where they stand in the table (A6): those that `target_part` tells of with the same arguments,
+// and none where its part is empty.
 pub fn target_key<'a>(
     table: &'a [u8],
     recipients: &[u8],

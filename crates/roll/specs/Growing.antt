@@ -1,4 +1,4 @@
--- A roll that grows at the front of lent memory, and its index with it. How far they go says a `Rolled`.
+-- A roll that grows at the front of lent memory (G4, R8), and its index with it. How far they go says a `Rolled`.
 --     inRoll    the addresses of the roll
 --     Kept      the memory has a roll of plain addresses, and its index
 --     Roomy     the memory has room for addresses; a place in it is a number of 16 bits
@@ -37,6 +37,6 @@ pub record Adds (roll tags places : List ℕ) (at : Rolled) (more : List (List �
   pub plainly : every plain more ≡ true
   pub roomy : Roomy (inRoll at roll ++ more) roll tags places
 
--- the memory as it came, and then as it is
+-- the roll is longer by these addresses: roll and `at` are the memory as it came and how far it went, out and r are those afterwards
 pub record Grew (roll : List ℕ) (at : Rolled) (more : List (List ℕ)) (out : List ℕ) (r : Rolled) : Type 0 where
   pub grown : inRoll r out ≡ inRoll at roll ++ more

@@ -1,4 +1,4 @@
--- The index of a roll: for each address its tag and where it begins, so that addresses are looked for among numbers.
+-- The index of a roll: for each address its tag and where it begins, so that addresses are looked for among numbers (G5, R8).
 --     tagsOf        the tags of addresses, each that of the canonical form
 --     placesFrom    where addresses begin that stand in a roll from a place on
 --     addressAt     the address that begins at a place
@@ -12,6 +12,7 @@ use Rattle.tags.specs.Tags.{tagOf}
 use Rattle.address.specs.Address.{canonical}
 use Rattle.roll.specs.Roll.{ender, entry, unrolled}
 
+-- L8: the tag of each address is that of its canonical form, so that addresses that are the same have one tag
 unfoldable pub tagsOf : List (List ℕ) → List ℕ
 tagsOf [] = []
 tagsOf (a ∷ rest) = tagOf (canonical a) ∷ tagsOf rest
@@ -20,7 +21,7 @@ unfoldable pub placesFrom : ℕ → List (List ℕ) → List ℕ
 placesFrom at [] = []
 placesFrom at (a ∷ rest) = at ∷ placesFrom (at + length (entry a)) rest
 
--- up to what ends it
+-- the octets from a place on, up to what ends the address there
 unfoldable pub addressAt : List ℕ → ℕ → List ℕ
 addressAt roll place = take (lengthBefore ender (drop place roll)) (drop place roll)
 

@@ -1,6 +1,6 @@
-// A roll of addresses in lent memory, each ended by an octet that no address has, and its index beside it: of each
-// address the tag of its canonical form, and where it begins. An address is looked for among the tags, many at a time, and
-// compared only where one agrees.
+// A roll of addresses in lent memory, each ended by an octet that no address has, and its index beside it: of each address
+// the tag of its canonical form, and where it begins. The recipients of a message (G4) are kept so, and the addresses that
+// are new with it (R8). An address is looked for among the tags, many at a time, and compared only where one agrees.
 ghost use Prim.Native.Nat.{_+_, _≤_, _<_};
 ghost use mathlib.Core.Path.{_≡_};
 ghost use mathlib.Core.Bool.{true};
@@ -27,7 +27,7 @@ pub struct Rolled {
     pub many: usize,
 }
 
-// The tag of a plain address, by its canonical form.
+// The tag of a plain address, by its canonical form (L8).
 fn tag_of(address: &[u8]) -> u32
     requires { ⌜ plain (now address) ≡ true ⌝ }
     ensures { λ r. ⌜ r ≡ tagOf (canonical (now (address .entry))) ⌝ }
@@ -64,7 +64,7 @@ pub fn add(
     }
 }
 
-// Adds the addresses of a list, none where it is unreadable.
+// Adds the addresses of a list, none where it is unreadable (G4).
 pub fn add_list(
     roll: &mut [u8],
     tags: &mut [u32],

@@ -1,4 +1,4 @@
--- The count of the addresses that are new with a message.
+-- R8: the count of the addresses that are new with a message.
 --     Counts, count-begin .. count-full   the loop over the gossip
 --     first-meets .. first-seated         the sender first
 --     alone-own, alone-free               the sender and no other

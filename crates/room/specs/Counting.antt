@@ -1,4 +1,4 @@
--- What the count of newcomers asks for, and what it knows between two steps. The roll of those that are known to be new is `known`, its index
+-- What the count of newcomers (R8) asks for, and what it knows between two steps. The roll of those that are known to be new is `known`, its index
 -- `numbers` and `spots`; `at` says how far they go.
 --     Reads                     a block that can be read, and a text for its values
 --     Asks                      whether an address is new
@@ -42,6 +42,7 @@ pub record Rolls (t : List ℕ) (free : ℕ) (known numbers spots : List ℕ) (a
   pub wide : length numbers ≡ mostSlots
   pub roomy : length spots ≡ mostSlots
 
+-- what is asked for where one more address is looked at
 pub record Meets (t tags : List ℕ) (free : ℕ) (known numbers spots : List ℕ) (at : Rolled) (a : List ℕ) : Type 0 where
   pub tagged : Tagged t tags
   pub rolls : Rolls t free known numbers spots at
@@ -52,16 +53,18 @@ pub record IsTooMany (t : List ℕ) (old : List (List ℕ)) (a : List ℕ) : Typ
   pub new : isNew t old a ≡ true
   pub full : length old ≡ freeCount t
 
--- by those that were known, the address and the roll as it is then
+-- what comes of an address a, by those that were known to be new before it and by the roll as it is then
 unfoldable pub MetAs : List ℕ → List (List ℕ) → List ℕ → List ℕ → Met → Type 0
 MetAs t old a known (Seated at) = inRoll at known ≡ withNew t old a
 MetAs t old a known Full = IsTooMany t old a
 
+-- the roll as it is then, where there is a slot for the address
 unfoldable pub RollsAs : List ℕ → ℕ → List ℕ → List ℕ → List ℕ → Met → Type 0
 RollsAs t free known numbers spots (Seated at) = Rolls t free known numbers spots at
 RollsAs t free known numbers spots Full = Unit
 
--- a key has at most `limit` octets, for which there is room; the roll is as one that has his slot leaves it
+-- What is asked for where the gossip of a payload is counted: keys have at most `limit` octets, for which there is room, and the roll is as `meet`
+-- leaves it.
 pub record Seats (t tags : List ℕ) (free limit : ℕ) (payload recipients listed places text known numbers spots : List ℕ) (at : Rolled) : Type 0 where
   pub tagged : Tagged t tags
   pub rolls : RollsAs t free known numbers spots (Seated at)

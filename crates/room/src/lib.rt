@@ -1,4 +1,4 @@
-// Whether there is a free slot for each address that is new with a message: asked before anything is written. What is
+// Whether there is a free slot for each address that is new with a message (R8): asked before anything is written. What is
 // right is said by specs/Room.antt.
 ghost use mathlib.Core.Path.{_≡_};
 ghost use mathlib.Core.List.{[], _∷_};
@@ -67,7 +67,8 @@ fn meet(
     Met::Seated(roll::add(known, numbers, spots, at, address))
 }
 
-// Is there one of the free slots for each address that is new with the gossip, beside those that are known already?
+// Is there one of the free slots for each address that is new with the gossip, beside those that are known already to be
+// new?
 fn has_room_for(
     table: &[u8],
     tags: &[u32; Slot::MOST],
@@ -120,7 +121,7 @@ fn has_room_for(
     }
 }
 
-// Is there a free slot for each address that is new with the message, its sender first?
+// Is there a free slot for each address that is new with the message, its sender first (R8)?
 pub fn has_room(
     table: &[u8],
     tags: &[u32; Slot::MOST],
@@ -170,7 +171,7 @@ pub fn has_room(
     }
 }
 
-// Is there a slot for the sender, with whom no other address comes: his own, or a free one?
+// Is there a slot for the sender of a message without gossip: its own entry's, or a free one (R8)?
 pub fn has_room_alone(table: &[u8], tags: &[u32; Slot::MOST], sender: &[u8]) -> bool
     requires { ⌜ Tagged (now table) (now tags) ⌝ }
     ensures { λ r. ⌜ r ≡ roomBeside (now (table .entry)) [] (now (sender .entry) ∷ []) ⌝ }

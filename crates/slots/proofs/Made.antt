@@ -1,4 +1,4 @@
--- The slot of a good entry: it reads back as the entry, and is sound.
+-- The slot of a good entry: it reads back as the entry, and is sound (T8).
 --     entry-back       from a good entry to its slot and back
 --     slot-sound       the slot is sound
 --     slot-long        and has 4,392 octets

@@ -1,4 +1,4 @@
--- What a sound slot satisfies, as facts.
+-- What a sound slot satisfies, as facts (T8).
 --     sound-parts             a slot that the test calls sound has the conditions of `Sound`
 --     marked-not-free         a slot with a mark is not free
 --     unmarked-not-sound      and one without is not sound

@@ -1,6 +1,6 @@
 -- Slots worked out, by computing them.
 --     alice-read      an entry, and what its slot reads back as
---     zero-is-time    "Zero is a real time; only the bits mark absence."
+--     zero-is-time    T6: last seen at the second 0 is there, for its bit says so
 -- Assumes nothing.
 use mathlib.Core.Path.{_≡_, refl}
 use mathlib.Core.Bool.{true}

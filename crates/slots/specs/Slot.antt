@@ -1,8 +1,9 @@
--- "The table" of paper 01: one slot of 4,392 octets, what stands where in it, and when it is free or sound. The numbers of octets 2 to 39 are its head.
+-- SCOPE, page T: one slot of 4,392 octets, what stands where in it, and when it is free or sound. The numbers of octets 2 to 39 are its head, by
+-- the crate heads.
 --     slotLength, addressRoom, keyLimit, mark    the limits and the mark
 --     addressAt .. gossipArea    where the address and the keys stand
 --     addressOf .. gossipKeyOf   the address and the keys
---     free                       "A free slot is all zero."
+--     free                       every octet is zero
 --     marked, canonicalAddress, zeroPadding      the conditions of a sound slot, besides those on its head
 --     sound                      all of them; that the address stands in no lower slot is the table's to say
 use Prim.Native.Nat.{ℕ}
@@ -14,67 +15,71 @@ use Rattle.address.specs.Address.{isCanonical}
 use Rattle.heads.specs.declared.Head.{Head}
 use Rattle.heads.specs.Head.{part, addressLength, directLength, gossipLength, headOf, clear, seenSound, directSound, gossipSound}
 
--- "slots of 4,392 octets"
+-- T1: a slot has 4,392 octets
 abbrev pub slotLength : ℕ
 slotLength = 4392
 
--- "40-295 address"
+-- T3: the address has room for 256 octets
 abbrev pub addressRoom : ℕ
 addressRoom = 256
 
--- "key lengths are 1 to 2,048"
+-- T3, T8.6: a key has room for 2,048 octets, and at most as many
 abbrev pub keyLimit : ℕ
 keyLimit = 2048
 
--- "A two-octet mark opens each slot: 41 31 used"
+-- T4: the two octets that open a used slot, 65 and 49
 abbrev pub mark : List ℕ
 mark = ascii "A1"
 
--- where the three parts of an entry that vary in length begin
+-- T3: where the room for the address begins
 abbrev pub addressAt : ℕ
 addressAt = 40
 
+-- T3: where the room for the direct key begins
 abbrev pub directAt : ℕ
 directAt = 296
 
+-- T3: where the room for the gossip key begins
 abbrev pub gossipAt : ℕ
 gossipAt = 2344
 
--- "40-295 address"
+-- T3: octets 40 to 295, the room for the address
 abbrev pub addressArea : List ℕ → List ℕ
 addressArea s = part 40 295 s
 
--- "296-2343 direct key"
+-- T3: octets 296 to 2343, the room for the direct key
 abbrev pub directArea : List ℕ → List ℕ
 directArea s = part 296 2343 s
 
--- "2344-4391 gossip key"
+-- T3: octets 2344 to 4391, the room for the gossip key
 abbrev pub gossipArea : List ℕ → List ℕ
 gossipArea s = part 2344 4391 s
 
--- the address and the keys: as much of their areas as their lengths say
+-- T8.2, T9: the address is as much of its room as its length says; a length beyond the room gives all of it
 unfoldable pub addressOf : List ℕ → List ℕ
 addressOf s = take (addressLength s) (addressArea s)
 
+-- T3: the direct key is as much of its room as its length says
 unfoldable pub directKeyOf : List ℕ → List ℕ
 directKeyOf s = take (directLength s) (directArea s)
 
+-- T3: the gossip key is as much of its room as its length says
 unfoldable pub gossipKeyOf : List ℕ → List ℕ
 gossipKeyOf s = take (gossipLength s) (gossipArea s)
 
--- "A free slot is all zero."
+-- T4: a slot is free when each of its octets is zero
 unfoldable pub free : List ℕ → Bool
 free s = allZero s
 
--- "A two-octet mark opens each slot: 41 31 used"
+-- T4, T8.1: the slot opens with the mark
 unfoldable pub marked : List ℕ → Bool
 marked s = sameOctets (part 0 1 s) mark
 
--- "its address is canonical"
+-- T8.2, T9: the address is canonical. So no length above 254 is sound: one beyond the room gives all 256 octets of it
 unfoldable pub canonicalAddress : List ℕ → Bool
 canonicalAddress s = isCanonical (addressOf s)
 
--- "bits 4 to 7, octets 5-7 and 36-39 are clear", "everything .. past a length is zero", by the lengths of a head
+-- T8.4, T8.8: the upper bits and the unused octets are zero, and so is each room behind the length that the head gives
 unfoldable pub zeroPadding : Head → List ℕ → Bool
 zeroPadding n s =
     clear s
@@ -82,7 +87,7 @@ zeroPadding n s =
     && allZero (drop (n .«direct_length») (directArea s))
     && allZero (drop (n .«gossip_length») (gossipArea s))
 
--- "A used slot is sound when ..", but for the lower slots
+-- T8, but for the lower slots (T8.3). No condition asks for a bit (T10), and none binds the gossip half to last seen (T11)
 unfoldable pub sound : List ℕ → Bool
 sound s =
     marked s

@@ -1,5 +1,5 @@
-// One slot of the table and the entry that it holds: what stands where, whether it is free or sound, and the writers of
-// slots. A slot is lent as a part of 4,392 octets.
+// One slot of the table and the entry that it holds (page T): what stands where, whether it is free or sound, and the
+// writers of slots. A slot is lent as a part of 4,392 octets.
 ghost use Prim.Native.Nat.{_+_, _≤_, min};
 ghost use mathlib.Core.Path.{_≡_};
 ghost use mathlib.Core.Bool.{true};
@@ -12,29 +12,31 @@ ghost use Rattle.slots.specs.Slot.{slotLength, keyLimit, addressRoom, fr
 ghost use Rattle.slots.specs.Entry.{padded, entryOf, slotOf};
 use heads::Head;
 
-// The layout of a slot: behind the mark and the head of 40 octets the address and the two keys, each in an area of its own.
+// The layout of a slot (T3): behind the mark and the numbers, 40 octets in all, stand the address and the two keys, each
+// in a room of its own.
 pub struct Slot;
 
 impl Slot {
-    // "1 to 256 slots"
+    // T1: a table has at most 256 slots.
     pub const MOST: usize = 256;
 
-    // "A two-octet mark opens each slot: 41 31 used"
+    // T4: what opens a used slot.
     pub const MARK: [u8; 2] = *b"A1";
 
-    // "key lengths are 1 to 2,048"
+    // T3, T8.6: the room for a key, and the most octets that one has.
     pub const KEY_LIMIT: usize = 2048;
 
-    // "40-295 address"
+    // T3: the room for an address.
     pub const ADDRESS_ROOM: usize = 256;
 
-    // The place of each area, from the one before.
+    // T3: where each room begins, by the one before it.
     pub const ADDRESS_AT: usize = Head::LEN;
 
     pub const DIRECT_AT: usize = Self::ADDRESS_AT + Self::ADDRESS_ROOM;
 
     pub const GOSSIP_AT: usize = Self::DIRECT_AT + Self::KEY_LIMIT;
 
+    // T1: how many octets a slot has.
     pub const LEN: usize = Self::GOSSIP_AT + Self::KEY_LIMIT;
 }
 
@@ -44,7 +46,7 @@ fn shorter(a: usize, b: usize) -> usize
     if a < b { a } else { b }
 }
 
-// Is an area of the slot zero past a length?
+// T8.8: is a room of the slot zero behind a length? A length beyond the room leaves nothing to test.
 fn zero_behind(slot: &[u8], at: usize, room: usize, count: usize) -> bool
     requires { ⌜ at + room ≤ length (now slot) ⌝ }
     ensures { λ r. ⌜ r ≡ allZero (drop count (take room (drop at (now (slot .entry))))) ⌝ }
@@ -53,14 +55,14 @@ fn zero_behind(slot: &[u8], at: usize, room: usize, count: usize) -> bool
     octets::is_zero(&slot[at + n..at + room])
 }
 
-// "A free slot is all zero."
+// T4: is every octet zero?
 pub fn is_free(slot: &[u8]) -> bool
     ensures { λ r. ⌜ r ≡ free (now (slot .entry)) ⌝ }
 {
     octets::is_zero(slot)
 }
 
-// "A two-octet mark opens each slot: 41 31 used"
+// T4: does the slot open with the mark?
 pub fn is_marked(slot: &[u8]) -> bool
     requires { ⌜ length (now slot) ≡ slotLength ⌝ }
     ensures { λ r. ⌜ r ≡ marked (now (slot .entry)) ⌝ }
@@ -77,7 +79,7 @@ pub fn head_of(slot: &[u8]) -> Head
     Head::read(&slot[0..Head::LEN])
 }
 
-// The address.
+// The address: as much of its room as its length says, and all of it where the length says more.
 pub fn address_of(slot: &[u8]) -> &[u8]
     requires { ⌜ length (now slot) ≡ slotLength ⌝ }
     ensures { λ r. ⌜ now r ≡ addressOf (now (slot .entry)) ⌝ }
@@ -87,7 +89,7 @@ pub fn address_of(slot: &[u8]) -> &[u8]
     &slot[Slot::ADDRESS_AT..end]
 }
 
-// "its address is canonical"
+// T8.2: is the address canonical?
 fn is_canonical(slot: &[u8]) -> bool
     requires { ⌜ length (now slot) ≡ slotLength ⌝ }
     ensures { λ r. ⌜ r ≡ canonicalAddress (now (slot .entry)) ⌝ }
@@ -95,7 +97,7 @@ fn is_canonical(slot: &[u8]) -> bool
     address::is_canonical(address_of(slot))
 }
 
-// "bits 4 to 7, octets 5-7 and 36-39 are clear", "everything .. past a length is zero": the lengths are those of the head.
+// T8.4, T8.8: is all zero that has to be? The lengths are those of the head.
 fn is_padding_zero(slot: &[u8], n: Head) -> bool
     requires { ⌜ length (now slot) ≡ slotLength ⌝ }
     ensures { λ r. ⌜ r ≡ zeroPadding n (now (slot .entry)) ⌝ }
@@ -106,7 +108,7 @@ fn is_padding_zero(slot: &[u8], n: Head) -> bool
         & zero_behind(slot, Slot::GOSSIP_AT, Slot::KEY_LIMIT, n.gossip_length)
 }
 
-// Is the slot sound, the lower slots apart? Every condition is looked at: nearly every slot that is asked of is sound.
+// T8, but for the lower slots: every condition is looked at, since nearly every slot that is asked about is sound.
 pub fn is_sound(slot: &[u8]) -> bool
     requires { ⌜ length (now slot) ≡ slotLength ⌝ }
     ensures { λ r. ⌜ r ≡ sound (now (slot .entry)) ⌝ }
@@ -128,7 +130,7 @@ fn put_head(slot: &mut [u8], n: Head)
     n.put(&mut slot[0..Head::LEN]);
 }
 
-// Writes a text into an area of the slot, and zeros past it.
+// T8.8: writes a text into its room of the slot, and zeros behind it.
 fn put_padded(slot: &mut [u8], at: usize, room: usize, text: &[u8])
     requires { ⌜ (at + room ≤ length (now slot)) × (length (now text) ≤ room) ⌝ }
     ensures { λ _. ⌜ now (slot .exit) ≡ putAt (now (slot .entry)) at (padded room (now (text .entry))) ⌝ }
@@ -149,7 +151,7 @@ pub fn begin(slot: &mut [u8], address: &[u8])
     octets::put(slot, Slot::ADDRESS_AT, address);
 }
 
-// Raises last seen to the date.
+// Raises last seen to the date; it never falls (U7).
 pub fn raise_seen(slot: &mut [u8], date: u64)
     requires { ⌜ (length (now slot) ≡ slotLength) × (sound (now slot) ≡ true) ⌝ }
     ensures { λ _. ⌜ now (slot .exit) ≡ slotOf (seenBy date (entryOf (now (slot .entry)))) ⌝ }

@@ -1,4 +1,4 @@
--- Refusals 1 and 2, as facts: what the answer of the check says of the table, and back.
+-- R1 and R2, as facts: what the answer of the check says of the table, and back.
 --     by-check                           one of the three answers of the check
 --     checked-broken, broken-checked     the check answers the slot i exactly where it is the lowest broken one
 --     checked-out                        and the length only where it is not that of 1 to 256 whole slots

@@ -1,4 +1,4 @@
--- Refusals 1 and 2, one step at a time.
+-- Refusals 1 and 2 (R1, R2), one step at a time.
 --     judged-on, judged-here           one slot
 --     checked-slots, checked-length    a table of whole slots, and one that is not
 --     whole-few                        it has at most 256 of them

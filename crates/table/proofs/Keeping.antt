@@ -1,7 +1,7 @@
--- A sound table, and that writing a good entry keeps it sound.
+-- A sound table, and that writing a good entry keeps it sound (C4).
 --     table-sound, sound-table    what the check tells, and back
 --     used-sound, unused-free     its used slots are sound and its other slots free
---     alone                   no two slots have one address
+--     alone                   no two slots have one address (T8.3, T15)
 --     others-not              where an address stands, no other slot has it
 --     write-sound             a good entry written where no other slot has its address
 --     write-new, write-own    the two places of that kind: a slot when the address is new, and the address's own
@@ -69,7 +69,7 @@ module _ (t : List ℕ) where
   pub sound-table : SoundTable t → checked t ≡ Sound
   sound-table s = checked-slots t (s .whole-slots) ∙ judged-all 0 (slots t) (λ m a b. s .each m (omega arith))
 
--- "neither free nor sound", denied, of a slot that is not free; and the way back
+-- a slot that is right and not free is sound, with its address in no lower slot; and the way back
 not-free : (f s l : Bool) → (f || s && not l) ≡ true → f ≡ false → (s ≡ true) × (l ≡ false)
 not-free true s l h e = absurd (false≢true (sym e))
 not-free false true true h e = absurd (false≢true h)

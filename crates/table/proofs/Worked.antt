@@ -1,8 +1,8 @@
 -- Tables worked out, by computing them.
---     no-slots, part-slot         "table length isn't 1 to 256 whole slots"
+--     no-slots, part-slot         lengths that are not those of whole slots (R1)
 --     one-free, one-used          sound tables
---     stray-octet                 a slot that is neither free nor sound
---     twice                       an address that stands in a lower slot
+--     stray-octet                 a slot that is neither free nor sound (T4, R2)
+--     twice                       an address that stands in a lower slot (T8.3)
 --     second-found .. one-left    where an address stands, and the free slots
 -- Assumes nothing.
 use Prim.Native.Nat.{ℕ}

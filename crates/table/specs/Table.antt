@@ -1,4 +1,4 @@
--- "The table" of paper 01: 1 to 256 slots, when it is sound, and where an address stands in it.
+-- SCOPE, page T: a table of 1 to 256 slots, when it is sound, and where an address stands in it.
 --     slots, slotAt            its slots: how many, and the one at an index
 --     withSlot                 the table with one slot replaced
 --     unused                   a slot without the mark
@@ -6,8 +6,8 @@
 --     lowest, howMany          the lowest of some slots that pass a test, and how many of them do
 --     found                    where an address stands
 --     lowestFree, freeCount    the free slots
---     inLower                  "in no lower slot", denied
---     right                    "free" or "sound", of a slot in its table
+--     inLower                  an address of a slot that stands in a lower one
+--     right                    a slot that is free or sound, in its table
 --     whole, judged, checked   refusals 1 and 2
 use Prim.Native.Nat.{ℕ, zero, suc, _+_, _*_, _/_, _%_}
 use mathlib.Core.Bool.{Bool, true, false, not, _&&_, _||_}
@@ -22,67 +22,74 @@ use Rattle.table.specs.declared.Checked.the-variants.{Sound, Length, Slo
 use Rattle.table.specs.declared.Found.{Found}
 use Rattle.table.specs.declared.Found.the-variants.{At, Nothing}
 
--- "1 to 256 slots of 4,392 octets"
+-- T1: a table has at most 256 slots
 abbrev pub mostSlots : ℕ
 mostSlots = 256
 
+-- T1: how many whole slots there are
 unfoldable pub slots : List ℕ → ℕ
 slots t = length t / slotLength
 
+-- T1: slots stand one behind the other and count from 0
 unfoldable pub slotAt : List ℕ → ℕ → List ℕ
 slotAt t i = take slotLength (drop (i * slotLength) t)
 
+-- the table with the slot i replaced by s
 unfoldable pub withSlot : List ℕ → ℕ → List ℕ → List ℕ
 withSlot t i s = putAt t (i * slotLength) s
 
--- "41 31 used, 00 00 free": in a sound table a slot without the mark is free
+-- T4: a slot without the mark, which in a sound table is free
 unfoldable pub unused : List ℕ → Bool
 unused s = not (marked s)
 
--- "Addresses are compared in canonical form only.": the slots hold that form
+-- T12, T15: a used slot whose stored address is a, octet by octet; slots hold canonical addresses
 unfoldable pub hasAddress : List ℕ → List ℕ → Bool
 hasAddress a s = marked s && sameOctets (addressOf s) a
 
--- of the k slots from slot i on
+-- the lowest that passes the test, of the k slots from slot i on
 unfoldable pub lowest : (List ℕ → Bool) → List ℕ → ℕ → ℕ → Found
 lowest test t i zero = Nothing
 lowest test t i (suc k) = elim (test (slotAt t i)) [ true ↦ At i | false ↦ lowest test t (i + 1) k ]
 
+-- how many pass the test, of the k slots from slot i on
 unfoldable pub howMany : (List ℕ → Bool) → List ℕ → ℕ → ℕ → ℕ
 howMany test t i zero = 0
 howMany test t i (suc k) = elim (test (slotAt t i)) [ true ↦ 1 + howMany test t (i + 1) k | false ↦ howMany test t (i + 1) k ]
 
+-- T15: where the entry of a canonical address stands, if it has one
 unfoldable pub found : List ℕ → List ℕ → Found
 found t a = lowest (hasAddress a) t 0 (slots t)
 
--- "takes the lowest free slot"
+-- U4: the free slot with the lowest index
 unfoldable pub lowestFree : List ℕ → Found
 lowestFree t = lowest unused t 0 (slots t)
 
--- "more new addresses than free slots"
+-- R8: how many slots are free
 unfoldable pub freeCount : List ℕ → ℕ
 freeCount t = howMany unused t 0 (slots t)
 
+-- whether there is such a slot
 abbrev pub isAt : Found → Bool
 isAt (At i) = true
 isAt Nothing = false
 
--- "in no lower slot": whether the address of slot i stands in one
+-- T8.3: whether the address of slot i stands in a slot with a lower index. A broken one counts too, which makes no difference (T12)
 unfoldable pub inLower : List ℕ → ℕ → Bool
 inLower t i = isAt (lowest (hasAddress (addressOf (slotAt t i))) t 0 i)
 
--- "a slot is neither free nor sound", denied
+-- T4, T8, R2: slot i is free, or it is sound and its address stands in no lower slot
 unfoldable pub right : List ℕ → ℕ → Bool
 right t i = free (slotAt t i) || sound (slotAt t i) && not (inLower t i)
 
--- "1: table length isn't 1 to 256 whole slots", denied
+-- T1, R1: the length is that of 1 to 256 whole slots
 unfoldable pub whole : List ℕ → Bool
 whole t = eqb (length t % slotLength) 0 && leb 1 (slots t) && leb (slots t) mostSlots
 
--- "2: a slot is neither free nor sound; the lowest such index is returned"
+-- R2: the lowest of the k slots from slot i on that is neither free nor sound
 unfoldable pub judged : List ℕ → ℕ → ℕ → Checked
 judged t i zero = Sound
 judged t i (suc k) = elim (right t i) [ true ↦ judged t (i + 1) k | false ↦ Slot i ]
 
+-- R1, R2: what the check finds; the slots are looked at where the length is that of whole slots. A table of zeros is sound (T13)
 unfoldable pub checked : List ℕ → Checked
 checked t = elim (whole t) [ true ↦ judged t 0 (slots t) | false ↦ Length ]

@@ -1,4 +1,4 @@
--- The tags of a table, which whoever opens it keeps beside it: a number of 32 bits for each slot, compared before octets are.
+-- The tags of a table, which whoever opens it keeps beside it: a number of 32 bits for each slot, compared before octets are. No rule speaks of them.
 --     tagAt             that of a slot: the tag of its address; 0 where it is not used
 --     TaggedTo t tags n the tags of the first n slots are there, in room for those of a whole table
 --     Tagged            those of all slots
@@ -15,6 +15,7 @@ use Rattle.tags.specs.Tags.{tagOf}
 use Rattle.table.specs.Table.{mostSlots, slots, slotAt, checked}
 use Rattle.table.specs.declared.Checked.the-variants.{Sound}
 
+-- the tag of slot k: that of its address, and 0 where it is not used
 unfoldable pub tagAt : List ℕ → ℕ → ℕ
 tagAt t k = cond (marked (slotAt t k)) (tagOf (addressOf (slotAt t k))) 0
 

@@ -1,5 +1,5 @@
-// The table of slots: the free slots, what a slot holds, and the one slot that is lent on to a writer. Whether a table is
-// sound, and where an address stands in it, is answered by the crate `lookup`.
+// The table of slots (page T): the free slots, what a slot holds, and the one slot that is lent on to a writer. Whether a
+// table is sound, and where an address stands in it, is answered by the crate `lookup`.
 ghost use Prim.Native.Nat.{_<_, _≤_};
 ghost use mathlib.Core.Path.{_≡_};
 ghost use mathlib.Core.Bool.{true};
@@ -14,7 +14,8 @@ ghost use Rattle.table.specs.Tagged.{Tagged, Begins};
 use heads::Head;
 use slots::Slot;
 
-// Whether a table is one: refusal 1 for its length, 2 with the lowest slot that is neither free nor sound.
+// What the check finds: a sound table; a length that is not that of 1 to 256 whole slots (R1); or the lowest slot that is
+// neither free nor sound (R2).
 pub enum Checked {
     Sound,
     Length,
@@ -27,7 +28,7 @@ pub enum Found {
     Nothing,
 }
 
-// How many whole slots there are.
+// How many whole slots there are (T1).
 pub fn count(table: &[u8]) -> usize
     ensures { λ r. ⌜ r ≡ slotsOf (now (table .entry)) ⌝ }
 {
@@ -43,7 +44,7 @@ pub fn slot_at(table: &[u8], i: usize) -> &[u8]
     &table[at..at + Slot::LEN]
 }
 
-// Is the slot without the mark?
+// Is the slot without the mark? In a sound table it is then free (T4).
 fn is_unused(table: &[u8], i: usize) -> bool
     requires { ⌜ i < slotsOf (now table) ⌝ }
     ensures { λ r. ⌜ r ≡ unused (slotAt (now (table .entry)) i) ⌝ }
@@ -51,7 +52,7 @@ fn is_unused(table: &[u8], i: usize) -> bool
     !slots::is_marked(slot_at(table, i))
 }
 
-// The lowest free slot.
+// The free slot with the lowest index (U4).
 pub fn lowest_free(table: &[u8]) -> Found
     ensures { λ r. ⌜ r ≡ lowestFree (now (table .entry)) ⌝ }
 {
@@ -66,7 +67,7 @@ pub fn lowest_free(table: &[u8]) -> Found
     Found::Nothing
 }
 
-// How many slots are free.
+// How many slots are free (R8).
 pub fn count_free(table: &[u8]) -> usize
     ensures { λ r. ⌜ r ≡ freeCount (now (table .entry)) ⌝ }
 {
@@ -127,7 +128,7 @@ pub fn begin(table: &mut [u8], tags: &mut [u32; Slot::MOST], i: usize, address: 
     slots::begin(&mut table[at..at + Slot::LEN], address);
 }
 
-// Raises last seen of an entry to the date.
+// Raises last seen of an entry to the date; it never falls (U7).
 pub fn raise_seen(table: &mut [u8], i: usize, date: u64)
     requires { ⌜ (i < slotsOf (now table)) × (sound (slotAt (now table) i) ≡ true) ⌝ }
     ensures { λ _. ⌜ now (table .exit) ≡ withSlot (now (table .entry)) i (slotOf (seenBy date (entryOf (slotAt (now (table .entry)) i)))) ⌝ }

@@ -1,7 +1,7 @@
--- The key that was written is the one to encrypt to afterwards.
+-- C9: the key that was written is the one to encrypt to afterwards.
 --     alone-taken       for a list of one plain address, the key handed back is that of its entry
 --     key-handed-out    after a message with a written field, unless a younger direct key was there, the sender's target key is the key of the field
---     gossip-handed-out    after a payload with a written gossip field, unless younger gossip was there, so is that of an address without a direct key
+--     gossip-handed-out    after a payload with a written gossip field, unless younger gossip was there, so is that of an address without a direct half
 -- Assumes nothing.
 use Prim.Native.Nat.{ℕ}
 use mathlib.Core.Path.{_≡_, sym, ap, _∙_}

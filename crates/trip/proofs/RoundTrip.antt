@@ -1,4 +1,4 @@
--- What the writers write is read back.
+-- C6: what the writers write is read back.
 --     reads-alone                                 octets that are read back are alone the only field
 --     written-reads-back                          every field that can be written is read back
 --     autocrypt-reads-back, gossip-reads-back     so is what the two writers leave in front of the output when they answer 0; gossip has no preference

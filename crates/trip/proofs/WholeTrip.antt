@@ -1,6 +1,7 @@
--- Demand 2: what is written is what processing leaves in the table.
+-- C7 and C8: what is written is what processing leaves in the table. No program meets this that leaves the table untouched, or writes at the first
+-- message alone (C12).
 --     direct-read, gossip-read                 a message with a field that is read back, where processing answers 0
---     autocrypt-processed, gossip-processed    so with the fields of the paper
+--     autocrypt-processed, gossip-processed    so with the two fields that can be written (W2, W3)
 --     autocrypt-answered, gossip-answered      and with what the two writers leave in front of the output when they answer 0
 --     left-sound, left-octets                  the table that is left is one that the next call takes
 -- Assumes nothing.
@@ -183,8 +184,8 @@ module _ (t : List ℕ) (receipt : ℕ) (outer payload : List ℕ) (setting : Go
           kept = λ y. sym (ap gossipHalf (held .1)) ∙ gossip-kept message (canonical b) k earlier later brings-gossip last was y;
         }
 
-  -- The fields of the paper. The outer block holds the sender's field and no other that is valid for it; the payload holds a field for a
-  -- listed recipient, and no accepted one for it behind that.
+  -- The two fields that can be written. C7: the outer block holds that of the sender, and no other that is valid for it. C8: the payload holds one
+  -- for a recipient, and behind it no accepted one about the same address.
   pub autocrypt-processed : (a k : List ℕ) (m : Bool) → Writable a k → (h : Holding outer (autocryptField a m k))
       → senderIn (fieldsIn outer) ≡ some (canonical a) → validFields keyLimit (canonical a) (valuesOf Autocrypt (others h)) ≡ []
       → HasDirect (entryIn t (canonical a)) (canonical a) (record { timestamp = date; key = k; «mutual» = m }) (entryIn left (canonical a))

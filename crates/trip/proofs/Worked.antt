@@ -1,4 +1,4 @@
--- The paper's field behind another one, as a text of whole fields. Assumes nothing.
+-- A written field (W2) behind another field, as a text of whole fields. Assumes nothing.
 use mathlib.Core.Path.{refl}
 use mathlib.Core.List.{[], _∷_}
 use native.Mathlib.Omega.{arith}

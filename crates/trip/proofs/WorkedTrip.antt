@@ -1,5 +1,5 @@
--- The round trip with the paper's field: written for A@B.example, mutual, key `foo`, sent from there and processed on one free slot at the time
--- 1000. All premises hold by computing, and so the entry is as the theorem says. Assumes nothing.
+-- C7 and C9, worked out: a field is written for A@B.example, mutual, key `foo`, sent from there and processed on one free slot at the time 1000.
+-- All premises hold by computing, and so the entry is as the theorem says. Assumes nothing.
 --     sound, in-order, room, done        no row holds: the answer is 0
 --     foo-is-there, foo-is-handed-out    the entry afterwards, and the key to encrypt to
 use Prim.Native.Nat.{ℕ, zero, suc}

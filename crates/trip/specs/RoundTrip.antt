@@ -1,4 +1,4 @@
--- The words of demand 2: what can be written, what it is to read it back, and where it stands in a block.
+-- SCOPE, C6: what can be written, what it is to read it back, and where it stands in a block.
 --     Writable          what a field can be written for: a plain address, and a key of 1 to 2,048 octets
 --     Lines s fs        the text s is whole fields, one behind the other, and fs are these
 --     inFrontAll        fields in front of others, where these are readable
@@ -22,23 +22,24 @@ use Rattle.address.specs.Address.{plain, canonical}
 use Rattle.slots.specs.Slot.{keyLimit}
 use Rattle.keyfield.specs.Field.{fieldOf}
 
--- what a field can be written for
+-- R9, R11: what a field can be written for, so that the writers refuse neither address nor key
 pub record Writable (address key : List ℕ) : Type 0 where
   pub plainly : plain address ≡ true
   pub octets : AllOctets key
   pub limit : oneTo keyLimit (length key) ≡ true
 
--- a field is its name, a colon and a value with its line endings
+-- B7, B9: a whole field is its name, a colon and a value with its line endings; it is read with the value unfolded
 pub data Lines : List ℕ → List FieldText → Type 0 where
   none : Lines [] []
   one : (name raw rest : List ℕ) (fs : List FieldText) → runLength Name name ≡ length name → 0 < length name → isRaw raw ≡ true → Lines rest fs
       → Lines (name ++ (octet ":" ∷ (raw ++ rest))) (record { name = name; value = unfolded raw } ∷ fs)
 
+-- fields in front of others, none where the others are unreadable
 unfoldable pub inFrontAll : List FieldText → Option (List FieldText) → Option (List FieldText)
 inFrontAll [] others = others
 inFrontAll (f ∷ fs) others = inFront f (inFrontAll fs others)
 
--- Octets that are read back: among whole fields, and before a text that does not open with space or tab, they are one field, which has this
+-- C6: octets that are read back. Among whole fields, and before a text that does not open with space or tab, they are one field, which has this
 -- name, and its value says this address in canonical form, this preference and this key.
 pub record ReadsBack (name address key : List ℕ) (m : Bool) (octets : List ℕ) : Type 0 where
   pub found : FieldText
@@ -47,7 +48,7 @@ pub record ReadsBack (name address key : List ℕ) (m : Bool) (octets : List ℕ
   pub among : (s : List ℕ) (fs : List FieldText) → Lines s fs → (rest : List ℕ) → belongs Blank (getD rest 0 0) ≡ false
       → fields (s ++ (octets ++ rest)) ≡ inFrontAll fs (inFront found (fields rest))
 
--- whole fields stand in front of them, and what follows does not continue them
+-- C6, C7, C8: whole fields stand in front of the octets, and what follows does not continue them
 pub record Holding (block octets : List ℕ) : Type 0 where
   pub front : List ℕ
   pub before : List FieldText
@@ -57,8 +58,10 @@ pub record Holding (block octets : List ℕ) : Type 0 where
   pub is : block ≡ front ++ (octets ++ rest)
 
 module _ {block octets : List ℕ} (h : Holding block octets) where
+  -- the fields behind the octets
   unfoldable pub behind : List FieldText
   behind = orElse [] (fields (h .rest))
 
+  -- all fields of the block but the octets
   unfoldable pub others : List FieldText
   others = h .before ++ behind

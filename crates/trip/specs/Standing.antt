@@ -1,4 +1,4 @@
--- What demand 2 asks of the entry of an address after a message that brings it a key.
+-- SCOPE, C7 and C8: the entry of an address after a message that brings it a key.
 --     directHalf, gossipHalf    the halves of what a table holds of an address
 --     HasDirect                 its direct half afterwards
 --     HasGossip                 its gossip half afterwards
@@ -14,17 +14,18 @@ use Rattle.heads.specs.Entry.{Direct, Gossip, Entry}
 use Rattle.update.specs.Update.{younger, youngerGossip}
 use Rattle.update.specs.Message.{Gossiped, gossipAddresses}
 
--- no entry has neither half
+-- the direct half of what a table holds of an address; without an entry there is none
 unfoldable pub directHalf : Option Entry → Option Direct
 directHalf none = none
 directHalf (some e) = e .direct
 
+-- the gossip half of what a table holds of an address; without an entry there is none
 unfoldable pub gossipHalf : Option Entry → Option Gossip
 gossipHalf none = none
 gossipHalf (some e) = e .gossip
 
--- "leaves the sender's entry with the canonical address, that key and that preference, unless a younger direct key was there": of what was held
--- before, the address, the half that is brought, and what is held afterwards
+-- C7: the address has an entry, and in it the direct half that is brought; if a younger one was there, that one is kept. `was` is what was held
+-- before, `is` what is held afterwards
 pub record HasDirect (was : Option Entry) (address : List ℕ) (brought : Direct) (is : Option Entry) : Type 0 where
   pub entry : Entry
   pub there : is ≡ some entry
@@ -32,7 +33,7 @@ pub record HasDirect (was : Option Entry) (address : List ℕ) (brought : Direct
   pub set : younger (brought .timestamp) (directHalf was) ≡ false → entry .direct ≡ some brought
   pub kept : younger (brought .timestamp) (directHalf was) ≡ true → entry .direct ≡ directHalf was
 
--- "likewise gossip"
+-- C8: the address has an entry, and in it the gossip half that is brought; if a younger one was there, that one is kept
 pub record HasGossip (was : Option Entry) (address : List ℕ) (brought : Gossip) (is : Option Entry) : Type 0 where
   pub entry : Entry
   pub there : is ≡ some entry
@@ -40,6 +41,6 @@ pub record HasGossip (was : Option Entry) (address : List ℕ) (brought : Gossip
   pub set : youngerGossip (brought .timestamp) (gossipHalf was) ≡ false → entry .gossip ≡ some brought
   pub kept : youngerGossip (brought .timestamp) (gossipHalf was) ≡ true → entry .gossip ≡ gossipHalf was
 
--- "What a message brings an address by gossip is its last accepted field for it.": none of these is about it
+-- C8: none of these accepted fields is about the address
 unfoldable pub noneAbout : List ℕ → List Gossiped → Bool
 noneAbout a gossip = every (λ b. not (sameOctets b a)) (gossipAddresses gossip)

@@ -1,4 +1,4 @@
--- A message applied whole: the table stays sound, and the entry of every address is what the message makes of it.
+-- A message applied whole (U2): the table stays sound (C4), and the entry of every address is what the message makes of it.
 --     gossip-canonical                     the addresses of good gossip are canonical
 --     heard-all-append                     gossip behind gossip
 --     heard-all-sound, heard-all-octets    the gossip of a message

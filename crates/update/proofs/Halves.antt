@@ -1,9 +1,9 @@
--- What a message leaves of an entry, whatever the entry holds.
---     keyless-direct                  "a keyless mail .. only raises last seen": the direct half stays
+-- What a message leaves of an entry, whatever the entry holds. Three of the mistakes that C13 names are excluded by it.
+--     keyless-direct                  U9: a mail without a key clears nothing
 --     updated-gossip                  the sender's part leaves the gossip half
---     heard-seen, heard-direct        gossip fills neither last seen nor the direct half
---     equal-replaces, equal-heard     "An equal date replaces."
---     heard-again                     "What a message brings an address by gossip is its last accepted field for it."
+--     heard-seen, heard-direct        G8: gossip fills neither last seen nor the direct half
+--     equal-replaces, equal-heard     U8, G7: an equal date replaces
+--     heard-again                     G9: of two fields about one address the last stands
 -- Assumes nothing.
 use Prim.Native.Nat.{ℕ}
 use mathlib.Core.Path.{_≡_, refl, sym, ap, _∙_}
@@ -43,7 +43,7 @@ module _ (date : ℕ) (e : Entry) where
   unfolding heard withGossip
   heard-direct key = taking-keeps (λ (x : Entry). x .direct) theGossip (above theGossip) date _ e refl
 
--- "An equal date replaces.", of any half
+-- an equal date replaces, whichever half it is
 equal-stays-not : {A : Type 0} (half : Half A) (x : A) → stays (above half) (some x) (half .timestamp x) none ≡ false
 unfolding stays above
 equal-stays-not half x = le-ltb (half .timestamp x) (half .timestamp x) (omega arith)

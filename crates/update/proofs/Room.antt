@@ -1,4 +1,4 @@
--- Refusal 8: a message that has room finds a slot for each of its addresses, one after the other.
+-- R8: a message that has room finds a slot for each of its addresses, one after the other.
 --     stands-present                who has an entry
 --     put-free-own, put-free-new    the free slots after a change was put
 --     put-found                     who has an entry then

@@ -73,7 +73,7 @@ module _ {A : Type 0} (half : Half A) (order : Order A) (date : ℕ) (brought : 
   unfolding taking
   taking-takes h = rw (taking, h)
 
--- the paper's order asks for the date alone
+-- whether a half stays is asked of the date alone, not of what comes in
 by-date : {A : Type 0} (half : Half A) (old : Option A) (date : ℕ) (brought : Option A) → stays (above half) old date brought ≡ stays (above half) old date none
 unfolding stays above
 by-date half none date brought = refl

@@ -1,4 +1,4 @@
--- What a message brings, apart from how it is read, and what it does to a table: "A message is applied whole or refused whole."
+-- SCOPE, pages U and G, and R8: what a message brings, apart from how it is read, and what it does to a table.
 --     Gossiped, Message     what a message brings
 --     addressesOf           the addresses that it has something about
 --     newcomers, hasRoom    refusal 8
@@ -22,28 +22,29 @@ use Rattle.slots.specs.Entry.{GoodKey}
 use Rattle.table.specs.Table.{found, isAt, freeCount}
 use Rattle.update.specs.Update.{updated, heard, put}
 
--- an accepted gossip field: "Its preference is ignored."
+-- G5, G7: an accepted gossip field: an address and a key; its preference is ignored
 pub record Gossiped : Type 0 where
   pub address : List ℕ
   pub key : List ℕ
 
--- The sender's canonical address, the effective date, the direct half of the counted field, if there is one, whose timestamp is the date, and
--- the accepted gossip in order.
+-- U3, D14, U8, G5: the sender's canonical address, the effective date, which is one for the whole message, the direct half of the counted field, if
+-- there is one, whose timestamp is the date, and the accepted gossip in order
 pub record Message : Type 0 where
   pub sender : List ℕ
   pub date : ℕ
   pub direct : Option Direct
   pub gossip : List Gossiped
 
--- "sender first, then gossip addresses as first accepted"
+-- U4: the addresses of accepted gossip, in order
 unfoldable pub gossipAddresses : List Gossiped → List (List ℕ)
 gossipAddresses [] = []
 gossipAddresses (g ∷ rest) = g .address ∷ gossipAddresses rest
 
+-- U4, U5: the addresses that need an entry, the sender's first
 unfoldable pub addressesOf : Message → List (List ℕ)
 addressesOf m = m .sender ∷ gossipAddresses (m .gossip)
 
--- "new addresses .., each distinct address counted once": those without an entry that are not known yet
+-- R8: the addresses without an entry, each counted once: `known` are those that were counted before
 unfoldable pub newcomers : List ℕ → List (List ℕ) → List (List ℕ) → List (List ℕ)
 newcomers t known [] = []
 newcomers t known (a ∷ rest) =
@@ -52,47 +53,52 @@ newcomers t known (a ∷ rest) =
       | false ↦ a ∷ newcomers t (known ++ (a ∷ [])) rest
     ]
 
--- "8: more new addresses than free slots", denied
+-- R8: there are at least as many free slots as new addresses
 unfoldable pub hasRoom : List ℕ → Message → Bool
 hasRoom t m = leb (length (newcomers t [] (addressesOf m))) (freeCount t)
 
--- "Gossip fields are read in order from the payload." So the last accepted field for an address stands in the end.
+-- G5, G9: accepted gossip is taken field by field in order, so that the last for an address stands in the end; G10: an address takes its slot with
+-- the first
 unfoldable pub heardAll : ℕ → List Gossiped → List ℕ → List ℕ
 heardAll date [] t = t
 heardAll date (g ∷ rest) t = heardAll date rest (put t (g .address) (heard date (g .key)))
 
--- "sender first"
+-- U4, U5: the sender's part comes first, whether or not the mail brings a key, and then the gossip
 unfoldable pub applied : List ℕ → Message → List ℕ
 applied t m = heardAll (m .date) (m .gossip) (put t (m .sender) (updated (m .date) (m .direct)))
 
--- what a change to the entry of address a is to the entry of address b: "A sender or accepted gossip address without an entry takes" one first
+-- U4: what a change to the entry of address a is to the entry of address b: none, unless they are the same; then the entry is begun where there was
+-- none, and changed
 unfoldable pub entryPut : List ℕ → (Entry → Entry) → List ℕ → Option Entry → Option Entry
 entryPut a change b e = elim (sameOctets a b) [ true ↦ some (change (orElse (newcomer a) e)) | false ↦ e ]
 
--- each gossip about the address, in order
+-- G9: what accepted gossip is to the entry of address b, field by field in order
 unfoldable pub entryHeard : ℕ → List Gossiped → List ℕ → Option Entry → Option Entry
 entryHeard date [] b e = e
 entryHeard date (g ∷ rest) b e = entryHeard date rest b (entryPut (g .address) (heard date (g .key)) b e)
 
--- What a message does to the entry of an address, wherever that stands: the sender's part if it is the sender, then the gossip about it. An
--- address that the message has nothing about keeps what it has.
+-- U6, U7, U8, U9, G7, G8: what a message does to the entry of an address, wherever that stands: the sender's part if it is the sender, then the
+-- gossip about it. An address that the message has nothing about keeps what it has
 unfoldable pub entryAfter : Message → List ℕ → Option Entry → Option Entry
 entryAfter m b e = entryHeard (m .date) (m .gossip) b (entryPut (m .sender) (updated (m .date) (m .direct)) b e)
 
--- the direct half of the counted field: "decoding to 1 to 2,048 octets", and the effective date for its timestamp
+-- U8, F10: the direct half of the counted field has a key of 1 to 2,048 octets, and the effective date for its timestamp
 pub record GoodBrought (date : ℕ) (d : Direct) : Type 0 where
   pub dated : d .timestamp ≡ date
   pub key : GoodKey (d .key)
 
+-- G5, F10: accepted gossip has a canonical address, and a key of 1 to 2,048 octets
 pub record GoodGossiped (g : Gossiped) : Type 0 where
   pub canonical : isCanonical (g .address) ≡ true
   pub octets : AllOctets (g .address)
   pub key : GoodKey (g .key)
 
+-- each of these is such gossip
 unfoldable pub GoodGossipeds : List Gossiped → Type 0
 GoodGossipeds [] = Unit
 GoodGossipeds (g ∷ rest) = GoodGossiped g × GoodGossipeds rest
 
+-- what holds of every message that is read from octets: the sender's address is canonical, the date is a time (D2), and what it brings is good
 pub record GoodMessage (m : Message) : Type 0 where
   pub canonical : isCanonical (m .sender) ≡ true
   pub octets : AllOctets (m .sender)

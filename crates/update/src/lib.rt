@@ -1,5 +1,6 @@
-// Where a message is put: the sender's entry and those of the addresses that it has gossip about, each in its own slot
-// or in the lowest free one. What is right is said by specs/Update.antt. The tags that the table was opened with stay its tags.
+// Where a message is put: the sender's entry and those of the addresses that it has gossip about, each in its own slot or
+// in the lowest free one (U4). What is right is said by specs/Update.antt. The tags that the table was opened with stay
+// its tags.
 ghost use Prim.Native.Nat.{_≤_, _<_};
 ghost use mathlib.Core.Path.{_≡_};
 ghost use mathlib.Core.Bool.{true};
@@ -16,7 +17,7 @@ ghost use Rattle.update.specs.Update.{younger, updated, youngerGossip, h
 use slots::Slot;
 use table::Found;
 
-// The slot of an address, begun in the lowest free one where it has none.
+// The slot of an address, begun in the lowest free one where it has none (U4).
 fn place(table: &mut [u8], tags: &mut [u32; Slot::MOST], address: &[u8]) -> Found
     requires { ⌜ Open (now table) (now tags) × (isCanonical (now address) ≡ true) ⌝ }
     ensures { λ r. ⌜ r ≡ found (begun (now (table .entry)) (now (address .entry))) (now (address .entry)) ⌝ }
@@ -35,7 +36,7 @@ fn place(table: &mut [u8], tags: &mut [u32; Slot::MOST], address: &[u8]) -> Foun
     }
 }
 
-// Is there a direct key in the slot that is younger than the date?
+// Is there a direct half in the slot that is younger than the date (U6)?
 fn has_younger(table: &[u8], i: usize, date: u64) -> bool
     requires { ⌜ i < slots (now table) ⌝ }
     ensures { λ r. ⌜ r ≡ younger date (entryOf (slotAt (now (table .entry)) i) .direct) ⌝ }
@@ -44,7 +45,7 @@ fn has_younger(table: &[u8], i: usize, date: u64) -> bool
     entry.direct & (date < entry.timestamp)
 }
 
-// Is there gossip in the slot that is younger than the date?
+// Is there a gossip half in the slot that is younger than the date (G7)?
 fn has_younger_gossip(table: &[u8], i: usize, date: u64) -> bool
     requires { ⌜ i < slots (now table) ⌝ }
     ensures { λ r. ⌜ r ≡ youngerGossip date (entryOf (slotAt (now (table .entry)) i) .gossip) ⌝ }
@@ -53,7 +54,7 @@ fn has_younger_gossip(table: &[u8], i: usize, date: u64) -> bool
     entry.gossip & (date < entry.gossip_timestamp)
 }
 
-// A message of the sender without a field that counts: it only raises last seen.
+// A message of the sender without a field that counts: it only raises last seen (U6, U7, U9).
 pub fn update_keyless(table: &mut [u8], tags: &mut [u32; Slot::MOST], sender: &[u8], date: u64)
     requires { ⌜ Open (now table) (now tags) × (isCanonical (now sender) ≡ true) × (date ≤ timeLimit) ⌝ }
     ensures { λ _. ⌜ now (table .exit) ≡ put (now (table .entry)) (now (sender .entry)) (updated date none) ⌝ }
@@ -69,7 +70,7 @@ pub fn update_keyless(table: &mut [u8], tags: &mut [u32; Slot::MOST], sender: &[
     }
 }
 
-// Raises last seen to the date and sets the direct half: what a field that counts does to an entry.
+// Raises last seen to the date and sets the direct half: what a field that counts does to an entry (U7, U8).
 fn set_field(table: &mut [u8], i: usize, date: u64, key: &[u8], mutual: bool)
     requires { ⌜ (i < slots (now table)) × (sound (slotAt (now table) i) ≡ true) × (date ≤ timeLimit)
         × (1 ≤ length (now key)) × (length (now key) ≤ keyLimit) ⌝ }
@@ -81,7 +82,7 @@ fn set_field(table: &mut [u8], i: usize, date: u64, key: &[u8], mutual: bool)
     table::set_direct(table, i, date, key, mutual);
 }
 
-// A message of the sender with a field that counts.
+// A message of the sender with a field that counts (U6, U7, U8).
 pub fn update_with_key(
     table: &mut [u8],
     tags: &mut [u32; Slot::MOST],
@@ -106,7 +107,7 @@ pub fn update_with_key(
     }
 }
 
-// Gossip about an address.
+// Gossip about an address (G7, G8).
 pub fn hear(table: &mut [u8], tags: &mut [u32; Slot::MOST], address: &[u8], date: u64, key: &[u8])
     requires { ⌜ Open (now table) (now tags) × (isCanonical (now address) ≡ true) × (date ≤ timeLimit)
         × (1 ≤ length (now key)) × (length (now key) ≤ keyLimit) ⌝ }

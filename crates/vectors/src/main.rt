@@ -1,9 +1,9 @@
 // Reads cases from standard input and prints what the crates answer, a case a line: a letter, a blank, and the text.
-//     b TEXT   Base64 to octets, printed in hexadecimal; or spoiled
-//     e TEXT   the octets of the text, written as Base64 lines
-//     k TEXT   the place behind the spaces, tabs and comments that open the text; or unreadable
-//     q TEXT   the place behind the quoted string whose opening quote opens the text; or unreadable
-//     d TEXT   a Date value, in seconds since 1970; or unavailable
+//     b TEXT   Base64 to octets (F9), printed in hexadecimal; or spoiled
+//     e TEXT   the octets of the text, written as Base64 lines (W4)
+//     k TEXT   the place behind the spaces, tabs and comments that open the text (L2); or unreadable
+//     q TEXT   the place behind the quoted string whose opening quote opens the text (L3); or unreadable
+//     d TEXT   a Date value (page D), in seconds since 1970; or unavailable
 // What it must print stands in `stdout`, as the independent program printed it.
 ghost use Prim.Native.Nat.{_≤_};
 ghost use lib.ListN.{length};

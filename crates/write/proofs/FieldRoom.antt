@@ -1,4 +1,4 @@
--- Every field fits in the room that the C header promises.
+-- W6: every field fits in the room that the C header promises.
 --     written-most                       a field whose name has at most 16 octets
 --     autocrypt-fits, gossip-fits        the two fields
 --     autocrypt-roomy, gossip-roomy      so that a writer that is lent so much never answers that it is too short

@@ -1,6 +1,6 @@
 -- What comes with each answer of the writers.
 --     refused-row, done-row      the answer tells whether a row held, and which
---     refused-untouched          a refusal leaves the output as it was
+--     refused-untouched          a refusal leaves the output as it was (R32)
 --     Wrote, done-wrote          success: address and key were in order, and the field stands in front of the rest of the output
 -- Assumes nothing.
 use Prim.Native.Nat.{ℕ, _≤_}

@@ -1,5 +1,5 @@
 -- The two writers: what the tests of the code say of the rows.
---     key-none, key-long, key-good      "1 to 2,048 octets", as the code tests it
+--     key-none, key-long, key-good      the key's length (R11), as the code tests it
 --     field-fits, field-done, field-there    the field has room: what the lower writer answers and leaves
 --     field-long, nothing-there         it has none
 --     the rulesets                      writing and passing, for `write`
