@@ -24,7 +24,7 @@ ROOT = Path(__file__).resolve().parents[2]
 CRATES = sorted(path.name for path in (ROOT / "crates").iterdir() if path.is_dir())
 DOCS = [*sorted((ROOT / "docs").glob("*.md")), ROOT / "README.md", ROOT / "CONTRIBUTING.md"]
 SOURCES = ("crates", "include", "python", "tests", "bench", "tools")
-FOREIGN = {"EmailPolicy", "day-name", "py3-none-PLATFORM"}
+FOREIGN = {"EmailPolicy", "day-name", "py3-none-PLATFORM", "x86_64"}
 
 CRATE = r"(?!crate/)[a-z][a-z0-9]*"
 INSIDE = rf"{CRATE}/(?:specs|proofs|src|must-fail)\b(?:/[\w+.]*\w)*"
