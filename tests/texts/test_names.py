@@ -1,4 +1,4 @@
-"""The documents name only what exists. These forms are read, in docs/ and in the README:
+"""The documents name only what exists. These forms are read, in docs/, in the README and in CONTRIBUTING:
 
     places      crate/specs/File, crate/proofs/File, tests/..: the file or folder is there (`.antt` may be left out)
     parts       `crate/proofs/File: a`; `crate/proofs/File`: `a`, `b`; `a` of `crate/proofs/File`; `a`, `b` (`crate/specs/File`); and
@@ -10,7 +10,8 @@
                 in a table's row that begins with `crate::f` in that one, if no other is named
     words       `like_this`, `like-this`, `likeThis` and `LikeThis` stand in some source, whatever is said around them
     statements  what PROMISES sets out, a declaration or a theorem, stands so in the sources
-    crates      the table of ARCHITECTURE and crates.txt have all crates
+    crates      the list of ARCHITECTURE and crates.txt have all crates; the arrows of its picture are those of crates.txt, but
+                for those that follow from others
 
 Who renames something is told here which sentences speak of it. A word that is no name of this repository is listed in FOREIGN.
 """
@@ -21,9 +22,9 @@ from pathlib import Path
 
 ROOT = Path(__file__).resolve().parents[2]
 CRATES = sorted(path.name for path in (ROOT / "crates").iterdir() if path.is_dir())
-DOCS = [*sorted((ROOT / "docs").glob("*.md")), ROOT / "README.md"]
+DOCS = [*sorted((ROOT / "docs").glob("*.md")), ROOT / "README.md", ROOT / "CONTRIBUTING.md"]
 SOURCES = ("crates", "include", "python", "tests", "bench", "tools")
-FOREIGN = {"EmailPolicy", "day-name", "py3-none-PLATFORM"}
+FOREIGN = {"EmailPolicy", "day-name", "py3-none-PLATFORM", "x86_64"}
 
 CRATE = r"(?!crate/)[a-z][a-z0-9]*"
 INSIDE = rf"{CRATE}/(?:specs|proofs|src|must-fail)\b(?:/[\w+.]*\w)*"
@@ -157,6 +158,30 @@ def statements(text: str) -> list:
     return [(one, bare(one) in bare(source(*public) if one.startswith("pub fn") else source("crates"))) for one in said]
 
 
+def in_list(text: str) -> list:
+    """The crates that ARCHITECTURE lists, each with what it is about."""
+    return re.findall(r"^- `(\w+)`: ", text.split("\n## The crates\n")[1].split("\n## ")[0], re.MULTILINE)
+
+
+def arrows(text: str) -> dict:
+    """The picture of ARCHITECTURE: each crate with those that arrows lead to. In a line of a box two blanks part crates."""
+    boxes = re.findall(r"^\|(.*)\|$", text.split("```text\n")[1].split("```")[0], re.MULTILINE)
+    items = [item.partition(" -> ") for line in boxes for item in re.split("  +", line.strip())]
+    return {crate: set(used.split(", ")) - {""} for crate, _, used in items}
+
+
+def needed(text: str) -> dict:
+    """What crates.txt says of each crate, of the crates here and without what one of the others uses as well."""
+    lines = [line.partition(":") for line in text.splitlines() if not line.startswith("#")]
+    uses = {crate: set(used.split()) & set(CRATES) for crate, _, used in lines}
+
+    @lru_cache(None)
+    def below(crate: str) -> set:
+        return uses[crate].union(*(below(one) for one in uses[crate]))
+
+    return {crate: used - set().union(*(below(one) for one in used)) for crate, used in uses.items()}
+
+
 @lru_cache(None)
 def bare(text: str) -> str:
     """Without layout, which the formatter of the sources chooses."""
@@ -193,13 +218,19 @@ class Names(unittest.TestCase):
         self.hold([("PROMISES.md", *said) for said in statements(text)], 12)
 
     def test_crates(self):
-        table = re.findall(r"^\| `(\w+)` \|", (ROOT / "docs/ARCHITECTURE.md").read_text().split("## ")[0], re.MULTILINE)
-        listed = re.findall(r"^(\w+):", (ROOT / "crates.txt").read_text(), re.MULTILINE)
-        self.assertEqual(sorted(table), CRATES)
-        self.assertEqual(sorted(listed), CRATES)
+        text = (ROOT / "docs/ARCHITECTURE.md").read_text()
+        used = (ROOT / "crates.txt").read_text()
+        self.assertEqual(sorted(in_list(text)), CRATES)
+        self.assertEqual(sorted(re.findall(r"^(\w+):", used, re.MULTILINE)), CRATES)
+        self.assertEqual(arrows(text), needed(used))
 
     def test_rule(self):
         """Each form, with a name that is there, and with others that are not, or not there where it is said to be."""
+        self.assertEqual(in_list("- `no`: x\n\n## The crates\n\n- `slots`: y\n### More\n- `table`: z\n## Other\n- `no`: x\n"), ["slots", "table"])
+        picture = "```text\n+-- a box --+\n|  table -> slots, tags   slots -> octets  |\n|  octets    tags |\n+---+\n```\n|  no -> no |\n"
+        drawn = {"table": {"slots", "tags"}, "slots": {"octets"}, "octets": set(), "tags": set()}
+        self.assertEqual(arrows(picture), drawn)
+        self.assertEqual(needed("# a line\noctets:\ntags:\nslots: octets io\ntable: tags octets slots\n"), drawn)
         row = "| `lookup::check` | it says .. | rules out (must-fail `twice_unseen`) |"
         self.assertEqual(rows(row), [("lookup", "rules out (must-fail `twice_unseen`)")])
         for form, right, *wrong in (
