@@ -174,7 +174,7 @@ class Promises(unittest.TestCase):
             GOOD,
             ("**C1, all**: more.", "**C1, all** more.", "no name: **C1, all** more."),
             ("- By: a theorem.\n", "", "C1, all: not By, Rules out, Must fail"),
-            ("- By: a theorem.\n- Rules out: this; that; and that.", "- Rules out: this; that.\n- By: it.", "C1, all: not By, Rules out, Must fail"),
+            ("- By: a theorem.\n- Rules out: this;", "- Rules out: this; that.\n- By:", "C1, all: not By, Rules out, Must fail"),
             ("- Must fail: none; those of `a::f` do.\n", "", "C1, all: not By, Rules out, Must fail"),
             ("- Rules out: one; another,", "- Rules out: another,", "`a::f`, `g`: not two wrong programs"),
             ("- Rules out: this; that; and that.", "- Rules out: this;.", "C1, all: not two wrong programs"),
