@@ -6,8 +6,8 @@
                 defines the names. `a` of `crate`: it stands in that crate
     functions   `crate::a`, `b`: the crate's sources declare both; `Type::a`: those of a crate with that type have it;
                 `crate`: `a`, `b`: they stand in that crate's sources
-    edits       must-fail `a`, `b`: there are such edits; crate `a`, must-fail crate `a`, (crate, `a`), `a` of `crate`: in that crate, and
-                in a table's row that begins with `crate::f` in that one, if no other is named
+    edits       must-fail `a`, `b`: there are such edits; crate `a`, must-fail crate `a`, (crate, `a`), `a` of `crate`: in that crate. What
+                PROMISES has to say of each is read by test_promises.py
     words       `like_this`, `like-this`, `likeThis` and `LikeThis` stand in some source, whatever is said around them
     statements  what PROMISES sets out, a declaration or a theorem, stands so in the sources
     crates      the list of ARCHITECTURE and crates.txt have all crates; the arrows of its picture are those of crates.txt, but
@@ -125,23 +125,18 @@ def functions(text: str) -> list:
     return found
 
 
-def named_edits(text: str, own: str | None = None) -> list:
-    """The edits that a text names; own is the crate that it speaks of. What stands right before an edit is a crate or `must-fail`."""
+def named_edits(text: str) -> list:
+    """The edits that a text names. What stands right before an edit is a crate or `must-fail`."""
     found = []
     for before, listed, of in re.findall(rf"((?:[a-z][\w'-]*,? ){{0,3}})({LIST})(?: of `(\w+)`)?", text):
         said = [word.rstrip(",").removesuffix("'s") for word in before.split()]
-        crate = of or next((word for word in reversed(said) if word in CRATES), own)
+        crate = of or next((word for word in reversed(said) if word in CRATES), None)
         known = not said or said[-1] in (*CRATES, "must-fail", "edit", "edits", "and")
         for name in names(listed):
             there = with_edit(name)
             if there or "must-fail" in said:
                 found.append((f"{before}{name}", known and (crate in there if crate else there != [])))
     return found
-
-
-def rows(text: str) -> list:
-    """The rows of tables that begin with a function of a crate: the crate, and the last cell."""
-    return re.findall(r"^\| `([a-z0-9]+)::.* \| (.*) \|$", text, re.MULTILINE)
 
 
 def words(text: str) -> list:
@@ -208,7 +203,6 @@ class Names(unittest.TestCase):
 
     def test_edits(self):
         self.read(named_edits, 65)
-        self.hold([(doc.name, *said) for doc in DOCS for crate, cell in rows(doc.read_text()) for said in named_edits(cell, crate)], 45)
 
     def test_words(self):
         self.read(words, 350)
@@ -231,8 +225,6 @@ class Names(unittest.TestCase):
         drawn = {"table": {"slots", "tags"}, "slots": {"octets"}, "octets": set(), "tags": set()}
         self.assertEqual(arrows(picture), drawn)
         self.assertEqual(needed("# a line\noctets:\ntags:\nslots: octets io\ntable: tags octets slots\n"), drawn)
-        row = "| `lookup::check` | it says .. | rules out (must-fail `twice_unseen`) |"
-        self.assertEqual(rows(row), [("lookup", "rules out (must-fail `twice_unseen`)")])
         for form, right, *wrong in (
             (places, "see `table/specs/Table`", "see `table/specs/Tables`", "see tables/specs/Table", "tests/texts/test_name.py"),
             (parts, "`table/specs/Table: whole`", "`table/specs/Table: hole`", "`slots/specs/Slot: whole`"),
@@ -246,7 +238,6 @@ class Names(unittest.TestCase):
             (functions, "`tokens`: `comment` and `content`", "`tokens`: `comment` and `contents`"),
             (named_edits, "(must-fail `twice_unseen`)", "(must-fail `twice_seen`)", "(must-fail slots `twice_unseen`)"),
             (named_edits, "lookup `twice_unseen`", "slots `twice_unseen`", "lookups `twice_unseen`", "(slots, `twice_unseen`)"),
-            (lambda text: named_edits(text, "lookup"), "(`twice_unseen`)", "(slots, `twice_unseen`)", "(`padding_unseen`)"),
             (words, "`has_room`, `applied-entry`, `hasRoom`, `HasDirect`", "`has_rooms`", "`applied-entries`", "`hasRooms`", "`HasDirects`"),
             (statements, "    pub fn number(refusal: Refusal) -> u32", "    pub fn number(refusal: Refusal) -> u64"),
         ):
