@@ -34,10 +34,27 @@ KINDS = ["means", "code", "proved", "see", "tests"]
 ELSEWHERE = {"B14": "tests/differential"}
 
 # Files of definitions that no rule is about: words of lists and memory, and what functions of the code ask for and answer.
-VOCABULARY = {}
+VOCABULARY = {
+    "date/Answers": "answers of the code for a Date, and back",
+    "datewords/Answers": "answers of the code for a token, and back",
+    "keyfield/Answers": "places of a value, for what stands between them",
+    "octets/Finding": "the first place of an octet",
+    "octets/Options": "what may be absent, and lists",
+    "octets/Tests": "tests of every element",
+    "octets/Written": "memory that is written over",
+    "table/Tagged": "tags travel beside a table, and no caller sees them",
+    "tags/Tags": "a tag is compared before addresses are, and no caller sees it",
+}
 
-CITED = re.compile(r"(?<![\w.+/-])([TBLDFUGAWRC][1-9]\d?(?:\.\d+)?)(?![\w/+]|\.\d)")
-IN_NAME = re.compile(r"_([TBLDFUGAWRC][1-9]\d?)(?=_|$)")
+PAGES = "".join(re.findall(r"^## ([A-Z])\. ", SCOPE, re.MULTILINE))
+CITED = re.compile(rf"(?<![\w.+/-])([{PAGES}][1-9]\d?(?:\.\d+)?)(?![\w/+]|\.\d)")
+IN_NAME = re.compile(rf"_([{PAGES}][1-9]\d?)(?=_|$)")
+
+# A small document of each kind, for the tests of what is asked here, and the rules that it has.
+RULES = {"T1": 2, "T3": 0, "R1": 0, "R31": 0}
+A_SCOPE = "## T. T\n\n**T1** A.\n\n1. one\n2. two\n\n**T2** Dropped.\n\n**T3** B.\n\n## R. R\n\n**R1** C.\n\n**R31** D.\n\n## Words\n"
+A_BLOCK = "- means: a/B: `c`,\n  `d`\n- code: `e::f`\n- tests: tests/g.py,\n  tests/h.py\n\n"
+A_TRACE = f"# A\n\n- `means`\n\n## T. T\n\n**T1** one\n{A_BLOCK}**T3** three\n{A_BLOCK}## R. R\n\n**R1** r\n{A_BLOCK}**R31** s\n- see: T1\n"
 
 
 # What there is.
@@ -94,7 +111,7 @@ def tracing(trace: str, rules: list) -> list:
         wrong.append("the order is another")
     for _, rule, text in sections(trace):
         title, *lines = text.split("\n")
-        kinds = [line.partition(":")[0].removeprefix("- ") for line in lines if not line.startswith("  ")]
+        kinds = [re.sub(r"^- (\w+): \S.*", r"\1", line) for line in lines if not line.startswith("  ")]
         if not title or kinds != [kind for kind in KINDS if kind in kinds]:
             wrong.append(f"{rule} has another form")
     return wrong
@@ -131,7 +148,7 @@ def in_tests(source: str) -> dict:
 
 
 def in_python(source: str) -> set:
-    documented = (ast.Module, ast.ClassDef, ast.FunctionDef)
+    documented = (ast.Module, ast.ClassDef, ast.FunctionDef, ast.AsyncFunctionDef)
     texts = [ast.get_docstring(node) or "" for node in ast.walk(ast.parse(source)) if isinstance(node, documented)]
     text = outside_code("\n".join([*comments(source).values(), *texts]))
     return set(CITED.findall(text)).union(*in_tests(source).values())
@@ -142,10 +159,9 @@ def cited(name: str, text: str) -> set:
     suffix = Path(name).suffix
     if suffix == ".py" or text.startswith("#!/usr/bin/env python"):
         return in_python(text)
-    patterns = {".antt": r"--.*", ".rt": r"//.*", ".h": r"/\*.*?\*/|//[^\n]*", ".c": r"/\*.*?\*/|//[^\n]*", ".md": r".+", "": r"(?:^|\s)#[^\n]*"}
-    flags = re.DOTALL if suffix in (".h", ".c", ".md") else re.MULTILINE
-    found = re.findall(patterns[suffix], text, flags) if suffix in patterns else []
-    return set(CITED.findall(outside_code("\n".join(found))))
+    in_c = r"(?s)/\*.*?\*/|//[^\n]*"
+    patterns = {".antt": r"--.*", ".rt": r"//.*", ".h": in_c, ".c": in_c, ".md": r"(?s).+", "": r"(?m)(?:^|\s)#.*"}
+    return set(CITED.findall(outside_code("\n".join(re.findall(patterns[suffix], text)))))
 
 
 def unknown(names: set, rules: dict) -> list:
@@ -164,7 +180,7 @@ def files() -> list:
     kinds = (".antt", ".rt", ".py", ".h", ".c", ".md", "")
     data = re.compile(r"/(messages|__pycache__|build)/")
     found = [path for path in found if path.is_file() and path.suffix in kinds and path != Path(__file__)]
-    named = ["README.md", *(str(path.relative_to(ROOT)) for path in found)]
+    named = [str(path.relative_to(ROOT)) for path in [*sorted(ROOT.glob("*.md")), *found]]
     return [file for file in named if not data.search(file)]
 
 
@@ -212,44 +228,40 @@ class Rules(unittest.TestCase):
         self.assertEqual([rule for rule, folder in ELSEWHERE.items() if rule not in of(folder)], [])
 
     def test_tests_of_trace(self):
-        named_tests = [(rule, file) for rule, listed in tests_in_trace(TRACE).items() for file in listed if file.startswith(INDEPENDENT)]
-        self.assertGreater(len(named_tests), 150)
-        wrong = [(rule, file) for rule, file in named_tests if rule not in {name.partition(".")[0] for name in cited_by(file)}]
-        self.assertEqual(wrong, [])
+        said = [(rule, file) for rule, listed in tests_in_trace(TRACE).items() for file in listed if file.startswith(INDEPENDENT)]
+        self.assertEqual([(rule, file) for rule, file in said if rule not in {name.partition(".")[0] for name in cited_by(file)}], [])
+        self.assertGreater(len(said), 150)
 
-    def test_rule(self):
-        """Each of these on texts that are right, and on others that are refused."""
-        scope = "## T. T\n\n**T1** A.\n\n1. one\n2. two\n\n**T2** Dropped.\n\n**T3** B (T1.2).\n\n## R. R\n\n**R1** C.\n\n**R31** D.\n\n## Words\n\n**T9**\n"
-        rules = {"T1": 2, "T3": 0, "R1": 0, "R31": 0}
-        scope = scope.replace("\n\n**T9**", "")
-        self.assertEqual(in_force(scope), rules)
-        self.assertEqual(numbering(scope), [])
+    def test_rule_of_numbers(self):
+        self.assertEqual(in_force(A_SCOPE), RULES)
+        self.assertEqual(numbering(A_SCOPE), [])
         for old, new in (
-            ("**T2** Dropped.\n\n", ""), ("**T3**", "**T4**"), ("**T3**", "**T2**"), ("**T3**", "**B3**"), ("**R31**", "**R32**"), ("**R31**", "**T31**"),
-            ("**T2** Dropped.", "**T2**"), ("**T1**", "**T0**"), ("**R1**", "**R2**"), ("## R. R", "## B. B"),
+            ("**T2** Dropped.\n\n", ""), ("**T2** Dropped.", "**T2**"), ("**T1**", "**T0**"), ("**T3**", "**T4**"), ("**T3**", "**T2**"),
+            ("**T3**", "**B3**"), ("**R1**", "**R2**"), ("**R31**", "**R32**"), ("**R31**", "**T31**"), ("## R. R", "## B. B"),
+            ("## Words\n", "## Words\n\n**R32** E.\n"),
         ):
-            self.assertIn(old, scope)
-            self.assertTrue(numbering(scope.replace(old, new)), (old, new))
-        many = "## R. R\n\n" + "".join(f"**R{number}** A.\n\n" for number in range(1, 31))
-        self.assertEqual(numbering(many.replace("**R30** A.\n\n", "**R31** A.\n\n")), [])
-        self.assertTrue(numbering(many))
+            self.assertIn(old, A_SCOPE)
+            self.assertTrue(numbering(A_SCOPE.replace(old, new)), (old, new))
+        many = "## R. R\n\n" + "".join(f"**R{number}** A.\n\n" for number in range(1, COMMON))
+        self.assertEqual(numbering(many), [f"R{COMMON - 1} is kept free"])
+        self.assertEqual(numbering(many.replace(f"R{COMMON - 1}", f"R{COMMON}")), [])
 
-        block = "- means: a/B: `c`,\n  `d`\n- code: `e::f`\n- tests: tests/g.py,\n  tests/h.py\n\n"
-        trace = f"# A\n\n- `means`\n\n## T. T\n\n**T1** one\n{block}**T3** three\n{block}## R. R\n\n**R1** r\n{block}**R31** s\n- see: T1\n"
-        self.assertEqual(tracing(trace, list(rules)), [])
-        self.assertEqual(tests_in_trace(trace), {rule: ["tests/g.py", "tests/h.py"] for rule in ("T1", "T3", "R1")})
+    def test_rule_of_trace(self):
+        self.assertEqual(tracing(A_TRACE, list(RULES)), [])
+        self.assertEqual(tests_in_trace(A_TRACE), {rule: ["tests/g.py", "tests/h.py"] for rule in ("T1", "T3", "R1")})
         for old, new in (
             ("**T3**", "**T2**"), ("**T3**", "**T1**"), ("**T1** one", "**T3** one"), ("**R31** s\n- see: T1\n", ""), ("## R. R", "## B. B"),
-            ("**T1** one", "**T1**"), ("- code", "- codes"), ("- code", "- tests"), ("- means", "- proved"), ("- see", "see"),
-            ("**T3** three", "**T3** three\n\nMore."), ("**T1** one\n", "**T1** one\n\n"),
+            ("**T1** one", "**T1**"), ("**T1** one\n", "**T1** one\n\n"), ("**T3** three", "**T3** three\n\nMore."), ("- code", "- codes"),
+            ("- code", "- tests"), ("- means", "- proved"), ("- see:", "see:"), ("- see: T1", "- see:"),
         ):
-            self.assertIn(old, trace)
-            self.assertTrue(tracing(trace.replace(old, new), list(rules)), (old, new))
-        swapped = trace.replace("**T1** one", "**T0** one").replace("**T3** three", "**T1** three").replace("**T0** one", "**T3** one")
-        self.assertEqual(tracing(swapped, list(rules)), ["the order is another"])
+            self.assertIn(old, A_TRACE)
+            self.assertTrue(tracing(A_TRACE.replace(old, new), list(RULES)), (old, new))
+        swapped = A_TRACE.replace("**T1** one", "**T0** one").replace("**T3**", "**T1**").replace("**T0**", "**T3**")
+        self.assertEqual(tracing(swapped, list(RULES)), ["the order is another"])
 
-        self.assertEqual(unknown({"T1", "T1.2", "R31"}, rules), [])
-        self.assertEqual(unknown({"T2", "T1.3", "T1.0", "T3.1", "R2", "C1"}, rules), ["C1", "R2", "T1.0", "T1.3", "T2", "T3.1"])
+    def test_rule_of_citations(self):
+        self.assertEqual(unknown({"T1", "T1.2", "R31"}, RULES), [])
+        self.assertEqual(unknown({"T2", "T1.3", "T1.0", "T3.1", "R2", "C1"}, RULES), ["C1", "R2", "T1.0", "T1.3", "T2", "T3.1"])
         python = "'''D2 `D3`'''\ndef test_a_T3_B1(self):\n    # T8.2: b, noqa: F401\n    C9 = b'D1'\n\n\ndef other_D4(self):\n    '''D5'''\n"
         self.assertEqual(in_tests(python), {"test_a_T3_B1": {"T3", "B1", "T8.2"}})
         for name, text, ids in (
@@ -258,7 +270,7 @@ class Rules(unittest.TestCase):
             ("a.antt", "-- T7, T8.2: a (L1 to L3), `A1`\nB1 : C\nb = 2 -- R5.\n", {"T7", "T8.2", "L1", "L3", "R5"}),
             ("a.rt", "/// T7: a.\nlet mark = b\"A1\"; // (T4)\n", {"T7", "T4"}),
             ("a.c", "/* T7 and\n * L2 */ int A1; // D3\n", {"T7", "L2", "D3"}),
-            ("a.md", "**T1** a, **C1: b.** `L1`\n```\nD1\n```\n(G1), U2-U3 \"A5\"", {"T1", "C1", "G1", "U2", "U3", "A5"}),
+            ("a.md", "**T1** a, **C1: b.** `L1`\n```\nD1\n```\n(G1), U2 to U3 \"A5\"", {"T1", "C1", "G1", "U2", "U3", "A5"}),
             ("run", "#!/usr/bin/env bash\n# B2: a\necho B3 # B4\n", {"B2", "B4"}),
             ("a.md", "F401 T8.2.3 C/A1 UTF-A1 A1x xA1 A01 A0 B123 2.B1 K1 c11", set()),
         ):
