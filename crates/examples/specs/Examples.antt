@@ -86,37 +86,37 @@ answered (gapOf n) = advises (adviceFor false false (some (seenAfter n)))
 
 -- a question, and the answer that C14 gives
 pub data Example : Type 0 where
-  _is_ : Question → Answer → Example
+  _gives_ : Question → Answer → Example
 
-infix 20 _is_
+infix 20 _gives_
 -- the question of an example
 unfoldable pub asked : Example → Question
-asked (q is a) = q
+asked (q gives a) = q
 
 -- the answer that it gives
 unfoldable pub expected : Example → Answer
-expected (q is a) = a
+expected (q gives a) = a
 
 -- C14: the table of examples
 unfoldable pub examples : List Example
 examples =
     -- D13: a Date in UTC, one before 1970, and one with a west offset; D8: a day that its month does not have
-    (dateText "1 Jan 1970 00:00:00 +0000" is seconds 0)
-    ∷ (dateText "1 Jan 1970 00:30 +0100" is seconds 0)
-    ∷ (dateText "1 Mar 2000 00:00:00 -0100" is seconds 951872400)
-    ∷ (dateText "29 Feb 1900 00:00 GMT" is unavailable)
+    (dateText "1 Jan 1970 00:00:00 +0000" gives seconds 0)
+    ∷ (dateText "1 Jan 1970 00:30 +0100" gives seconds 0)
+    ∷ (dateText "1 Mar 2000 00:00:00 -0100" gives seconds 951872400)
+    ∷ (dateText "29 Feb 1900 00:00 GMT" gives unavailable)
     -- F9: key data that is right, unused bits that are not zero, padding that is missing
-    ∷ (keyData "Zg==" is theKey (ascii "f"))
-    ∷ (keyData "Zh==" is spoiled)
-    ∷ (keyData "Zg" is spoiled)
+    ∷ (keyData "Zg==" gives theKey (ascii "f"))
+    ∷ (keyData "Zh==" gives spoiled)
+    ∷ (keyData "Zg" gives spoiled)
     -- F12, F13: a field of the sender; F5: with an unknown attribute, and with an ignored one; F3, F8: with a `;` at the end
-    ∷ (fieldFrom "A@B.example" "addr=a@b.example; keydata=Zm9v" is counts)
-    ∷ (fieldFrom "A@B.example" "addr=a@b.example; type=1; keydata=Zm9v" is doesNotCount)
-    ∷ (fieldFrom "A@B.example" "addr=a@b.example; _type=1; keydata=Zm9v" is counts)
-    ∷ (fieldFrom "A@B.example" "addr=a@b.example; keydata=Zm9v;" is doesNotCount)
+    ∷ (fieldFrom "A@B.example" "addr=a@b.example; keydata=Zm9v" gives counts)
+    ∷ (fieldFrom "A@B.example" "addr=a@b.example; type=1; keydata=Zm9v" gives doesNotCount)
+    ∷ (fieldFrom "A@B.example" "addr=a@b.example; _type=1; keydata=Zm9v" gives counts)
+    ∷ (fieldFrom "A@B.example" "addr=a@b.example; keydata=Zm9v;" gives doesNotCount)
     -- A3: a gap of 35 days, and of one second more
-    ∷ (gapOf 3024000 is advises Available)
-    ∷ (gapOf 3024001 is advises Discourage)
+    ∷ (gapOf 3024000 gives advises Available)
+    ∷ (gapOf 3024001 gives advises Discourage)
     ∷ []
 
 -- C14: the definitions answer each example as it says

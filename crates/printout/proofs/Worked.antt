@@ -15,16 +15,16 @@ use Rattle.table.specs.Table.{slots, slotAt, right, whole, judged, checked}
 use Rattle.columns.specs.Columns.{lastDigits, decimal, timeText, preferenceText}
 use Rattle.printout.specs.Printout.{line, lineOf, slotText, linesFrom, listing, printed}
 
-abbrev alice : Entry
-alice =
+abbrev bob : Entry
+bob =
     record {
-      address = ascii "alice@a.example";
-      lastSeen = some 1000;
+      address = ascii "bob@b.example";
+      lastSeen = some 2000;
       direct = some (record { timestamp = 1000; key = 1 ∷ 2 ∷ 3 ∷ []; «mutual» = true });
       gossip = none;
     }
 
-one-line : lineOf alice ≡ ascii "alice@a.example 1000 1000 3 mutual - 0\n"
+one-line : lineOf bob ≡ ascii "bob@b.example 2000 1000 3 mutual - 0\n"
 unfolding lineOf line timeText preferenceText decimal lastDigits orElse
 one-line = refl
 

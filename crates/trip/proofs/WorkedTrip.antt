@@ -1,4 +1,4 @@
--- C7 and C9, worked out: a field is written for A@B.example, mutual, key `foo`, sent from there and processed on one free slot at the time 1000.
+-- C7 and C9, worked out: a field is written for Bob@B.example, mutual, key `foo`, sent from there and processed on one free slot at the time 1000.
 -- All premises hold by computing, and so the entry is as the theorem says. Assumes nothing.
 --     sound, in-order, room, done        no row holds: the answer is 0
 --     foo-is-there, foo-is-handed-out    the entry afterwards, and the key to encrypt to
@@ -69,13 +69,13 @@ abbrev pub free : List ℕ
 free = replicate 4392 0
 
 abbrev address-given : List ℕ
-address-given = ascii "A@B.example"
+address-given = ascii "Bob@B.example"
 
 abbrev front : List ℕ
-front = ascii "From: A@B.example\r\n"
+front = ascii "From: Bob@B.example\r\n"
 
 abbrev outer : List ℕ
-outer = ascii "From: A@B.example\r\nAutocrypt: addr=a@b.example; prefer-encrypt=mutual; keydata=\r\n Zm9v\r\n"
+outer = ascii "From: Bob@B.example\r\nAutocrypt: addr=bob@b.example; prefer-encrypt=mutual; keydata=\r\n Zm9v\r\n"
 
 writable : Writable address-given (ascii "foo")
 unfolding address.plain address.localPart address.atom address.domain address.label address.freeEnds every pieces.onFirst pieces.pieces pieces.before pieces.behind runs.belongs blank
@@ -86,8 +86,8 @@ unfolding autocryptField writer.written writer.fieldText writer.preference addre
 holding =
     record {
       front = front;
-      before = record { name = ascii "From"; value = ascii " A@B.example" } ∷ [];
-      whole-fields = one (ascii "From") (ascii " A@B.example\r\n") [] [] refl (omega arith) refl no-lines;
+      before = record { name = ascii "From"; value = ascii " Bob@B.example" } ∷ [];
+      whole-fields = one (ascii "From") (ascii " Bob@B.example\r\n") [] [] refl (omega arith) refl no-lines;
       rest = [];
       no-continuation = refl;
       is = refl;
@@ -101,11 +101,11 @@ in-order : firstOf (messageRows 1000 outer [] Unset) ≡ none
 unfolding isSome octets.sameOctets octets.sameName octets.lowered octets.lower header.fieldsOf header.fields header.fieldsWithin inFront header.unfolded header.over header.ofEnding header.opensField runs.run header.rawLength runs.belongs header.closes header.isReport list.openingOf holds list.runToken list.quotedToken list.tokenAt list.firstToken grammar.afterAddress grammar.after list.listedBy list.listed list.addresses onlyOne orElse address.plain address.localPart address.atom address.domain address.label address.freeEnds address.canonical every pieces.onFirst pieces.pieces pieces.before pieces.behind blank tokens.past tokens.kindOf tokens.control tokens.afterQuote fields.fieldsIn fields.isKind fields.valuesOf outer-specs.canonicalOf outer-specs.senderBy outer-specs.senderIn outer-specs.anyReport outer-specs.isReported settings.taken messageRows firstOf
 in-order = refl
 
-sender-is : outer-specs.senderIn (fields.fieldsIn outer) ≡ some (ascii "a@b.example")
+sender-is : outer-specs.senderIn (fields.fieldsIn outer) ≡ some (ascii "bob@b.example")
 unfolding octets.sameOctets octets.sameName octets.lowered octets.lower header.fieldsOf header.fields header.fieldsWithin inFront header.unfolded header.over header.ofEnding header.opensField runs.run header.rawLength runs.belongs header.closes header.isReport list.openingOf holds list.runToken list.quotedToken list.tokenAt list.firstToken grammar.afterAddress grammar.after list.listedBy list.listed list.addresses onlyOne orElse address.plain address.localPart address.atom address.domain address.label address.freeEnds address.canonical every pieces.onFirst pieces.pieces pieces.before pieces.behind blank tokens.past tokens.kindOf tokens.control tokens.afterQuote fields.fieldsIn fields.isKind fields.valuesOf outer-specs.canonicalOf outer-specs.senderBy outer-specs.senderIn outer-specs.anyReport outer-specs.isReported
 sender-is = refl
 
-room-for : brought.hasRoom free (message.messageBy keyLimit 1000 (ascii "a@b.example") (fields.fieldsIn outer) []) ≡ true
+room-for : brought.hasRoom free (message.messageBy keyLimit 1000 (ascii "bob@b.example") (fields.fieldsIn outer) []) ≡ true
 unfolding brought.hasRoom brought.newcomers brought.addressesOf brought.gossipAddresses message.messageBy keyfield.chosen keys.accepted keys.gossipIn fields.valuesOf table.found table.lowest table.hasAddress table.freeCount table.howMany table.unused table.slots table.slotAt slots.marked slots.addressOf number octets.sameOctets list.among
 room-for = refl
 
@@ -116,7 +116,7 @@ room = rw sender-is room-for
 done : answerOf (refusedProcessing free 1000 outer [] Unset) ≡ Done
 done = done-is Refused Done (refusedProcessing free 1000 outer [] Unset) (message-fits free 1000 outer [] Unset sound in-order room)
 
-foo-is-there : directHalf (entryIn (leftByProcessing free 1000 outer [] Unset) (ascii "a@b.example"))
+foo-is-there : directHalf (entryIn (leftByProcessing free 1000 outer [] Unset) (ascii "bob@b.example"))
     ≡ some (record { timestamp = 1000; key = ascii "foo"; «mutual» = true })
 unfolding holding others behind directHalf entryIn update.younger update.stays table.found table.lowest table.hasAddress table.slots table.slotAt slots.marked slots.addressOf number octets.sameOctets octets.sameName octets.lowered octets.lower header.fieldsOf header.fields header.fieldsWithin inFront header.unfolded header.over header.ofEnding header.opensField runs.run header.rawLength runs.belongs header.closes list.openingOf holds list.runToken list.quotedToken list.tokenAt list.firstToken grammar.afterAddress grammar.after list.listedBy list.listed list.addresses onlyOne orElse address.plain address.localPart address.atom address.domain address.label address.freeEnds address.canonical every pieces.onFirst pieces.pieces pieces.before pieces.behind blank tokens.past tokens.kindOf tokens.control tokens.afterQuote date.effectiveDate keyfield.validFields fields.fieldsIn fields.isKind fields.valuesOf outer-specs.canonicalOf outer-specs.senderBy outer-specs.senderIn outer-specs.dateBy outer-specs.dateIn keyfield.chosen
 foo-is-there =

@@ -10,8 +10,8 @@ use Rattle.address.specs.Address.{canonical}
 use Rattle.writer.specs.Writing.{preference, fieldText, written}
 
 -- W2: a whole field, with the preference, of a key of one line
-whole : written (ascii "Autocrypt") (ascii "a@b.example") true (ascii "foo")
-    ≡ ascii "Autocrypt: addr=a@b.example; prefer-encrypt=mutual; keydata=\r\n Zm9v\r\n"
+whole : written (ascii "Autocrypt") (ascii "Bob@b.example") true (ascii "foo")
+    ≡ ascii "Autocrypt: addr=bob@b.example; prefer-encrypt=mutual; keydata=\r\n Zm9v\r\n"
 unfolding written fieldText preference canonical lowered lower encode letter lines laid
 whole = refl
 
