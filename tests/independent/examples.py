@@ -1,6 +1,6 @@
-"""The example messages of source 000 (6.2, 6.3, 6.7), and what they lead to.
+"""C15: the example messages of Autocrypt Level 1 (its sections 6.2, 6.3 and 6.7), and what they lead to.
 
-The text of 000 has lost octets of its Base64; the messages stand in tests/messages as source 001 prints them (X1).
+They stand in tests/messages as the older draft prints them.
 """
 
 import hashlib
@@ -91,18 +91,18 @@ class Examples:
 
 
 class Processed(Examples):
-    """The entries after the messages."""
+    """The entries after the messages: pages U and G on whole mails."""
 
     def test_the_first_message(self):
         expected = Entry(ALICE, TO_BOB_DATE, TO_BOB_DATE, ALICE_KEY, True)
         for block in (TO_BOB, with_crlf(TO_BOB)):
             self.assertEqual(self.after(bytes(2 * SLOT), RECEIPT, block, b"", UNSET), [expected, None])
 
-    def test_received_before_it_was_sent(self):
+    def test_received_before_it_was_sent_D2(self):
         self.assertEqual(self.after(bytes(SLOT), TO_BOB_DATE - 1, TO_BOB, b"", UNSET),
                          [Entry(ALICE, TO_BOB_DATE - 1, TO_BOB_DATE - 1, ALICE_KEY, True)])
 
-    def test_the_gossip_message(self):
+    def test_the_gossip_message_G1_G7(self):
         for taken in (UNSET, TAKE):
             self.assertEqual(self.after(bytes(4 * SLOT), RECEIPT, TO_BOTH, PAYLOAD, taken),
                              [ALICE_SENT, BOB_TOLD, CAROL_TOLD, None])
@@ -112,18 +112,18 @@ class Processed(Examples):
         self.assertEqual(self.after(bytes(3 * SLOT), RECEIPT, TO_BOTH, PAYLOAD, SKIP),
                          [ALICE_SENT, None, None])
 
-    def test_too_few_slots_for_the_gossip_message(self):
+    def test_too_few_slots_for_the_gossip_message_R8(self):
         self.assertEqual(self.program.process(bytes(2 * SLOT), RECEIPT, TO_BOTH, PAYLOAD, TAKE),
                          (8, 0, bytes(2 * SLOT)))
 
-    def test_the_messages_in_every_order(self):
+    def test_the_messages_in_every_order_C11(self):
         for order in itertools.permutations(MAILS):
             held = bytes(3 * SLOT)
             for outer, payload in order:
                 held = self.table_after(held, RECEIPT, outer, payload, UNSET)
             self.assertEqual(entries(held), [ALICE_SENT, BOB_TOLD, CAROL_TOLD])
 
-    def test_the_recommendation_afterwards(self):
+    def test_the_recommendation_afterwards_A2_A4(self):
         held = self.table_after(bytes(3 * SLOT), RECEIPT, TO_BOTH, PAYLOAD, UNSET)
         self.assertEqual(self.advised(held, [ALICE], True, False), 4)
         self.assertEqual(self.advised(held, [ALICE], False, False), 3)
@@ -131,7 +131,7 @@ class Processed(Examples):
         self.assertEqual(self.advised(held, [BOB, CAROL], True, True), 4)
         self.assertEqual(self.target_keys(held, [ALICE, CAROL]), [ALICE_KEY, CAROL_KEY])
 
-    def test_the_fields_of_the_examples_are_written_as_they_stand(self):
+    def test_the_fields_of_the_examples_are_written_as_they_stand_W2_W4(self):
         number, field = self.program.write_autocrypt(ALICE, ALICE_KEY, True, 4000)
         self.assertEqual(number, 0)
         self.assertIn(field, with_crlf(TO_BOB))
@@ -143,7 +143,7 @@ class Processed(Examples):
 
 
 class Told(Examples):
-    """What 000 itself says of its examples, in other words."""
+    """What Autocrypt Level 1 expects of its examples; a name ends with the section."""
 
     EITHER = (False, True)
 
@@ -158,7 +158,7 @@ class Told(Examples):
 
     def test_alice_tells_the_keys_that_she_has_6_3(self):
         # She has mail with keys from Bob and from Carol. What she would encrypt to is what her gossip fields tell, and
-        # the program writes them as 000 prints them.
+        # the program writes them as they are printed there.
         held = bytes(2 * SLOT)
         for address, key in ((BOB, BOB_KEY), (CAROL, CAROL_KEY)):
             _, field = self.program.write_autocrypt(address, key, False, 4000)

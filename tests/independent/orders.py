@@ -1,4 +1,4 @@
-"""Demand 3 run: messages in many orders, and each of its premises dropped once.
+"""C11 run: messages in many orders, and each of its premises dropped once.
 
 The classes are mixed into test cases, which name the `program`: whatever has the calls of `scope.calls`.
 """
@@ -61,7 +61,7 @@ def advice(program, table: bytes, to: list[bytes], mutual: bool = True, reply: b
 
 
 class EachPremise:
-    """Without one of its premises two orders lead to different entries."""
+    """C11: without one of its premises two orders lead to different entries."""
 
     program = None
 
@@ -70,7 +70,7 @@ class EachPremise:
         return fetch(self.program, table_of(held), calls), fetch(self.program, table_of(held), calls[::-1])
 
     def test_room(self):
-        # One free slot, two new senders: the second one is refused.
+        # R8: one free slot, two new senders: the second one is refused.
         (numbers, table), (others, other) = self.orders([keyed(A, 1000, ONE), keyed(B, 2000, TWO)], [None])
         self.assertEqual((numbers, others), ([0, 8], [0, 8]))
         self.assertEqual((set(by_address(table)), set(by_address(other))), ({A}, {B}))
@@ -84,7 +84,7 @@ class EachPremise:
         self.assertEqual((by_address(table)[C].last_seen, by_address(other)[C].last_seen), (1000, 500))
 
     def test_one_direct_key_at_one_date(self):
-        # "An equal date replaces.": the last one stands.
+        # U8: of equal dates the last one stands.
         (numbers, table), (others, other) = self.orders([keyed(A, 1000, ONE), keyed(A, 1000, TWO)], [None])
         self.assertEqual((numbers, others), ([0, 0], [0, 0]))
         self.assertEqual(by_address(table)[A].direct_key, TWO)
@@ -99,7 +99,7 @@ class EachPremise:
         self.assertNotEqual(advice(self.program, table, [A]), advice(self.program, other, [A]))
 
     def test_one_gossip_key_at_one_date(self):
-        # Two senders tell of one recipient at the same date.
+        # G7: two senders tell of one recipient at the same date.
         calls = [telling(A, 1000, (C, ONE)), telling(B, 1000, (C, TWO))]
         (numbers, table), (others, other) = self.orders(calls, [None, None, None])
         self.assertEqual((numbers, others), ([0, 0], [0, 0]))
@@ -108,7 +108,7 @@ class EachPremise:
         self.assertNotEqual(advice(self.program, table, [C]), advice(self.program, other, [C]))
 
     def test_the_same_receipt_times(self):
-        # Without a Date the receipt time is the date: fetched at another time it is another message.
+        # D2: without a Date the receipt time is the date: fetched at another time it is another message.
         first = Call(mail(A, None, key_field(A, ONE)), receipt=1000)
         second = Call(mail(A, None, key_field(A, TWO)), receipt=2000)
         early = Call(second.outer, receipt=1000)
@@ -211,7 +211,7 @@ class Agreeing:
 
 
 class AnyOrder:
-    """With the premises, every order leads to the same entries, recommendations and target keys."""
+    """C11: with the premises, every order leads to the same entries, advice and target keys."""
 
     program = None
     seed = 3

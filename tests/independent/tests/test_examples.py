@@ -1,4 +1,5 @@
-"""The example messages of source 000 (6.2, 6.3, 6.7), processed whole by the independent program.
+"""C15: the example messages of Autocrypt Level 1 (its sections 6.2, 6.3 and 6.7), processed whole by the independent
+program.
 
 The tests of the copies show that the keys are intact: each is an OpenPGP key whose first packet has the fingerprint
 that its own signatures name.
@@ -15,7 +16,7 @@ from scope.table import SLOT
 
 
 class Copies(unittest.TestCase):
-    def test_the_keys_are_intact_X1(self):
+    def test_the_keys_are_intact_C15(self):
         for key in (ALICE_KEY, BOB_KEY, CAROL_KEY):
             self.assertEqual(len(key), 1758)
             # Both signatures name the fingerprint (subpacket 33, version 4).
@@ -47,7 +48,7 @@ class Reading(unittest.TestCase):
             values = header.values_of(header.fields(block), b"Date")
             self.assertEqual(date.effective(values, RECEIPT), expected)
 
-    def test_crlf_makes_no_difference(self):
+    def test_crlf_makes_no_difference_B15(self):
         for block in (TO_BOB, TO_BOTH, PAYLOAD, SETUP):
             self.assertEqual(header.fields(with_crlf(block)), header.fields(block))
 
@@ -55,7 +56,7 @@ class Reading(unittest.TestCase):
 class Processed(examples.Processed, unittest.TestCase):
     program = calls
 
-    def test_the_listing_afterwards(self):
+    def test_the_listing_afterwards_W8(self):
         held = self.table_after(bytes(3 * SLOT), RECEIPT, TO_BOTH, PAYLOAD, UNSET)
         self.assertEqual(listing.listing(held), (
             b"alice@autocrypt.example 1510062985 1510062985 1758 mutual - 0\n"
