@@ -18,7 +18,7 @@ REFUSALS = {
     11: "the key to write is empty or over 2,048 octets",
     12: "too little room for the field, or for 11 numbers",
 }
-"""The words of each refusal number, in order of checking."""
+"""The words of each refusal, by its number. If several hold, the lowest number is given."""
 
 _BAD_SLOT = 2
 
@@ -26,8 +26,8 @@ _BAD_SLOT = 2
 class Refused(Exception):
     """The library refused a call, and left everything as it was.
 
-    `number` is the refusal's number, `words` says what it means, and `slot` is the index of the lowest slot that is
-    neither free nor sound where the number is 2, else None.
+    `number` is the number of the refusal, and `words` says what it means. With number 2 `slot` is the index of the lowest
+    slot that is damaged, with all others it is None.
     """
 
     def __init__(self, number: int, slot: Optional[int] = None) -> None:
