@@ -44,16 +44,18 @@ class Gossip(enum.IntEnum):
 
 
 class Advice(enum.IntEnum):
-    """Whether a new mail should be encrypted, from low to high."""
+    """Whether a new mail should be encrypted, from low to high.
+
+    DISABLE      it cannot be, since someone has no key
+    DISCOURAGE   it can be, but someone may not be able to read it
+    AVAILABLE    it can be, if the user asks for it
+    ENCRYPT      it should be
+    """
 
     DISABLE = 1
-    """It cannot be: someone has no key."""
     DISCOURAGE = 2
-    """It can be, but someone may not be able to read it."""
     AVAILABLE = 3
-    """It can be, if the user asks for it."""
     ENCRYPT = 4
-    """It should be."""
 
 
 _ADVICE = {advice.value: advice for advice in Advice}  # looked up in a fraction of the time of Advice(number)
