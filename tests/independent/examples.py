@@ -93,7 +93,7 @@ class Examples:
 class Processed(Examples):
     """The entries after the messages: pages U and G on whole mails."""
 
-    def test_the_first_message(self):
+    def test_the_first_message_U8_B15(self):
         expected = Entry(ALICE, TO_BOB_DATE, TO_BOB_DATE, ALICE_KEY, True)
         for block in (TO_BOB, with_crlf(TO_BOB)):
             self.assertEqual(self.after(bytes(2 * SLOT), RECEIPT, block, b"", UNSET), [expected, None])
@@ -148,8 +148,8 @@ class Told(Examples):
     EITHER = (False, True)
 
     def test_bob_can_write_back_encrypted_6_2(self):
-        # Alice's plain mail is enough for Bob to encrypt his answer: by default where he prefers it as she does, else
-        # when he chooses to. The key for it has the key id that stands in her mail.
+        # A4: Alice's plain mail is enough for Bob to encrypt his answer: by default where he prefers it as she does,
+        # else when he chooses to. The key for it has the key id that stands in her mail.
         held = self.table_after(bytes(SLOT), RECEIPT, TO_BOB, b"", UNSET)
         self.assertEqual(self.advised(held, [ALICE], True, False), ENCRYPT)
         self.assertEqual(self.advised(held, [ALICE], False, False), AVAILABLE)
@@ -157,8 +157,8 @@ class Told(Examples):
         self.assertEqual(first_packet_fingerprint(ALICE_KEY)[-8:].hex().upper(), "71DBC5657FDE65A7")
 
     def test_alice_tells_the_keys_that_she_has_6_3(self):
-        # She has mail with keys from Bob and from Carol. What she would encrypt to is what her gossip fields tell, and
-        # the program writes them as they are printed there.
+        # A6, W3: she has mail with keys from Bob and from Carol. What she would encrypt to is what her gossip fields
+        # tell, and the program writes them as they are printed there.
         held = bytes(2 * SLOT)
         for address, key in ((BOB, BOB_KEY), (CAROL, CAROL_KEY)):
             _, field = self.program.write_autocrypt(address, key, False, 4000)
@@ -170,7 +170,7 @@ class Told(Examples):
         self.assertTrue(with_crlf(PAYLOAD).startswith(fields + b"Content-Type: text/plain\r\n"))
 
     def test_both_reply_to_all_and_the_thread_stays_encrypted_6_3(self):
-        # Neither knew the other before, nor has to prefer encryption; Alice may have written before or not.
+        # A4, G7: neither knew the other before, nor has to prefer encryption; Alice may have written before or not.
         for before in ([None], [Entry(ALICE, SETUP_DATE)]):
             held = self.table_after(table_of(before + [None, None]), RECEIPT, TO_BOTH, PAYLOAD, UNSET)
             for other, key in ((CAROL, CAROL_KEY), (BOB, BOB_KEY)):
@@ -179,7 +179,7 @@ class Told(Examples):
                 self.assertEqual(self.target_keys(held, [ALICE, other]), [ALICE_KEY, key])
 
     def test_a_new_mail_to_the_other_is_possible_but_discouraged_6_3_3_4_2(self):
-        # Being introduced is no more than gossip: encryption is possible, and not the default.
+        # A2: being introduced is no more than gossip: encryption is possible, and not the default.
         held = self.table_after(bytes(3 * SLOT), RECEIPT, TO_BOTH, PAYLOAD, UNSET)
         for mutual in self.EITHER:
             for other in (BOB, CAROL):
@@ -187,7 +187,8 @@ class Told(Examples):
                 self.assertEqual(self.advised(held, [ALICE, other], mutual, False), DISCOURAGE)
 
     def test_without_gossip_the_reply_to_all_cannot_be_encrypted_6_4(self):
-        # The answer is plain, because it is not known yet how to encrypt to one of the others. To Alice it need not be.
+        # A5, G2: the answer is plain, because it is not known yet how to encrypt to one of the others. To Alice it need
+        # not be.
         held = self.table_after(bytes(3 * SLOT), RECEIPT, TO_BOTH, PAYLOAD, SKIP)
         for mutual in self.EITHER:
             self.assertEqual(self.advised(held, [ALICE, CAROL], mutual, True), DISABLE)
@@ -195,7 +196,7 @@ class Told(Examples):
         self.assertEqual(self.target_keys(held, [ALICE, CAROL]), [ALICE_KEY, b""])
 
     def test_the_setup_message_has_no_autocrypt_field_6_7(self):
-        # A mail of Alice to herself like any mail without the field: she was seen, and there is no key of hers yet.
+        # U5: a mail of Alice to herself like any mail without the field: she was seen, and there is no key of hers yet.
         for block in (SETUP, with_crlf(SETUP)):
             held = self.table_after(bytes(SLOT), RECEIPT, block, b"", UNSET)
             self.assertEqual(entries(held), [Entry(ALICE, SETUP_DATE)])

@@ -93,7 +93,7 @@ class Single(unittest.TestCase):
 
     def test_angle_addresses_L9_L10(self):
         for text in [b"<a@b>", b" < a@b > ", b"<\t(x)a@b(y) >", b"Bob <a@b>", b"Bob<a@b>",
-                     b"Bob B. Bobson <a@b>", b'"Bob, B." <a@b>', b'"" <a@b>', b"B.B.<a@b>",
+                     b"Bob B. <a@b>", b"Bob B. Bobson <a@b>", b'"Bob, B." <a@b>', b'"" <a@b>', b"B.B.<a@b>",
                      b"(x)Bob(y)B(z)<a@b>(w)", b"\xc3\xa9 <a@b>", b'"\xc3\xa9" <a@b>',
                      b"\"a\\\"b\" <a@b>", b"=?utf-8?q?x?= <a@b>"]:
             self.assertEqual(addresses(text), [b"a@b"], text)
@@ -193,6 +193,7 @@ class Groups(unittest.TestCase):
         self.assertEqual(addresses(b'"g,h":a@b;,c@d'), [b"a@b", b"c@d"])
         self.assertEqual(addresses(b"x@y,g:a@b;,h:c@d;"), [b"x@y", b"a@b", b"c@d"])
         self.assertEqual(addresses(b".:a@b;"), [b"a@b"])
+        self.assertEqual(addresses(b"team: a@b, <c@d>;"), [b"a@b", b"c@d"])
 
     def test_empty_groups_L14_L18(self):
         self.assertEqual(addresses(b"g:;"), [])

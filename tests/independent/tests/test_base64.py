@@ -67,7 +67,7 @@ class Decoding(unittest.TestCase):
                 self.assertIsNone(base64.decode(b"Zm9v" + bytes([octet]) + b"YmFy"), octet)
                 self.assertIsNone(base64.decode(b"Zm9vYmF" + bytes([octet]) + b"YmFy"), octet)
 
-    def test_no_limit_on_the_length(self):
+    def test_no_limit_on_the_length_F9(self):
         octets = bytes(range(256)) * 200
         self.assertEqual(base64.decode(standard.b64encode(octets)), octets)
 

@@ -98,7 +98,7 @@ class Parts(unittest.TestCase):
     def test_month_names_D8(self):
         self.assertEqual(seconds(b"1 feb 1970 00:00 GMT"), 31 * 86400)
         self.assertEqual(seconds(b"1 fEB 1970 00:00 GMT"), 31 * 86400)
-        for month in [b"February", b"Fe", b"2", b"Foo", b"F\xe9b", b"Feb."]:
+        for month in [b"January", b"February", b"Fe", b"2", b"Foo", b"F\xe9b", b"Feb."]:
             self.assertIsNone(seconds(b"1 " + month + b" 1970 00:00 GMT"), month)
 
     def test_day_names_D7(self):
@@ -204,6 +204,7 @@ class Tokens(unittest.TestCase):
         self.assertEqual(seconds(b"1Jan2000 00:00GMT"), 946684800)
         self.assertEqual(seconds(b"mon,1jan70 00:00:03z"), 3)
         self.assertEqual(seconds(b"1 Jan 2000 01:00+0100"), 946684800)
+        self.assertEqual(seconds(b"1 Jan 2000 00:00+0100"), 946681200)
         self.assertEqual(seconds(b"1Jan2000(c)00:00GMT"), 946684800)
         self.assertIsNone(seconds(b"1Jan200000:00GMT"))
         self.assertIsNone(seconds(b"1 Jan 20()00 00:00 GMT"))

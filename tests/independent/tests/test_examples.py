@@ -23,27 +23,27 @@ class Copies(unittest.TestCase):
             self.assertEqual(key.count(b"\x16\x21\x04" + first_packet_fingerprint(key)), 2)
         self.assertEqual(len({ALICE_KEY, BOB_KEY, CAROL_KEY}), 3)
 
-    def test_both_messages_of_alice_carry_one_key(self):
+    def test_both_messages_of_alice_carry_one_key_C15(self):
         self.assertEqual(key_of(TO_BOTH, b"Autocrypt"), ALICE_KEY)
 
 
 class Reading(unittest.TestCase):
-    def test_the_fields_of_the_first_message(self):
+    def test_the_fields_of_the_first_message_B7_B11(self):
         names = [name for name, _ in header.fields(TO_BOB)]
         self.assertEqual(names, [b"Delivered-To", b"From", b"To", b"Subject", b"Autocrypt", b"Date",
                                  b"Message-ID", b"MIME-Version", b"Content-Type"])
         self.assertEqual(header.values_of(header.fields(TO_BOB), b"from"),
                          [b" Alice <alice@autocrypt.example>"])
 
-    def test_the_fields_of_the_payload(self):
+    def test_the_fields_of_the_payload_B7(self):
         names = [name for name, _ in header.fields(PAYLOAD)]
         self.assertEqual(names, [b"Autocrypt-Gossip", b"Autocrypt-Gossip", b"Content-Type"])
 
-    def test_addresses(self):
+    def test_addresses_L17(self):
         self.assertEqual(address.addresses(header.values_of(header.fields(TO_BOTH), b"To")[0]),
                          [BOB, CAROL])
 
-    def test_dates(self):
+    def test_dates_D2(self):
         for block, expected in ((TO_BOB, TO_BOB_DATE), (TO_BOTH, TO_BOTH_DATE), (SETUP, SETUP_DATE)):
             values = header.values_of(header.fields(block), b"Date")
             self.assertEqual(date.effective(values, RECEIPT), expected)

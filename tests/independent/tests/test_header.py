@@ -171,7 +171,7 @@ class Report(unittest.TestCase):
         for value in [b"multipart/report", b" multipart/report", b"\t \tmultipart/report",
                       b" Multipart/REPORT", b" multipart/report ", b" multipart/report\t",
                       b" multipart/report;", b" multipart/report; report-type=x",
-                      b" multipart/report(c)"]:
+                      b"Multipart/REPORT; report-type=x", b" multipart/report(c)"]:
             self.assertTrue(is_report(value), value)
 
     def test_what_may_follow_B13(self):
@@ -181,12 +181,12 @@ class Report(unittest.TestCase):
 
     def test_comments_and_blanks_are_not_skipped_B13(self):
         for value in [b"(c) multipart/report", b" (c)multipart/report", b" multipart /report",
-                      b" multipart/ report", b" multipart(c)/report", b" \rmultipart/report"]:
+                      b" multipart/ report", b"multipart / report", b" multipart(c)/report", b" \rmultipart/report"]:
             self.assertFalse(is_report(value), value)
 
     def test_other_types_B13(self):
-        for value in [b"", b" ", b" multipart/repor", b" multipart/reports", b" multipart/mixed",
-                      b" xmultipart/report", b" text/plain; x=multipart/report",
+        for value in [b"", b" ", b" multipart/repor", b" multipart/reports", b"multipart/reporting",
+                      b" multipart/mixed", b" xmultipart/report", b" text/plain; x=multipart/report",
                       b" multipart/report\r", b" multipart/report,", b' "multipart/report"']:
             self.assertFalse(is_report(value), value)
 

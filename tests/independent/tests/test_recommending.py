@@ -136,7 +136,7 @@ class Refusals(unittest.TestCase):
         self.refused(2, TABLE + TABLE, b"fresh@x", len(HELD))
         self.refused(2, slot_of(Entry(b"A@b")), b"fresh@x", 0)
 
-    def test_10_R10_L18(self):
+    def test_10_R10_L18_A7(self):
         for recipients in [b"", b" ", b"fresh@x,", b",", b"fresh@x;", b"Bob", b"g:;", b"g:;,h:;",
                            b"fresh@x, \"q\"@y", b"<>", b"fresh@x\r\n", b"a@b,\r\n c@d", b"(",
                            b"fresh@x " + b"(" * 17 + b")" * 17]:
@@ -164,7 +164,7 @@ class Refusals(unittest.TestCase):
     def test_a_folded_argument_L19(self):
         self.refused(10, TABLE, b"fresh@x,\r\n keen@x")
 
-    def test_the_order_of_testing_R31(self):
+    def test_the_order_of_testing_A1_R31(self):
         self.refused(1, b"", b"")
         self.refused(2, slot_of(Entry(b"A@b")), b"")
         self.refused(10, TABLE, b"")
