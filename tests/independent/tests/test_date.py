@@ -254,7 +254,7 @@ class EffectiveDate(unittest.TestCase):
 
     DATE = b" 1 Jan 1970 00:16:40 +0000"
 
-    def test_the_smaller_of_date_and_receipt_D2(self):
+    def test_the_smaller_time_D2(self):
         self.assertEqual(seconds(self.DATE), 1000)
         self.assertEqual(effective([self.DATE], 999), 999)
         self.assertEqual(effective([self.DATE], 1000), 1000)

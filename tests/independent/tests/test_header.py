@@ -78,7 +78,7 @@ class Folding(unittest.TestCase):
         self.assertEqual(fields(b"A: b\r\n c\r\n\td\n  e"), [(b"A", b" b c\td  e")])
         self.assertEqual(fields(b"A:\n b\nC:d\n e\n"), [(b"A", b" b"), (b"C", b"d e")])
 
-    def test_a_continuation_with_no_field_above_B6(self):
+    def test_a_continuation_without_a_field_B6(self):
         self.assertIsNone(fields(b" A:b\n"))
         self.assertIsNone(fields(b"\tA:b\n"))
         self.assertIsNone(fields(b" \nA:b\n"))

@@ -247,7 +247,7 @@ class Sender(Case):
         early = mail(A, None, b"Date: 1 Jan 1969 00:00 GMT\r\n")
         self.assertEqual(self.after([None], early), [Entry(A, 0)])
 
-    def test_only_exactly_one_valid_field_counts_F13(self):
+    def test_one_valid_field_counts_and_two_do_not_F13(self):
         """C13: to take the first of two."""
         one, other = key_field(A, b"one"), key_field(A, b"other", True)
         for fields in (one + other, one + one, other + one + one):
@@ -374,7 +374,7 @@ class Gossip(Case):
             self.after([None, None], mail(A, 1000, self.TO_B), gossip_field(B, b"b"), SKIP),
             [Entry(A, 1000), None])
 
-    def test_gossip_never_fills_the_direct_key_or_last_seen_G8(self):
+    def test_gossip_changes_no_direct_half_and_no_last_seen_G8(self):
         """C13: to let it."""
         stored = Entry(B, 500, 400, b"direct", True)
         field = b"Autocrypt-Gossip: addr=b@x.example; prefer-encrypt=mutual; keydata=Zm9v\r\n"

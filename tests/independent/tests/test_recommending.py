@@ -111,7 +111,7 @@ class Advice(unittest.TestCase):
                                                for octets in (TABLE, other))
                 self.assertEqual(TABLE[at:at + length], other[start:start + long])
 
-    def test_addresses_are_compared_in_canonical_form_L8(self):
+    def test_two_spellings_are_one_recipient_L8(self):
         self.assertEqual(self.advice(b"FRESH@X"), AVAILABLE)
         octets = slot_of(Entry(b"\xc3\xa9@x", 1, 1, b"k"))
         self.assertEqual(self.advice(b"\xc3\xa9@X", octets=octets), AVAILABLE)

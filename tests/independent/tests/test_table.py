@@ -137,7 +137,7 @@ class Soundness(unittest.TestCase):
                 self.broken(changed(slot_of(BARE), 0, octets))
         self.broken(b"\x41\x31" + bytes(SLOT - 2))
 
-    def test_a_free_slot_is_all_zero_T4(self):
+    def test_all_octets_of_a_free_slot_are_zero_T4(self):
         for at in list(range(2, 45)) + [295, 296, 2343, 2344, 4391]:
             self.broken(changed(bytes(SLOT), at, b"\x01"))
             self.broken(changed(bytes(SLOT), at, b"\x80"))
@@ -215,7 +215,7 @@ class Soundness(unittest.TestCase):
             for length in (1, 2, 2048, 2049):
                 self.broken(changed(slot_of(entry), at, little(length, 2)))
 
-    def test_past_a_length_is_zero_T8(self):
+    def test_behind_a_length_there_are_zeros_T8(self):
         # T8.8
         for at in [40 + 11, 40 + 12, 295, 296 + 6, 296 + 7, 2343, 2344 + 10, 2344 + 11, 4391]:
             self.broken(changed(slot_of(FULL), at, b"\x01"))
@@ -229,13 +229,13 @@ class Soundness(unittest.TestCase):
                           (HEARD, 2343), (SENDER, 2344), (SENDER, 4391), (SEEN, 296), (SEEN, 2344)]:
             self.broken(changed(slot_of(entry), at, b"\x01"))
 
-    def test_mutual_implies_a_direct_key_T8(self):
+    def test_mutual_has_a_direct_half_beside_it_T8(self):
         # T8.9
         for entry in (BARE, SEEN, HEARD):
             slot = slot_of(entry)
             self.broken(changed(slot, BITS_AT, bytes([slot[BITS_AT] | 8])))
 
-    def test_a_direct_key_implies_last_seen_T8(self):
+    def test_a_direct_half_has_last_seen_beside_it_T8(self):
         # T8.10
         slot = slot_of(Entry(b"a@b", 0, 0, b"k"))
         self.sound(slot)

@@ -55,7 +55,7 @@ class Skipping(unittest.TestCase):
         self.assertEqual(tokens.skip(b"(" * 15 + b"()()()" + b")" * 15, 0), 36)
         self.assertIsNone(tokens.skip(b"(" * 15 + b"()(())()" + b")" * 15, 0))
 
-    def test_a_backslash_takes_the_next_octet_L4(self):
+    def test_a_backslash_makes_an_octet_plain_L4(self):
         self.assertEqual(tokens.skip(b"(\\()x", 0), 4)
         self.assertEqual(tokens.skip(b"(\\))x", 0), 4)
         self.assertEqual(tokens.skip(b"(\\\\)x", 0), 4)
@@ -109,7 +109,7 @@ class Quoted(unittest.TestCase):
         self.assertEqual(tokens.quoted(b'"a""b"', 0), 3)
         self.assertEqual(tokens.quoted(b'"a""b"', 3), 6)
 
-    def test_a_backslash_takes_the_next_octet_L4(self):
+    def test_a_backslash_makes_an_octet_plain_L4(self):
         self.assertEqual(tokens.quoted(b'"\\""', 0), 4)
         self.assertEqual(tokens.quoted(b'"\\\\"', 0), 4)
         self.assertEqual(tokens.quoted(b'"\\\t"', 0), 4)
