@@ -248,7 +248,7 @@ class Sender(Case):
         self.assertEqual(self.after([None], early), [Entry(A, 0)])
 
     def test_one_valid_field_counts_and_two_do_not_F13(self):
-        """C13: to take the first of two."""
+        """C13: it would be a mistake to take the first of two."""
         one, other = key_field(A, b"one"), key_field(A, b"other", True)
         for fields in (one + other, one + one, other + one + one):
             self.assertEqual(self.after([None], mail(A, 1000, fields)), [Entry(A, 1000)])
@@ -262,7 +262,7 @@ class Sender(Case):
         self.assertEqual(self.after([None], mail(A, 1000, line)), [Entry(A, 1000)])
 
     def test_a_keyless_mail_only_raises_last_seen_U7_U9(self):
-        """C13: to clear a key by a mail that has none."""
+        """C13: it would be a mistake to clear the key."""
         stored = Entry(A, 1000, 1000, b"key", True)
         for date, last_seen in [(2000, 2000), (1001, 1001), (1000, 1000)]:
             self.assertEqual(self.after([stored], mail(A, date)),
@@ -279,7 +279,7 @@ class Sender(Case):
             self.assertEqual(self.after([stored], mail(A, date, field)), [expected], date)
 
     def test_an_equal_date_replaces_U8(self):
-        """C13: to drop equal dates as old."""
+        """C13: it would be a mistake to drop equal dates as old."""
         stored = Entry(A, 1000, 1000, b"old", True)
         self.assertEqual(self.after([stored], mail(A, 1000, key_field(A, b"new"))),
                          [Entry(A, 1000, 1000, b"new", False)])
@@ -375,7 +375,7 @@ class Gossip(Case):
             [Entry(A, 1000), None])
 
     def test_gossip_changes_no_direct_half_and_no_last_seen_G8(self):
-        """C13: to let it."""
+        """C13: it would be a mistake to fill them."""
         stored = Entry(B, 500, 400, b"direct", True)
         field = b"Autocrypt-Gossip: addr=b@x.example; prefer-encrypt=mutual; keydata=Zm9v\r\n"
         self.assertEqual(self.after([stored, Entry(A)], mail(A, 1000, self.TO_B), field),
@@ -479,7 +479,7 @@ class Gossip(Case):
         self.assertEqual(held, [Entry(A, 5), Entry(C), Entry(B, gossip_timestamp=5, gossip_key=b"b")])
 
     def test_whole_or_not_at_all_U2_R8(self):
-        """C13: to store the sender before gossip turns out to have no slot."""
+        """C13: it would be a mistake to store the sender before gossip turns out to have no slot."""
         stored = Entry(A, 1, 1, b"old")
         outer = mail(A, 1000, key_field(A, b"new"), self.TO_B)
         self.refused(8, slot_of(stored), RECEIPT, outer, gossip_field(B, b"b"))
