@@ -1,47 +1,49 @@
 /* Vienghulac: Autocrypt Level 1 for mail programs. The C interface.
  *
- * Ownership. The caller owns all memory. A block is lent to one call as a pointer and a length; the library keeps
- * neither pointers nor anything else behind the call, and allocates nothing. The comment on each function says of each
- * block which of these it is:
+ * What each call does is laid down in docs/SCOPE.md. A mark such as (T8) leads to a rule there.
  *
- *   borrowed   read during the call and not changed; no one may change, move or free it until the call has returned
- *   lent       read and written during the call, and the call's alone until it has returned: it overlaps no other block
- *              of the call, and no other thread reads or writes it
- *   a part     an answer that is a place in a lent table, not a copy; its octets are the caller's own, and they mean
- *              what they meant until the next call that writes the table
+ * Ownership. All memory belongs to the caller. A call is handed a block as a pointer and a length. It keeps no pointer
+ * when it returns, remembers nothing for the next call, and takes no memory of its own. The comment on each function
+ * says of each block which of these it is:
  *
- * A null pointer is fine where the length is 0. Calls that share no lent block may run at the same time.
+ *   borrowed   the call reads it and does not change it. Nobody may change, move or free it before the call returns
+ *   lent       the call reads and writes it, and has it to itself until it returns: it overlaps no other block of the
+ *              call, and no other thread touches it meanwhile
+ *   a part     an answer that is a place in a table, not a copy. Its octets are the caller's own, and mean what they
+ *              meant until the next call that writes the table (A11)
  *
- * Every input has an answer: nothing has to be checked before a call. A refusal has its number, and leaves all lent
- * memory as it was:
+ * Where a length is 0 the pointer may be null. Calls that have no lent block in common may run at the same time.
+ *
+ * Every input has an answer, so nothing has to be checked before a call. A call answers 0, or refuses with a number and
+ * leaves all lent memory as it was:
  *
  *      0   done
- *      1   table length isn't 1 to 256 whole slots
- *      2   a slot is neither free nor sound; the lowest such index is answered with it
- *      3   receipt time above the limit; it is 253,402,300,799, the last second of the year 9999
- *      4   outer header block unreadable
- *      5   not exactly one From field, or it isn't a readable list of exactly one address
- *      6   a Content-Type is multipart/report
- *      7   gossip is taken and the payload block is unreadable
- *      8   more new addresses than free slots
- *      9   own address argument isn't one plain address
- *     10   recipient list unreadable, or not 1 to 100 addresses
- *     11   key argument isn't 1 to 2,048 octets
- *     12   output shorter than the field, or fewer than 11 numbers lent
+ *      1   the table does not have 1 to 256 whole slots
+ *      2   the table has a damaged slot; one that is neither free (T4) nor sound (T8). The lowest index comes with it
+ *      3   the receipt time lies beyond the year 9999; 253,402,300,799 is its last second
+ *      4   the header block of the mail cannot be read; page B says what can be
+ *      5   no single From field with a single address; also where that field is no readable list (R5)
+ *      6   the mail is a report, of type multipart/report; by any of its Content-Type fields (B13)
+ *      7   gossip is wanted, but the payload block cannot be read
+ *      8   too few free slots for the new addresses
+ *      9   the address to write is not a plain one; with nothing around it (L6, L7)
+ *     10   the recipients cannot be read, or are not 1 to 100
+ *     11   the key to write is empty or over 2,048 octets
+ *     12   too little room for the field, or for 11 numbers
  *
- * Where more than one of them holds, the number that stands first in this list is given.
+ * Each call can give the numbers that its comment names. If several hold, the lowest of them is given.
  *
- * A table is 1 to 256 slots of VIENGHULAC_SLOT octets, one a correspondent; a new one is all zeros. It holds no pointers
- * and may be stored, moved and copied as it is.
+ * A table has 1 to 256 slots of VIENGHULAC_SLOT octets, one for each correspondent; slots count from 0. A new table is
+ * all zeros. There are no pointers in it, so it may be stored, copied and moved as it is, and zeros for whole slots may
+ * be added at its end (T13).
  *
- * What no call can check is the caller's to see to:
+ * What no call can check is the caller's to see to (C18):
  *
  *   the machine  has addresses and sizes of 64 bits
- *   a bool       holds 0 or 1. In C and C++ it can hold nothing else; who calls from another language passes an octet
- *                that is 0 or 1
+ *   a bool       is 0 or 1. In C and C++ it can be nothing else; another language has to pass an octet that is 0 or 1
  *   the stack    has room: up to 312,000 octets for vienghulac_process, for a short mail as for a long one, and up to
- *                16,384 for every other call. A thread whose stack has VIENGHULAC_STACK octets may make every call; on a
- *                smaller one a call may overflow it
+ *                16,384 for every other call. A thread whose stack has VIENGHULAC_STACK octets may make every call; on
+ *                a smaller one a call may overflow it
  */
 #ifndef VIENGHULAC_H
 #define VIENGHULAC_H
@@ -58,30 +60,30 @@
 extern "C" {
 #endif
 
-/* The length of a slot, and the largest number of slots of a table. */
+/* The octets of a slot, and the most slots that a table may have. */
 #define VIENGHULAC_SLOT 4392
 #define VIENGHULAC_SLOTS 256
 
-/* The octets of stack that are enough for every call, with at least 16,384 left for the functions around it. It is more than
- * the calls take today, so that a program compiled with this number can run with later versions of the library. */
+/* So many octets of stack are enough for every call, and leave at least 16,384 for the functions around it. Calls take
+ * less today: a program that was compiled with this number may run with later versions of the library. */
 #define VIENGHULAC_STACK 327680
 
-/* An output of this length has room for every field, so that 12 is never answered. */
+/* An output of this length has room for every field, so no writer then answers 12 (W6). */
 #define VIENGHULAC_FIELD 3200
 
-/* The gossip setting of vienghulac_process; any other value counts as unset, and unset takes. */
+/* The gossip setting of vienghulac_process. With unset gossip is taken, and every other number is unset (G1). */
 #define VIENGHULAC_GOSSIP_UNSET 0
 #define VIENGHULAC_GOSSIP_TAKE 1
 #define VIENGHULAC_GOSSIP_SKIP 2
 
-/* The advice of vienghulac_recommend. */
+/* The advice of vienghulac_recommend, from low to high (A1); the first comes with a refusal. */
 #define VIENGHULAC_REFUSED 0
 #define VIENGHULAC_DISABLE 1
 #define VIENGHULAC_DISCOURAGE 2
 #define VIENGHULAC_AVAILABLE 3
 #define VIENGHULAC_ENCRYPT 4
 
-/* The bits of an entry: what it has. */
+/* What an entry has: last seen, a key from its own mail, a key by gossip, the preference "mutual" (T5). */
 #define VIENGHULAC_BIT_LAST_SEEN 1
 #define VIENGHULAC_BIT_DIRECT 2
 #define VIENGHULAC_BIT_GOSSIP 4
@@ -90,119 +92,120 @@ extern "C" {
 /* How many numbers vienghulac_entry writes. */
 #define VIENGHULAC_NUMBERS 11
 
-/* What a call on a table answers: 0, or the number of a refusal; the index of a slot with 2, else 0. */
+/* What a call on a table answers: 0 or the number of a refusal, and the index of a slot, which is 0 unless the number
+ * is 2. */
 typedef struct {
     uint32_t number;
     uint32_t index;
 } vienghulac_answer;
 
-/* The same, and the advice; with a refusal it is VIENGHULAC_REFUSED. */
+/* The same, and the advice, which is VIENGHULAC_REFUSED with a refusal. */
 typedef struct {
     uint32_t number;
     uint32_t index;
     uint32_t advice;
 } vienghulac_advice;
 
-/* A part of the lent table, the octets table[start] to table[start + length - 1]; 0 and 0 where it is empty. */
+/* A part of a table: from table[start] on, so many octets. An empty part has start and length 0. */
 typedef struct {
     uint64_t start;
     uint64_t length;
 } vienghulac_part;
 
-/* The numbers of an entry under names, in their order. To have them written here, lend `&numbers.used`. Times are seconds
- * since 1970-01-01 UTC; 0 is a time, so only the bits tell whether there is one. A start and a length are those of a part
- * of the table, as in vienghulac_part. */
+/* The numbers of an entry under names, in their order (T14). To have them written here, lend `&numbers.used`. A time
+ * counts the seconds from the beginning of 1970 in UTC. Since 0 is a time too, the bits alone tell whether one is
+ * there. A start and a length are a part of the table, as in vienghulac_part. */
 typedef struct {
-    uint64_t used;                /* 1, or 0 where the slot is free; then all others are 0 too */
+    uint64_t used;                /* 1, or 0 for a free slot, with all other numbers 0 too */
     uint64_t bits;                /* a sum of VIENGHULAC_BIT_* */
     uint64_t last_seen;           /* with VIENGHULAC_BIT_LAST_SEEN, else 0 */
     uint64_t autocrypt_timestamp; /* with VIENGHULAC_BIT_DIRECT, else 0 */
     uint64_t gossip_timestamp;    /* with VIENGHULAC_BIT_GOSSIP, else 0 */
     uint64_t address_start;
     uint64_t address_length;
-    uint64_t direct_start;        /* the key from the correspondent's own mail; 0 and 0 where there is none */
+    uint64_t direct_start;        /* the key of the correspondent's own mail; 0 and 0 if there is none */
     uint64_t direct_length;
-    uint64_t gossip_start;        /* the key that others sent; 0 and 0 where there is none */
+    uint64_t gossip_start;        /* the key that came by gossip; 0 and 0 if there is none */
     uint64_t gossip_length;
 } vienghulac_numbers;
 
-/* What a writer answers: 0 and the length of the field, or the number of a refusal and the length 0. */
+/* What a writer answers: 0 and the length of the field, or a refusal's number and the length 0. */
 typedef struct {
     uint64_t number;
     uint64_t length;
 } vienghulac_written;
 
-/* Is this a table that the other calls take?
+/* Are these octets a table that the other calls take? Each call on a table asks this first, so no program has to.
  *
- * Borrowed: `table`. Answers 0, 1 or 2. */
+ * Borrowed: `table`.
+ * Answers 0, 1 or 2. */
 vienghulac_answer vienghulac_check(const uint8_t *table, size_t table_length);
 
-/* Reads one received mail and brings the table up to date: the entry of its sender and, from the payload's gossip
- * fields, those of other recipients.
+/* Takes one received mail into the table: the entry of its sender and, by the gossip in its payload, those of other
+ * recipients (pages U and G).
  *
- * `receipt` is when the mail was received, in seconds since 1970-01-01 UTC. `outer` is the mail's header block, its
- * octets as received, up to its first empty line; what follows that line is not looked at, but counts for the limit of
- * 65,536 octets. `payload` is the header block of the decrypted payload's root part; length 0 where there is none.
- * `gossip` is one of VIENGHULAC_GOSSIP_*.
+ * `receipt` is when the mail came in, counted in seconds from the beginning of 1970 in UTC. `outer` is the mail's
+ * header block, octet by octet as it came in, up to the first empty line. What stands behind that line is not looked
+ * at, but counts for the limit of 65,536 octets (B1). `payload` is the header block of the root part inside the
+ * decrypted mail; its length is 0 for a mail that was not encrypted. `gossip` is one of VIENGHULAC_GOSSIP_*.
  *
- * Lent: `table`. Borrowed: `outer` and `payload`. A mail is applied whole or refused whole: with a refusal the table is
- * octet by octet as it was. Parts handed out before end with this call where it answers 0.
+ * Lent: `table`. Borrowed: `outer` and `payload`. A mail is taken in full, or the table stays octet by octet as it was.
+ * If the answer is 0, parts that were handed out before mean nothing any more.
  * Answers 0 or 1 to 8. */
 vienghulac_answer vienghulac_process(uint8_t *table, size_t table_length, uint64_t receipt,
                                      const uint8_t *outer, size_t outer_length,
                                      const uint8_t *payload, size_t payload_length, uint8_t gossip);
 
-/* Should a new mail to these people be encrypted?
+/* Should a new mail to these people be encrypted (page A)?
  *
- * `recipients` is a list of 1 to 100 addresses as in a To field, unfolded. `mutual` is the sender's own preference.
- * `reply` says that the mail answers an encrypted one.
+ * `recipients` is a list of 1 to 100 addresses as in a To field, but without line endings (L19). `mutual` is the user's
+ * own preference. `reply` says that the mail replies to an encrypted one.
  *
- * Borrowed: `table` and `recipients`. Answers 0 with an advice from VIENGHULAC_DISABLE to VIENGHULAC_ENCRYPT, or 1, 2
- * or 10. */
+ * Borrowed: `table` and `recipients`.
+ * Answers 0 with an advice from VIENGHULAC_DISABLE to VIENGHULAC_ENCRYPT, or 1, 2 or 10. */
 vienghulac_advice vienghulac_recommend(const uint8_t *table, size_t table_length,
                                        const uint8_t *recipients, size_t recipients_length, bool mutual, bool reply);
 
-/* The key to encrypt to for one recipient of the list: the arguments of vienghulac_recommend, and the recipient's place
- * in the list, counted from 0.
+/* The key to encrypt to for one recipient. It takes what vienghulac_recommend takes, and the recipient's place in the
+ * list, counted from 0; the answer does not depend on `mutual` and `reply` (A9).
  *
- * Borrowed: `table` and `recipients`. The answer is a part of `table` until the next call that writes the table. It is
- * empty where the recipient has no key, past the end of the list, and where vienghulac_recommend refuses. */
+ * Borrowed: `table` and `recipients`. The answer is a part of `table`. It is empty if the recipient has no key, if the
+ * place is past the list, and if vienghulac_recommend would refuse (A7). */
 vienghulac_part vienghulac_target_key(const uint8_t *table, size_t table_length,
                                       const uint8_t *recipients, size_t recipients_length, bool mutual, bool reply,
                                       uint64_t place);
 
-/* What does a slot hold? Slots are counted from 0.
+/* What does a slot hold?
  *
  *     vienghulac_numbers numbers;
  *     vienghulac_entry(table, table_length, slot, &numbers.used, VIENGHULAC_NUMBERS);
  *
- * Borrowed: `table`. Lent: `numbers`, of which the first VIENGHULAC_NUMBERS are written where the answer is 0: those of
- * vienghulac_numbers in their order, all of them 0 for a free slot and for a slot past the end. The numbers behind them, and
- * with a refusal all, stay as they were. The parts that they tell of are parts of `table` until the next call that writes
- * it.
+ * Borrowed: `table`. Lent: `numbers`. If the answer is 0, the first VIENGHULAC_NUMBERS of them are written: those of
+ * vienghulac_numbers in their order, which are all 0 for a free slot and for a slot past the end. So a program may
+ * count up without knowing how many slots there are. The numbers behind them, and with a refusal all numbers, stay as
+ * they were. The starts and lengths tell of parts of `table`.
  * Answers 0, 1, 2 or 12. */
 vienghulac_answer vienghulac_entry(const uint8_t *table, size_t table_length, uint64_t slot,
                                    uint64_t *numbers, size_t numbers_length);
 
-/* Writes the Autocrypt field of an outgoing mail to the front of `out`:
+/* Writes the Autocrypt field of an outgoing mail to the front of `out` (W2), such as
  *
- *     Autocrypt: addr=a@b.example; prefer-encrypt=mutual; keydata=
+ *     Autocrypt: addr=bob@b.example; prefer-encrypt=mutual; keydata=
  *      Zm9v
  *
- * with CRLF behind each line. `address` is the sender's, and is written in canonical form; `key` holds the octets of
- * the key, and is written as Base64. Without `mutual` the attribute prefer-encrypt is left out.
+ * with CRLF behind each line. `address` is the sender's; capitals of ASCII are written as small letters (L8). `key`
+ * holds the octets of the key, which are written as Base64. Without `mutual` there is no prefer-encrypt.
  *
- * Borrowed: `address` and `key`. Lent: `out`, of which the first `length` octets are written where the number is 0; the
- * octets behind them, and with a refusal all of `out`, stay as they were. No terminating zero is written.
+ * Borrowed: `address` and `key`. Lent: `out`. If the number is 0, the first `length` octets of it are the field. The
+ * octets behind them, and with a refusal all of `out`, stay as they were; no zero is put behind the field.
  * Answers 0, 9, 11 or 12. */
 vienghulac_written vienghulac_write_autocrypt(const uint8_t *address, size_t address_length,
                                               const uint8_t *key, size_t key_length, bool mutual,
                                               uint8_t *out, size_t out_length);
 
-/* Writes an Autocrypt-Gossip field, for the header block of a mail's encrypted payload, to the front of `out`: the
- * same with the name Autocrypt-Gossip and without a preference. `address` and `key` are those of a recipient.
- *
- * Borrowed, lent and answered as above. */
+/* Writes an Autocrypt-Gossip field to the front of `out`, for the header block inside an encrypted mail. `address`
+ * and `key` are those of one of its recipients. The field has that name and never a preference (W3); all else is as
+ * above. */
 vienghulac_written vienghulac_write_gossip(const uint8_t *address, size_t address_length,
                                            const uint8_t *key, size_t key_length,
                                            uint8_t *out, size_t out_length);

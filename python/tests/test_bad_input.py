@@ -156,7 +156,7 @@ def test_a_released_view_is_no_octets():
         autocrypt_field(view, b"foo")
 
 
-def test_refusals_of_each_call():
+def test_refusals_of_each_call_R31_R32():
     table, _ = table_with(b"a@x", slots=1)
     before = bytes(table)
     from_a = letter(b"a@x")

@@ -86,7 +86,7 @@ def test_entries_of_what_is_no_table_any_more():
     assert answered(entries, table) == (2, 1, None)
 
 
-def test_unset_gossip_is_taken_and_skip_skips():
+def test_unset_gossip_is_taken_and_skip_skips_G1_G2():
     key = b"gossiped"
     outer, payload = letter(b"a@x", more=b"To: b@x\r\n"), gossip((b"b@x", key))
     for setting, expected in ((Gossip.UNSET, key), (Gossip.TAKE, key), (Gossip.SKIP, None)):
@@ -95,7 +95,7 @@ def test_unset_gossip_is_taken_and_skip_skips():
         assert target_key(table, b"b@x") == expected
 
 
-def test_numbers_beyond_the_width_are_beyond_the_limit():
+def test_numbers_beyond_the_width_are_beyond_the_limit_R3_A7():
     """ctypes would cut them down, to 0 here."""
     table, _ = table_with(b"a@x")
     with pytest.raises(Refused) as caught:
@@ -104,14 +104,14 @@ def test_numbers_beyond_the_width_are_beyond_the_limit():
     assert target_key(table, b"a@x", place=2**64) is None
 
 
-def test_limit_on_the_receipt_time():
+def test_limit_on_the_receipt_time_R3():
     table = Table.new(1)
     process(table, 253_402_300_799, letter(b"a@x"))
     assert entries(table)[0].last_seen == 253_402_300_799
 
 
 def test_a_thread_with_the_stack_that_the_header_names():
-    """The longest blocks; on a stack of half the size the interpreter would end here."""
+    """C18: the longest blocks; on a stack of half the size the interpreter would end here."""
     header = (ROOT / "include" / "vienghulac.h").read_text()
     size = int(re.search(r"^#define VIENGHULAC_STACK (\d+)$", header, re.MULTILINE).group(1))
     to = b"To: " + b",".join(b"%x@x" % number for number in range(8_000)) + b"\r\n"
@@ -125,7 +125,7 @@ def test_a_thread_with_the_stack_that_the_header_names():
     assert [entry.address for entry in entries(table)] == [b"a@x", b"0@x", b"1@x"]
 
 
-def test_no_key_is_none():
+def test_no_key_is_none_A7():
     table, _ = table_with(b"a@x")
     process(table, RECEIPT, letter(b"b@x"))
     assert target_key(table, b"b@x") is None
@@ -134,7 +134,7 @@ def test_no_key_is_none():
     assert target_key(table, b"no list") is None
 
 
-def test_new_tables():
+def test_new_tables_T13_R1():
     assert Table.new().slots == 256
     assert bytes(Table.new(1)) == bytes(4_392)
     for slots in (0, 257, 2**70):
@@ -143,14 +143,14 @@ def test_new_tables():
         assert caught.value.number == 1
 
 
-def test_refusals_have_numbers_words_and_a_slot():
+def test_refusals_have_numbers_words_and_a_slot_R33():
     broken = bytes(4_392 * 3) + b"x" + bytes(4_391)
     with pytest.raises(Refused) as caught:
         Table(broken)
     assert (caught.value.number, caught.value.slot) == (2, 3)
-    assert str(caught.value) == "refused 2: a slot is neither free nor sound (slot 3)"
+    assert str(caught.value) == "refused 2: the table has a damaged slot (slot 3)"
     with pytest.raises(Refused) as caught:
         Table(b"")
     assert (caught.value.number, caught.value.slot) == (1, None)
-    assert str(caught.value) == "refused 1: table length isn't 1 to 256 whole slots"
+    assert str(caught.value) == "refused 1: the table does not have 1 to 256 whole slots"
     assert list(REFUSALS) == list(range(1, 13))

@@ -13,7 +13,7 @@ from pathlib import Path
 import pytest
 from letters import EXAMPLES, RECEIPT, letter, table_with
 
-from vienghulac import Table, autocrypt_field, entries, gossip_field, process, target_key
+from vienghulac import REFUSALS, Table, autocrypt_field, entries, gossip_field, process, target_key
 
 INBOX = EXAMPLES / "inbox.mbox"
 ALICE, BOB, CAROL, DAVE = "alice@autocrypt.example", "bob@autocrypt.example", "carol@autocrypt.example", "dave@mail.example"
@@ -58,7 +58,7 @@ def test_import_of_the_example(table_file):
     out = answer("import", INBOX, "--table", table_file).decode()
     assert out.splitlines()[0] == "9 messages"
     assert out.splitlines()[1].split() == ["7", "0", "done"]
-    assert [line.split()[:2] for line in out.splitlines()[2:4]] == [["1", "5"], ["1", "6"]]
+    assert [line.split(None, 2) for line in out.splitlines()[2:4]] == [["1", "5", REFUSALS[5]], ["1", "6", REFUSALS[6]]]
     assert out.splitlines()[4] == f"{table_file}: 4 of 256 slots used"
     assert [entry.address.decode() for entry in entries(Table.load(table_file))] == [ALICE, BOB, CAROL, DAVE]
 
@@ -130,7 +130,7 @@ def test_a_failed_import_changes_nothing(imported, tmp_path):
     assert "refused 1" in failure(1, "import", INBOX, "--table", tmp_path / "new.table", "--slots", "257")
     imported.write_bytes(before[:-1])
     assert failure(1, "import", INBOX, "--table", imported) == (
-        f"vienghulac: {imported}: refused 1: table length isn't 1 to 256 whole slots\n"
+        f"vienghulac: {imported}: refused 1: the table does not have 1 to 256 whole slots\n"
     )
     assert imported.read_bytes() == before[:-1]
 
@@ -229,8 +229,8 @@ def test_check(imported, tmp_path):
     assert done.returncode == 1
     assert done.stdout.decode() == f"{imported}: 4 of 256 slots used\n"
     assert done.stderr.decode().splitlines() == [
-        f"vienghulac: {broken}: refused 2: a slot is neither free nor sound (slot 1)",
-        f"vienghulac: {INBOX}: refused 1: table length isn't 1 to 256 whole slots",
+        f"vienghulac: {broken}: refused 2: the table has a damaged slot (slot 1)",
+        f"vienghulac: {INBOX}: refused 1: the table does not have 1 to 256 whole slots",
     ]
     done = run("check", "--json", broken, tmp_path / "none", imported)
     assert done.returncode == 1 and done.stderr.count(b"\n") == 2

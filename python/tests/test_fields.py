@@ -39,12 +39,12 @@ def test_fields_as_the_independent_program():
     assert seen == {0, 9, 11}
 
 
-def test_the_papers_own_field():
+def test_the_example_W2_W3():
     assert (
-        autocrypt_field(b"a@b.example", b"foo", mutual=True)
-        == b"Autocrypt: addr=a@b.example; prefer-encrypt=mutual; keydata=\r\n Zm9v\r\n"
+        autocrypt_field(b"Bob@b.example", b"foo", mutual=True)
+        == b"Autocrypt: addr=bob@b.example; prefer-encrypt=mutual; keydata=\r\n Zm9v\r\n"
     )
-    assert gossip_field(b"a@b.example", b"foo") == b"Autocrypt-Gossip: addr=a@b.example; keydata=\r\n Zm9v\r\n"
+    assert gossip_field(b"Bob@b.example", b"foo") == b"Autocrypt-Gossip: addr=bob@b.example; keydata=\r\n Zm9v\r\n"
 
 
 def test_the_pair():
@@ -83,7 +83,7 @@ def test_the_value_without_its_type_folds_alike_for_an_ordinary_key():
         assert message.as_bytes() == autocrypt_field(b"alice@autocrypt.example", key, True) + b"\r\n"
 
 
-def test_what_a_message_writes_is_read_back():
+def test_what_a_message_writes_is_read_back_C7_C9():
     key = os.urandom(1_758)
     message = EmailMessage(policy=policy.SMTP)
     message["From"] = "Alice <Alice@a.example>"

@@ -55,7 +55,7 @@ def test_the_last_message_may_end_anywhere(mbox):
     assert mbox(b"") == []
 
 
-def test_blocks_and_lines_without_end_are_cut_above_the_limit(mbox):
+def test_blocks_and_lines_without_end_are_cut_above_the_limit_B1(mbox):
     for block in (b"A: b\n" * 100_000, b"A:" + b"x" * 1_000_000):
         ((found, _), (after, _)) = mbox(OPENING + block + b"\n\n" + OPENING + b"From: a@x\n\n")
         assert 65_536 < len(found) < 3 * 65_536 and block.startswith(found) and after == b"From: a@x\n\n"

@@ -199,7 +199,7 @@ def test_a_key_goes_on_while_only_reads_happen(table_file):
     assert view == key
 
 
-def test_a_refused_write_ends_no_key():
+def test_a_refused_write_ends_no_key_A11():
     table, (key,) = table_with(b"a@x", slots=1)
     view = target_key(table, b"a@x")
     with pytest.raises(Refused):

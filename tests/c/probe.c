@@ -1,4 +1,4 @@
-/* The static library called from C: a few answers whose values are known from RFC 4648 and the scope paper. */
+/* The static library called from C: a few answers whose values are known from RFC 4648 and from docs/SCOPE.md. */
 #include "expect.h"
 
 typedef struct { uint64_t kind, value; } answer;

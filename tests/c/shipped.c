@@ -1,9 +1,10 @@
-/* The shipped library called through its header, as C and as C++: answers whose values are known from the scope paper. */
+/* The shipped library called through its header, as C and as C++: answers whose values are known from docs/SCOPE.md. */
 #include "expect.h"
 #include "vienghulac.h"
 
-static const char field[] = "Autocrypt: addr=a@b.example; prefer-encrypt=mutual; keydata=\r\n Zm9v\r\n";
-static const char gossip[] = "Autocrypt-Gossip: addr=a@b.example; keydata=\r\n Zm9v\r\n";
+/* W2: the example, and W3: the same as gossip. */
+static const char field[] = "Autocrypt: addr=bob@b.example; prefer-encrypt=mutual; keydata=\r\n Zm9v\r\n";
+static const char gossip[] = "Autocrypt-Gossip: addr=bob@b.example; keydata=\r\n Zm9v\r\n";
 
 /* Mail from Bob, a reply of Carol's with gossip about Dave, and what follows for a mail to them. */
 static const char from_bob[] = "From: Bob <Bob@b.example>\nAutocrypt: addr=bob@b.example; prefer-encrypt=mutual; keydata=Zm9v\n\n";
@@ -24,7 +25,7 @@ static bool holds_nothing(const uint64_t *numbers, uint64_t behind) {
     return zeros && numbers[VIENGHULAC_NUMBERS] == behind;
 }
 
-/* The entries after the talk below: Bob's key came with his own mail, Carol has none, Dave's came with Carol's mail. */
+/* T14, on the entries after the talk below: Bob's key came with his own mail, Carol has none, Dave's came with Carol's. */
 static void look(uint8_t *table, size_t length) {
     vienghulac_numbers bob, carol, dave;
     vienghulac_answer a = vienghulac_entry(table, length, 0, &bob.used, VIENGHULAC_NUMBERS);
@@ -48,7 +49,7 @@ static void look(uint8_t *table, size_t length) {
     expect("Dave's gossip key", leads_to(table, dave.gossip_start, dave.gossip_length, "bar"));
 }
 
-/* Slots without an entry, and refusals: a table of one entry and a free slot. */
+/* T14, R12, R31 and R32: slots without an entry, and refusals, on a table of one entry and a free slot. */
 static void look_for_nothing(void) {
     static uint8_t table[2 * VIENGHULAC_SLOT];
     uint64_t numbers[VIENGHULAC_NUMBERS + 1], before[VIENGHULAC_NUMBERS + 1];
@@ -83,6 +84,7 @@ static void look_for_nothing(void) {
     expect("the struct is the numbers", sizeof(vienghulac_numbers) == VIENGHULAC_NUMBERS * sizeof(uint64_t));
 }
 
+/* Pages U, G and A on a small table, then refusals 3, 4, 5, 8, 10 and 1. */
 static void talk(void) {
     static uint8_t table[3 * VIENGHULAC_SLOT], before[sizeof table];
     const uint8_t *bob = octets(to_bob), *all = octets(to_all);
@@ -132,25 +134,28 @@ static void talk(void) {
 int main(void) {
     talk();
     look_for_nothing();
-    const uint8_t *address = octets("A@b.Example"), *key = octets("foo");
-    const size_t length = sizeof field - 1;
+    const uint8_t *address = octets("Bob@b.Example"), *key = octets("foo");
+    const size_t address_length = 13, length = sizeof field - 1;
     uint8_t out[128], before[128];
     memset(out, '?', sizeof out);
     memcpy(before, out, sizeof out);
 
+    /* W1, R34: refusals 9, 11 and 12 in this order, with length 0. */
     vienghulac_written r = vienghulac_write_autocrypt(NULL, 0, NULL, 0, true, NULL, 0);
     expect("nothing lent", r.number == 9 && r.length == 0);
-    r = vienghulac_write_autocrypt(address, 11, NULL, 0, true, out, sizeof out);
+    r = vienghulac_write_autocrypt(address, address_length, NULL, 0, true, out, sizeof out);
     expect("no key", r.number == 11 && r.length == 0);
-    r = vienghulac_write_autocrypt(address, 11, key, 3, true, out, length - 1);
+    r = vienghulac_write_autocrypt(address, address_length, key, 3, true, out, length - 1);
     expect("one octet short", r.number == 12 && r.length == 0);
     expect("a refusal writes nothing", memcmp(out, before, sizeof out) == 0);
-    r = vienghulac_write_autocrypt(address, 11, key, 3, true, out, length);
-    expect("just enough", r.number == 0 && r.length == length && memcmp(out, field, length) == 0);
+    /* W6: an output of just that length is enough, and octets behind the field stay. */
+    r = vienghulac_write_autocrypt(address, address_length, key, 3, true, out, length);
+    expect("just enough", length == 71 && r.number == 0 && r.length == length && memcmp(out, field, length) == 0);
     expect("nothing behind it", memcmp(out + length, before + length, sizeof out - length) == 0);
-    r = vienghulac_write_gossip(address, 11, key, 3, out, sizeof out);
+    r = vienghulac_write_gossip(address, address_length, key, 3, out, sizeof out);
     expect("gossip", r.number == 0 && r.length == sizeof gossip - 1 && memcmp(out, gossip, r.length) == 0);
 
+    /* T13, R1 and R2. */
     static uint8_t table[2 * VIENGHULAC_SLOT];
     vienghulac_answer a = vienghulac_check(table, sizeof table);
     expect("zeros are a table", a.number == 0 && a.index == 0);

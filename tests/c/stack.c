@@ -1,4 +1,4 @@
-/* The stack that calls need, on threads whose stack is just VIENGHULAC_STACK: the longest messages, and the longest
+/* The stack that calls need (C18), on threads whose stack is just VIENGHULAC_STACK: the longest messages, and the longest
  * arguments of the other calls, are answered as on the stack of the program.
  *
  * The thread's stack is filled with a pattern first, so that what a call has touched shows how much it needs; below it

@@ -189,7 +189,7 @@ class Probe(Bound):
         return self._field(block, *places) if kind == 2 else kind
 
     def steps(self, block: bytes) -> list[tuple[bytes, bytes]] | None:
-        """As `fields`, by a reader that hands out one field at a time; where there is none, it stays."""
+        """As `fields`, by a reader that is asked for one field after the other (B14); where there is none, it stays."""
         found, at = [], 0
         while True:
             kind, (place, *places) = self.told("probe_take", 5, {0, 1, 2}, _read + [_size], block, len(block), at)

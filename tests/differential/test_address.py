@@ -7,6 +7,8 @@ from probe import SEED, Probe
 
 
 class Address(unittest.TestCase):
+    """L6 to L8: what is plain, what is canonical, and when two are the same."""
+
     def setUp(self):
         self.probe = Probe()
         self.cases = Cases(SEED)
@@ -30,7 +32,7 @@ class Address(unittest.TestCase):
             answers.add(self.same(self.cases.address()))
         self.assertEqual(answers, {False, True})
 
-    def test_limits(self):
+    def test_limits_L6_L7(self):
         for local in (0, 1, 63, 64, 65):
             for label in (0, 1, 62, 63, 64):
                 self.same(b"l" * local + b"@" + b"d" * label)
@@ -40,7 +42,7 @@ class Address(unittest.TestCase):
             self.same(b"l@" + domain[: length - 2])
             self.same(b"l@" + domain[: length - 4] + b".x")
 
-    def test_each_octet(self):
+    def test_each_octet_L6_L7(self):
         for x in range(256):
             for s in (b"%c@b", b"a%c@b", b"a%cc@b", b"a@%c", b"a@b%c", b"a@b%cc", b"a@%cb", b"a%cb"):
                 self.same(s % x)
@@ -53,7 +55,7 @@ class Address(unittest.TestCase):
             for text in texts:
                 self.assertEqual(self.probe.is_plain(text), address.is_plain(text), text)
 
-    def test_same_address(self):
+    def test_same_address_L8(self):
         for _ in range(5_000):
             a = self.cases.address()
             for b in (a.upper(), a.swapcase(), self.cases.mutate(a), self.cases.address()):

@@ -7,6 +7,8 @@ from probe import SEED, Probe
 
 
 class Base64(unittest.TestCase):
+    """F9, F10 and W4: key data as it is read, and the lines in which it is written."""
+
     def setUp(self):
         self.probe = Probe()
         self.cases = Cases(SEED)
@@ -33,7 +35,7 @@ class Base64(unittest.TestCase):
             cases.add(self.decode(text, self.cases.octets(room).ljust(room, b"?")))
         self.assertEqual(cases, {"no Base64", "no room", "just enough room", "room"})
 
-    def test_each_group(self):
+    def test_each_group_F9(self):
         """Each character at each place of a last group, after a whole one."""
         for place in range(4):
             for x in range(256):
@@ -41,7 +43,7 @@ class Base64(unittest.TestCase):
                     text = b"Zm9v" + group[:place] + bytes([x]) + group[place + 1 :]
                     self.decode(text, bytes(8))
 
-    def test_lines(self):
+    def test_lines_W4(self):
         lengths = list(range(0, 240)) + [2046, 2047, 2048, 2049, 8192]
         for length in lengths:
             key = self.random.randbytes(length)

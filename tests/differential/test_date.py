@@ -9,6 +9,8 @@ MONTHS = b"Jan Feb Mar Apr May Jun Jul Aug Sep Oct Nov Dec".split()
 
 
 class Date(unittest.TestCase):
+    """Page D."""
+
     def setUp(self):
         self.probe = Probe()
         self.cases = Cases(SEED)
@@ -47,7 +49,7 @@ class Date(unittest.TestCase):
             self.same(b"1 Jan %s 00:00 GMT" % year)
         self.same(b"1 Jan " + b"2" * 65_000 + b" 00:00 GMT")
 
-    def test_names(self):
+    def test_names_D7_D8_D12(self):
         for zone in b"UT GMT EST EDT CST CDT MST MDT PST PDT Z A ES ESTT est eDt utc x".split():
             self.same(b"2 Jan 2000 00:00 " + zone)
         for name in MONTHS + b"Jen Janu Ja jAN MAY".split():
@@ -56,7 +58,7 @@ class Date(unittest.TestCase):
             self.same(name + b", 2 Jan 2000 00:00 GMT")
             self.same(name + b" 2 Jan 2000 00:00 GMT")
 
-    def test_effective(self):
+    def test_effective_D1_D2(self):
         for _ in range(2_000):
             receipt = self.random.choice([0, 1, 253_402_300_799, self.random.randrange(2**38)])
             value = self.cases.date_value()

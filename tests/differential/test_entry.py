@@ -11,6 +11,8 @@ SLOT, NUMBERS = tables.SLOT, tables.NUMBERS
 
 
 class OneSlot(unittest.TestCase):
+    """T14, with R1, R2, R12 and R32."""
+
     def setUp(self):
         self.both = Both()
         self.cases = Cases(SEED)

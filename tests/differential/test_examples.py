@@ -1,4 +1,4 @@
-"""The example messages of source 000 through the shipped library, each call compared with the independent program."""
+"""C15: the example messages of Autocrypt Level 1 through the shipped library, each call compared with the independent program."""
 import itertools
 import unittest
 
@@ -96,14 +96,14 @@ class EveryWay(unittest.TestCase):
                 self.ask(table, to, [known.get(address, b"") for address in to] + [b""])
 
     def test_receipt_times(self):
-        """Each date is the receipt time where that is earlier."""
+        """D2: each date is the receipt time where that is earlier; R3: which has a limit."""
         for receipt in (0, SETUP_DATE, TO_BOB_DATE - 1, TO_BOB_DATE, TO_BOB_DATE + 1, TIME_LIMIT):
             self.fetch(with_free([], 3), MAILS_MIXED, UNSET, receipt)
         for outer, payload in MAILS:
             self.assertEqual(BOTH.process(bytes(SLOT), TIME_LIMIT + 1, outer, payload, UNSET), (3, 0, bytes(SLOT)))
 
     def test_every_octet_as_the_setting(self):
-        """Any value but those of take and skip counts as unset, and unset takes."""
+        """G1: any value but those of take and skip counts as unset, and unset takes."""
         taken = table_of([examples.ALICE_SENT, examples.BOB_TOLD, examples.CAROL_TOLD])
         skipped = table_of([examples.ALICE_SENT, None, None])
         for setting in range(256):

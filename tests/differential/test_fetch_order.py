@@ -1,4 +1,4 @@
-"""Fetch order is immaterial: demand 3 run by the shipped library, each call compared with the independent program."""
+"""C11: the order of fetching does not matter, run by the shipped library, each call compared with the independent program."""
 import unittest
 
 from both import Both

@@ -5,10 +5,12 @@ from against import Cases
 from scope import address, base64, keyfield
 from probe import SEED, Probe
 
-GOOD = b"addr=a@b.example; prefer-encrypt=mutual; keydata=Zm9v"
+GOOD = b"addr=bob@b.example; prefer-encrypt=mutual; keydata=Zm9v"
 
 
 class KeyField(unittest.TestCase):
+    """F1 to F11."""
+
     def setUp(self):
         self.probe = Probe()
         self.cases = Cases(SEED)
@@ -51,7 +53,7 @@ class KeyField(unittest.TestCase):
             for text in texts:
                 self.same(b";".join(text))
 
-    def test_key_limits(self):
+    def test_key_limits_F10(self):
         for length in (0, 1, 2, 2047, 2048, 2049, 3000):
             text = base64.encode(bytes(length))
             for room in (length - 1, length, 2048, 4000):

@@ -8,6 +8,8 @@ from probe import SEED, Probe
 
 
 class AddressList(unittest.TestCase):
+    """L9 to L18."""
+
     def setUp(self):
         self.probe = Probe()
         self.cases = Cases(SEED)
@@ -41,7 +43,7 @@ class AddressList(unittest.TestCase):
             for s in (b"%c", b"a@b%c", b"%ca@b", b"a%c@b", b"<a@b%c>", b"x%c<a@b>", b"g:a@b;%c", b'"%c" <a@b>', b"a@b,%cc@d"):
                 self.same(s % x)
 
-    def test_long_lists(self):
+    def test_long_lists_L17(self):
         for s in (b"a@b," * 16_000 + b"c@d", b"x " * 30_000 + b"<a@b>", b"g:;," * 16_000 + b"a@b", b"," * 60_000, b"a" * 60_000, b"a@" * 30_000):
             self.same(s)
 

@@ -1,4 +1,4 @@
-"""Crate printout and the listing program against the independent program."""
+"""W7 to W10: crate printout and the listing program against the independent program."""
 import platform
 import shutil
 import subprocess
@@ -38,7 +38,7 @@ class Printout(unittest.TestCase):
             seen.add(printed if printed.startswith(b"refused") else b"lines")
         self.assertEqual(seen, {b"lines", b"refused 1\n", b"refused 2\n"})
 
-    def test_sizes(self):
+    def test_sizes_W7(self):
         """Tables of each size: sound, with a broken slot, and of a length that is not that of whole slots."""
         for size in range(1, 16):
             for _ in range(10):
@@ -50,7 +50,7 @@ class Printout(unittest.TestCase):
                 for odd in (table[:-1], table + b"\0", table[: self.random.randrange(len(table))]):
                     self.same(odd)
 
-    def test_numbers(self):
+    def test_numbers_W9(self):
         """Numbers of each count of digits."""
         for time in [0, LIMIT] + [x for k in range(1, 12) for x in (10**k - 1, 10**k, 10**k + 1)]:
             self.same_entry(time)
@@ -60,7 +60,7 @@ class Printout(unittest.TestCase):
             self.same_entry(5, 5, b"k" * length, True, 7, b"g")
             self.same_entry(5, 5, b"k", False, 7, b"g" * length)
 
-    def test_longest(self):
+    def test_longest_W8(self):
         """Fourteen of the longest lines."""
         domain = b".".join([b"d" * 63, b"d" * 63, b"d" * 61])
         addresses = [b"%02d" % i + b"l" * 62 + b"@" + domain for i in range(14)]

@@ -54,6 +54,8 @@ ALL = {
 
 
 class Processing(unittest.TestCase):
+    """Pages U and G, and refusals 1 to 8."""
+
     def setUp(self):
         self.both = Both()
         self.cases = Cases(SEED)
@@ -86,7 +88,7 @@ class Processing(unittest.TestCase):
         self.assertGreater(sum(answers.values()), 25_000)
         self.assertEqual(set(answers), {0, 3, 4, 5, 6, 7, 8})
 
-    def test_room(self):
+    def test_room_R8(self):
         """Newcomers for whom there is exactly enough room, and one slot less."""
         key = b"keydata=Zm9v"
         for known in range(4):
@@ -101,13 +103,13 @@ class Processing(unittest.TestCase):
                     number, _ = self.same(table, 1000, outer, payload, processing.TAKE)
                     self.assertEqual(number, 8 if free < new + 1 else 0)
 
-    def test_receipt_times(self):
+    def test_receipt_times_R3(self):
         table = bytes(2 * tables.SLOT)
         for receipt in (0, 1, tables.TIME_LIMIT - 1, tables.TIME_LIMIT, tables.TIME_LIMIT + 1, (1 << 64) - 1):
             number, _ = self.same(table, receipt, b"From: a@b\n", b"", 0)
             self.assertEqual(number, 3 if receipt > tables.TIME_LIMIT else 0)
 
-    def test_full_payload(self):
+    def test_full_payload_U4_G4(self):
         """A payload full of small gossip fields, and a To list as long as a block may have."""
         names = [b"%x@b" % i for i in range(9_000)]
         to = b"From:a@b\nTo:" + b",".join(names)

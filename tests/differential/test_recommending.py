@@ -28,6 +28,8 @@ def entries() -> list[tables.Entry]:
 
 
 class Recommending(unittest.TestCase):
+    """Page A, and refusals 1, 2 and 10."""
+
     def setUp(self):
         self.both = Both()
         self.cases = Cases(SEED)
@@ -52,7 +54,7 @@ class Recommending(unittest.TestCase):
         self.assertEqual(answers, {(0, 1), (0, 2), (0, 3), (0, 4), (1, 0), (2, 0), (10, 0)})
         self.assertEqual(keys, {False, True})
 
-    def test_every_combination(self):
+    def test_every_combination_A2_A5(self):
         """Lists of one and of two: each entry, and each pair of entries, with either preference, as a reply or not."""
         held = entries()
         table = tables.table_of(held)
@@ -67,7 +69,7 @@ class Recommending(unittest.TestCase):
                 self.assertEqual(self.target(table, recipients, False, False, place), known.get(address, b""))
             self.assertEqual(self.target(table, recipients, True, True, len(places)), b"")
 
-    def test_places(self):
+    def test_places_A10(self):
         """Groups, comments, names, capitals and equal recipients: each place has its own recipient's key."""
         held = [None] + entries()
         table = tables.table_of(held)
@@ -80,7 +82,7 @@ class Recommending(unittest.TestCase):
             self.assertEqual(self.target(table, recipients, False, False, place), b"")
         self.assertEqual(self.advised(table, recipients, True, True), (0, recommending.ENCRYPT))
 
-    def test_refusals(self):
+    def test_refusals_R10_A7(self):
         """Lists of 0, 1, 2, 99, 100, 101 and 200 places, readable or not, with a sound, a broken and a cut table; no key is handed
         back where the advice is refused."""
         held = entries()[4:6]

@@ -1,5 +1,5 @@
-"""The vectors of RFC 4648, section 10, both ways through the shipped library: decoded as the key data of a message, encoded as
-the key of a written field. What comes out is the value that stands in the RFC, and what the independent program says."""
+"""C15: the vectors of RFC 4648, section 10, both ways through the shipped library: decoded as the key data of a message, encoded
+as the key of a written field. What comes out is the value that stands in the RFC, and what the independent program says."""
 import unittest
 
 import against  # noqa: F401  makes the independent program importable
@@ -9,12 +9,13 @@ from probe import Probe
 from rfc4648 import VECTORS
 
 KEYS = VECTORS[1:]  # no octets are no key
+ADDRESS = b"a@b.example"
 
 # what opens a field, by its preference; gossip has none
 OPENINGS = {
-    False: b"Autocrypt: addr=a@b.example; keydata=\r\n ",
-    True: b"Autocrypt: addr=a@b.example; prefer-encrypt=mutual; keydata=\r\n ",
-    None: b"Autocrypt-Gossip: addr=a@b.example; keydata=\r\n ",
+    False: b"Autocrypt: addr=%s; keydata=\r\n " % ADDRESS,
+    True: b"Autocrypt: addr=%s; prefer-encrypt=mutual; keydata=\r\n " % ADDRESS,
+    None: b"Autocrypt-Gossip: addr=%s; keydata=\r\n " % ADDRESS,
 }
 
 TABLE = bytes(2 * tables.SLOT)
@@ -90,14 +91,14 @@ class Vectors(unittest.TestCase):
                     self.assertEqual(self.write(octets, mutual), (0, opening + text + b"\r\n"))
 
     def test_there_and_back(self):
-        """A message that carries the written field gives the key back."""
+        """C7: a message that carries the written field gives the key back."""
         for octets, _ in KEYS:
             with self.subTest(octets):
                 sender, _ = self.process(message(self.write(octets, True)[1]))
                 self.assertEqual((sender.direct_key, sender.mutual), (octets, True))
 
     def test_no_octets(self):
-        """The empty vector: what writes refuses such a key, and such key data spoils the field that has it, and no other."""
+        """The empty vector: what writes refuses such a key (R11); such key data spoils its field (F10), and no other (F13)."""
         for mutual in OPENINGS:
             self.assertEqual(self.write(b"", mutual), (11, b""))
         kind, *_, after = self.probe.read_field(value(b""), OUT)

@@ -22,6 +22,8 @@ def defects(slot: bytes):
 
 
 class Table(unittest.TestCase):
+    """T1 to T13 and T15: what is sound, and where the entry of an address is."""
+
     def setUp(self):
         self.probe = Probe()
         self.library = Library()
@@ -48,7 +50,7 @@ class Table(unittest.TestCase):
             answers.add(self.same(self.cases.broken_slot()))
         self.assertEqual(answers, {0, 1, 2})
 
-    def test_each_defect(self):
+    def test_each_defect_T8(self):
         """Each single defect, in a first, middle and last slot, of tables of 1, 2, 14 and 256 slots."""
         entries = [
             tables.Entry(b"alice@a.example", 1000, 1000, b"abc", True),
@@ -68,11 +70,11 @@ class Table(unittest.TestCase):
                 for other in {0, count // 2, count - 1} - {at}:
                     self.same(b"".join(rest[:at] + [rest[other]] + rest[at + 1 :]))
 
-    def test_lengths(self):
+    def test_lengths_R1(self):
         for length in (0, 1, SLOT - 1, SLOT, SLOT + 1, 2 * SLOT, 256 * SLOT - 1, 256 * SLOT, 256 * SLOT + 1, 257 * SLOT):
             self.same(bytes(length))
 
-    def test_times(self):
+    def test_times_T8(self):
         for seen in (0, 1, tables.TIME_LIMIT, tables.TIME_LIMIT + 1, 2**64 - 1):
             for stamp in (0, 1, tables.TIME_LIMIT, tables.TIME_LIMIT + 1, 2**64 - 1):
                 self.same(tables.slot_of(tables.Entry(b"a@b", seen, stamp, b"k")))

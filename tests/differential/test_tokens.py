@@ -7,6 +7,8 @@ from probe import SEED, Probe
 
 
 class Tokens(unittest.TestCase):
+    """L1 to L5."""
+
     def setUp(self):
         self.probe = Probe()
         self.cases = Cases(SEED)
@@ -25,7 +27,7 @@ class Tokens(unittest.TestCase):
                 answers.add(self.skip(s, at))
         self.assertEqual(answers, {False, True})
 
-    def test_depth(self):
+    def test_depth_L2(self):
         for depth in range(1, 20):
             for inside in (b"", b"x", b"\\)", b"()", b" \\\\"):
                 self.skip(b" " + b"(" * depth + inside + b")" * depth + b" x", 0)

@@ -9,6 +9,8 @@ from probe import SEED, Probe
 
 
 class Writing(unittest.TestCase):
+    """W1 to W6, and refusals 9, 11 and 12."""
+
     def setUp(self):
         self.both = Both()
         self.cases = Cases(SEED)
@@ -21,7 +23,7 @@ class Writing(unittest.TestCase):
             answers.add(self.both.write_gossip(*self.cases.writing_gossip())[0])
         self.assertEqual(answers, {0, 9, 11, 12})
 
-    def test_limits(self):
+    def test_limits_W6_R9_R11_R12(self):
         """Addresses and keys at both ends of each limit, an output of every length around the field's."""
         domain = b"@" + b".".join([b"d" * 63] * 2) + b"." + b"D" * 61
         addresses = [b"a@b", b"L" * 64 + b"@b", b"l" * 65 + b"@b", b"l" * 64 + domain, b"l" * 64 + domain + b"d", b"", b" a@b", b"\xc3\x84@B"]
@@ -36,13 +38,13 @@ class Writing(unittest.TestCase):
                 for room in {0, max(0, length - 1), length, length + 1}:
                     self.both.write_gossip(address, key, room)
 
-    def test_example(self):
-        """The paper's own field."""
-        field = b"Autocrypt: addr=a@b.example; prefer-encrypt=mutual; keydata=\r\n Zm9v\r\n"
-        self.assertEqual(self.both.library.write_autocrypt(b"a@b.example", b"foo", True, bytes(80)), (0, len(field), field.ljust(80, b"\0")))
+    def test_example_W2_W6(self):
+        """The example of SCOPE; behind it the output stays as it was."""
+        field = b"Autocrypt: addr=bob@b.example; prefer-encrypt=mutual; keydata=\r\n Zm9v\r\n"
+        self.assertEqual(self.both.library.write_autocrypt(b"Bob@b.example", b"foo", True, b"?" * 80), (0, 71, field.ljust(80, b"?")))
 
     def test_read_back(self):
-        """What is written is read back by the library's own readers, alone and between other fields."""
+        """C6: what is written is read back by the library's own readers, alone and between other fields."""
         probe = Probe()
         for _ in range(2_000):
             address, key, mutual = self.cases.address(), self.cases.good_key(), self.cases.chance(0.5)

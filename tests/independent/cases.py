@@ -4,8 +4,8 @@
     table, receipt, outer, payload, gossip = cases.processing()
 
 Every method hands out one new input. Each mixes good input, input at both ends of
-each limit of paper 01, and good input that was mutated. The same seed gives the same
-cases in the same order; nothing is stored.
+each limit of docs/SCOPE.md, and good input that was mutated. The same seed gives the
+same cases in the same order; nothing is stored.
 """
 
 import random
@@ -25,7 +25,7 @@ PEERS = [b"alice@a.example", b"bob@b.example", b"carol@c.example", b"dave@d.exam
          b"erin@e.example", b"\xc3\xa9va@f.example", b"p=q+r@g.example", b"x@y"]
 
 # Times that messages and tables share, so that dates are equal, older and newer, and
-# gaps fall on both sides of 35 days.
+# gaps fall on both sides of 35 days (A3).
 MOMENTS = [0, 1, 999, 1000, 1001, 1000 + GAP_LIMIT - 1, 1000 + GAP_LIMIT, 1001 + GAP_LIMIT,
            1_510_062_830, 1_510_062_985, TIME_LIMIT - 1, TIME_LIMIT]
 
@@ -425,7 +425,7 @@ class Cases:
         return text
 
     def list_place(self, address: bytes) -> bytes:
-        """`address` or `[phrase] <address>`, with fillers around it."""
+        """An address, bare or in angle brackets with a phrase or without, and fillers around it (L9)."""
         if self.chance(0.5):
             return self.filler() + address + self.filler()
         words = self.phrase() if self.chance(0.7) else b""
@@ -564,7 +564,7 @@ class Cases:
         return name + b":" + (self.folded(value) if self.chance(0.4) else value) + self.ending()
 
     def plain_field(self) -> bytes:
-        """A field that no call looks at."""
+        """A field that no call looks at (B12)."""
         name = self.one([b"Subject", b"X", b"!#", b"Message-ID", b"Bcc", b"Sender", b"Resent-To",
                          self.some(bytes(octet for octet in range(33, 127) if octet != 58), 1, 8)])
         value = self.one([b"x", b"", b"a: b", b"\r", b"\x00\x01\xff", self.peer(), b" \t ", b"b\rc",
@@ -574,7 +574,7 @@ class Cases:
         return self.field(name, value)
 
     def bad_line(self) -> bytes:
-        """A line that makes a block unreadable, unless it continues a field."""
+        """A line that makes a block unreadable (B8), unless it continues a field."""
         return self.one([b"no field", b":", b": x", b" :x", b"A :b", b"\r", b"A\r:b", b"\xef\xbb\xbfA:b",
                          b"From a@b Mon Jan  1 00:00:00 1970", b"\x7f:x", b"A\x00:x", b"\xff:x", b"A"])
 
@@ -677,7 +677,7 @@ class Cases:
         return table_of(self.held())
 
     def broken_slot(self) -> bytes:
-        """A slot that breaks one condition of soundness, as a rule exactly one."""
+        """A slot that breaks one condition of soundness (T8), as a rule exactly one."""
         entry = self.entry(self.one(PEERS))
         kind = self.random.randrange(15)
         if kind == 0:
@@ -772,7 +772,7 @@ class Cases:
         if self.chance(0.2):
             lines.append(self.plain_field())
         if self.chance(0.05):
-            # Gossip outside the payload is not read.
+            # B12: gossip outside the payload is not read.
             lines.append(self.field(b"Autocrypt-Gossip", self.field_value()))
         self.random.shuffle(lines)
         if kind == 2:
@@ -796,7 +796,7 @@ class Cases:
             address = self.one(listed) if self.chance(0.8) else None
             lines.append(self.field(b"Autocrypt-Gossip", self.field_value(address)))
         if self.chance(0.2):
-            # Fields of the payload that are not looked at.
+            # B12: fields of the payload that are not looked at.
             lines.append(self.field(self.one([b"Autocrypt", b"Date", b"To", b"From"]), self.peer()))
         if self.chance(0.3):
             lines.append(self.field(b"Content-Type", self.content_type()))

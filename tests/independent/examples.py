@@ -1,6 +1,6 @@
-"""The example messages of source 000 (6.2, 6.3, 6.7), and what they lead to.
+"""C15: the example messages of Autocrypt Level 1 (its sections 6.2, 6.3 and 6.7), and what they lead to.
 
-The text of 000 has lost octets of its Base64; the messages stand in tests/messages as source 001 prints them (X1).
+They stand in tests/messages as the older draft prints them.
 """
 
 import hashlib
@@ -91,18 +91,18 @@ class Examples:
 
 
 class Processed(Examples):
-    """The entries after the messages."""
+    """The entries after the messages: pages U and G on whole mails."""
 
-    def test_the_first_message(self):
+    def test_the_first_message_U8_B15(self):
         expected = Entry(ALICE, TO_BOB_DATE, TO_BOB_DATE, ALICE_KEY, True)
         for block in (TO_BOB, with_crlf(TO_BOB)):
             self.assertEqual(self.after(bytes(2 * SLOT), RECEIPT, block, b"", UNSET), [expected, None])
 
-    def test_received_before_it_was_sent(self):
+    def test_received_before_it_was_sent_D2(self):
         self.assertEqual(self.after(bytes(SLOT), TO_BOB_DATE - 1, TO_BOB, b"", UNSET),
                          [Entry(ALICE, TO_BOB_DATE - 1, TO_BOB_DATE - 1, ALICE_KEY, True)])
 
-    def test_the_gossip_message(self):
+    def test_the_gossip_message_G1_G7(self):
         for taken in (UNSET, TAKE):
             self.assertEqual(self.after(bytes(4 * SLOT), RECEIPT, TO_BOTH, PAYLOAD, taken),
                              [ALICE_SENT, BOB_TOLD, CAROL_TOLD, None])
@@ -112,18 +112,18 @@ class Processed(Examples):
         self.assertEqual(self.after(bytes(3 * SLOT), RECEIPT, TO_BOTH, PAYLOAD, SKIP),
                          [ALICE_SENT, None, None])
 
-    def test_too_few_slots_for_the_gossip_message(self):
+    def test_too_few_slots_for_the_gossip_message_R8(self):
         self.assertEqual(self.program.process(bytes(2 * SLOT), RECEIPT, TO_BOTH, PAYLOAD, TAKE),
                          (8, 0, bytes(2 * SLOT)))
 
-    def test_the_messages_in_every_order(self):
+    def test_the_messages_in_every_order_C11(self):
         for order in itertools.permutations(MAILS):
             held = bytes(3 * SLOT)
             for outer, payload in order:
                 held = self.table_after(held, RECEIPT, outer, payload, UNSET)
             self.assertEqual(entries(held), [ALICE_SENT, BOB_TOLD, CAROL_TOLD])
 
-    def test_the_recommendation_afterwards(self):
+    def test_the_recommendation_afterwards_A2_A4(self):
         held = self.table_after(bytes(3 * SLOT), RECEIPT, TO_BOTH, PAYLOAD, UNSET)
         self.assertEqual(self.advised(held, [ALICE], True, False), 4)
         self.assertEqual(self.advised(held, [ALICE], False, False), 3)
@@ -131,7 +131,7 @@ class Processed(Examples):
         self.assertEqual(self.advised(held, [BOB, CAROL], True, True), 4)
         self.assertEqual(self.target_keys(held, [ALICE, CAROL]), [ALICE_KEY, CAROL_KEY])
 
-    def test_the_fields_of_the_examples_are_written_as_they_stand(self):
+    def test_the_fields_of_the_examples_are_written_as_they_stand_W2_W4(self):
         number, field = self.program.write_autocrypt(ALICE, ALICE_KEY, True, 4000)
         self.assertEqual(number, 0)
         self.assertIn(field, with_crlf(TO_BOB))
@@ -143,13 +143,13 @@ class Processed(Examples):
 
 
 class Told(Examples):
-    """What 000 itself says of its examples, in other words."""
+    """What Autocrypt Level 1 expects of its examples; a name ends with the section."""
 
     EITHER = (False, True)
 
     def test_bob_can_write_back_encrypted_6_2(self):
-        # Alice's plain mail is enough for Bob to encrypt his answer: by default where he prefers it as she does, else
-        # when he chooses to. The key for it has the key id that stands in her mail.
+        # A4: Alice's plain mail is enough for Bob to encrypt his answer: by default where he prefers it as she does,
+        # else when he chooses to. The key for it has the key id that stands in her mail.
         held = self.table_after(bytes(SLOT), RECEIPT, TO_BOB, b"", UNSET)
         self.assertEqual(self.advised(held, [ALICE], True, False), ENCRYPT)
         self.assertEqual(self.advised(held, [ALICE], False, False), AVAILABLE)
@@ -157,8 +157,8 @@ class Told(Examples):
         self.assertEqual(first_packet_fingerprint(ALICE_KEY)[-8:].hex().upper(), "71DBC5657FDE65A7")
 
     def test_alice_tells_the_keys_that_she_has_6_3(self):
-        # She has mail with keys from Bob and from Carol. What she would encrypt to is what her gossip fields tell, and
-        # the program writes them as 000 prints them.
+        # A6, W3: she has mail with keys from Bob and from Carol. What she would encrypt to is what her gossip fields
+        # tell, and the program writes them as they are printed there.
         held = bytes(2 * SLOT)
         for address, key in ((BOB, BOB_KEY), (CAROL, CAROL_KEY)):
             _, field = self.program.write_autocrypt(address, key, False, 4000)
@@ -170,7 +170,7 @@ class Told(Examples):
         self.assertTrue(with_crlf(PAYLOAD).startswith(fields + b"Content-Type: text/plain\r\n"))
 
     def test_both_reply_to_all_and_the_thread_stays_encrypted_6_3(self):
-        # Neither knew the other before, nor has to prefer encryption; Alice may have written before or not.
+        # A4, G7: neither knew the other before, nor has to prefer encryption; Alice may have written before or not.
         for before in ([None], [Entry(ALICE, SETUP_DATE)]):
             held = self.table_after(table_of(before + [None, None]), RECEIPT, TO_BOTH, PAYLOAD, UNSET)
             for other, key in ((CAROL, CAROL_KEY), (BOB, BOB_KEY)):
@@ -179,7 +179,7 @@ class Told(Examples):
                 self.assertEqual(self.target_keys(held, [ALICE, other]), [ALICE_KEY, key])
 
     def test_a_new_mail_to_the_other_is_possible_but_discouraged_6_3_3_4_2(self):
-        # Being introduced is no more than gossip: encryption is possible, and not the default.
+        # A2: being introduced is no more than gossip: encryption is possible, and not the default.
         held = self.table_after(bytes(3 * SLOT), RECEIPT, TO_BOTH, PAYLOAD, UNSET)
         for mutual in self.EITHER:
             for other in (BOB, CAROL):
@@ -187,7 +187,8 @@ class Told(Examples):
                 self.assertEqual(self.advised(held, [ALICE, other], mutual, False), DISCOURAGE)
 
     def test_without_gossip_the_reply_to_all_cannot_be_encrypted_6_4(self):
-        # The answer is plain, because it is not known yet how to encrypt to one of the others. To Alice it need not be.
+        # A5, G2: the answer is plain, because it is not known yet how to encrypt to one of the others. To Alice it need
+        # not be.
         held = self.table_after(bytes(3 * SLOT), RECEIPT, TO_BOTH, PAYLOAD, SKIP)
         for mutual in self.EITHER:
             self.assertEqual(self.advised(held, [ALICE, CAROL], mutual, True), DISABLE)
@@ -195,7 +196,7 @@ class Told(Examples):
         self.assertEqual(self.target_keys(held, [ALICE, CAROL]), [ALICE_KEY, b""])
 
     def test_the_setup_message_has_no_autocrypt_field_6_7(self):
-        # A mail of Alice to herself like any mail without the field: she was seen, and there is no key of hers yet.
+        # U5: a mail of Alice to herself like any mail without the field: she was seen, and there is no key of hers yet.
         for block in (SETUP, with_crlf(SETUP)):
             held = self.table_after(bytes(SLOT), RECEIPT, block, b"", UNSET)
             self.assertEqual(entries(held), [Entry(ALICE, SETUP_DATE)])

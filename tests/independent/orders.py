@@ -1,4 +1,4 @@
-"""Demand 3 run: messages in many orders, and each of its premises dropped once.
+"""C11 run: messages in many orders, and each of its premises dropped once.
 
 The classes are mixed into test cases, which name the `program`: whatever has the calls of `scope.calls`.
 """
@@ -61,7 +61,7 @@ def advice(program, table: bytes, to: list[bytes], mutual: bool = True, reply: b
 
 
 class EachPremise:
-    """Without one of its premises two orders lead to different entries."""
+    """C11: without one of its premises two orders lead to different entries."""
 
     program = None
 
@@ -69,13 +69,13 @@ class EachPremise:
         """What the calls lead to, and what they do in the other order."""
         return fetch(self.program, table_of(held), calls), fetch(self.program, table_of(held), calls[::-1])
 
-    def test_room(self):
-        # One free slot, two new senders: the second one is refused.
+    def test_room_C11(self):
+        # R8: one free slot, two new senders: the second one is refused.
         (numbers, table), (others, other) = self.orders([keyed(A, 1000, ONE), keyed(B, 2000, TWO)], [None])
         self.assertEqual((numbers, others), ([0, 8], [0, 8]))
         self.assertEqual((set(by_address(table)), set(by_address(other))), ({A}, {B}))
 
-    def test_room_beside_others(self):
+    def test_room_beside_others_C11(self):
         # So it is in a table that holds others, and where gossip takes the last slot.
         calls = [telling(C, 1000, (A, ONE)), keyed(B, 2000, TWO)]
         (numbers, table), (others, other) = self.orders(calls, [Entry(C, 500), None, Entry(D, 9, 9, ONE)])
@@ -83,23 +83,23 @@ class EachPremise:
         self.assertEqual((set(by_address(table)), set(by_address(other))), ({A, C, D}, {B, C, D}))
         self.assertEqual((by_address(table)[C].last_seen, by_address(other)[C].last_seen), (1000, 500))
 
-    def test_one_direct_key_at_one_date(self):
-        # "An equal date replaces.": the last one stands.
+    def test_one_direct_key_at_one_date_C11(self):
+        # U8: of equal dates the last one stands.
         (numbers, table), (others, other) = self.orders([keyed(A, 1000, ONE), keyed(A, 1000, TWO)], [None])
         self.assertEqual((numbers, others), ([0, 0], [0, 0]))
         self.assertEqual(by_address(table)[A].direct_key, TWO)
         self.assertEqual(by_address(other)[A].direct_key, ONE)
         self.assertNotEqual(advice(self.program, table, [A]), advice(self.program, other, [A]))
 
-    def test_one_preference_at_one_date(self):
+    def test_one_preference_at_one_date_C11(self):
         # The same key, with and without mutual.
         (_, table), (_, other) = self.orders([keyed(A, 1000, ONE, True), keyed(A, 1000, ONE)], [None])
         self.assertFalse(by_address(table)[A].mutual)
         self.assertTrue(by_address(other)[A].mutual)
         self.assertNotEqual(advice(self.program, table, [A]), advice(self.program, other, [A]))
 
-    def test_one_gossip_key_at_one_date(self):
-        # Two senders tell of one recipient at the same date.
+    def test_one_gossip_key_at_one_date_C11(self):
+        # G7: two senders tell of one recipient at the same date.
         calls = [telling(A, 1000, (C, ONE)), telling(B, 1000, (C, TWO))]
         (numbers, table), (others, other) = self.orders(calls, [None, None, None])
         self.assertEqual((numbers, others), ([0, 0], [0, 0]))
@@ -107,8 +107,8 @@ class EachPremise:
         self.assertEqual(by_address(other)[C].gossip_key, ONE)
         self.assertNotEqual(advice(self.program, table, [C]), advice(self.program, other, [C]))
 
-    def test_the_same_receipt_times(self):
-        # Without a Date the receipt time is the date: fetched at another time it is another message.
+    def test_the_same_receipt_times_C11(self):
+        # D2: without a Date the receipt time is the date: fetched at another time it is another message.
         first = Call(mail(A, None, key_field(A, ONE)), receipt=1000)
         second = Call(mail(A, None, key_field(A, TWO)), receipt=2000)
         early = Call(second.outer, receipt=1000)
@@ -118,14 +118,14 @@ class EachPremise:
         self.assertEqual(by_address(table)[A].direct_key, TWO)
         self.assertEqual(by_address(other)[A].direct_key, ONE)
 
-    def test_the_same_gossip_settings(self):
+    def test_the_same_gossip_settings_C11(self):
         # So it is where one run takes gossip and the other one skips it.
         call = telling(A, 1000, (B, ONE))
         _, table = fetch(self.program, table_of([None, None]), [call])
         _, other = fetch(self.program, table_of([None, None]), [Call(call.outer, call.payload, SKIP)])
         self.assertEqual((set(by_address(table)), set(by_address(other))), ({A, B}, {A}))
 
-    def test_a_sound_table(self):
+    def test_a_sound_table_C11(self):
         # Every call refuses any other table and leaves it, so that it has no entries to speak of.
         calls = [keyed(A, 1000, ONE), keyed(A, 2000, TWO)]
         for table, number in [(b"", 1), (table_of([Entry(B, 1, 2, ONE)]), 2)]:
@@ -211,7 +211,7 @@ class Agreeing:
 
 
 class AnyOrder:
-    """With the premises, every order leads to the same entries, recommendations and target keys."""
+    """C11: with the premises, every order leads to the same entries, advice and target keys."""
 
     program = None
     seed = 3
@@ -236,7 +236,7 @@ class AnyOrder:
             self.assertEqual(other, one)
         return set(first), len(ends)
 
-    def test_every_order_of_a_few(self):
+    def test_every_order_of_a_few_C11(self):
         made = Agreeing(self.seed)
         answered: set[int] = set()
         several = 0
@@ -250,7 +250,7 @@ class AnyOrder:
         # Newcomers take other slots in other orders: the tables differ, and say the same.
         self.assertGreater(several, 20)
 
-    def test_many_orders_of_many(self):
+    def test_many_orders_of_many_C11(self):
         made = Agreeing(self.seed + 1)
         several = 0
         for size in (8, 12, 20, 30):

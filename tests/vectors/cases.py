@@ -12,7 +12,7 @@ from scope import base64, date, listing, table, tokens  # noqa: E402
 
 CRATES = ROOT / "crates"
 
-# RFC 4648, section 10
+# C15: RFC 4648, section 10
 PLAIN = [b"", b"f", b"fo", b"foo", b"foob", b"fooba", b"foobar"]
 
 TEXTS = [base64.encode(octets) for octets in PLAIN] + [
@@ -20,7 +20,7 @@ TEXTS = [base64.encode(octets) for octets in PLAIN] + [
     b" Zm 9v\t", b"Z\tg = =", b"Zm9v\r", b"Zm9-", b"Zm_v", b"//79", b"\xffm9v",
 ]
 
-# lines of 76 characters: 57 octets fill one; no octets have no line, and so are no case
+# W4: 57 octets fill a line of 76 characters; no octets have no line, and so are no case
 KEYS = PLAIN[1:] + [b"a" * 56, b"b" * 57, b"c" * 58, b"d" * 114, b"e" * 115]
 
 COMMENTS = [
@@ -34,7 +34,7 @@ QUOTED = [
 ]
 
 DATES = [
-    # the examples of the paper
+    # C14: examples that are proved
     b"1 Jan 1970 00:00:00 +0000", b"1 Jan 1970 00:30 +0100", b"1 Mar 2000 00:00:00 -0100", b"29 Feb 1900 00:00 GMT",
     # both ends of each limit
     b"0 Jan 2000 00:00 GMT", b"31 Jan 2000 00:00 GMT", b"32 Jan 2000 00:00 GMT", b"30 Apr 2000 00:00 GMT", b"31 Apr 2000 00:00 GMT",
@@ -44,7 +44,7 @@ DATES = [
     b"1 Jan 1900 00:00 GMT", b"1 Jan 1899 00:00 GMT", b"31 Dec 9999 23:59:60 GMT", b"1 Jan 10000 00:00 GMT",
     b"1 Jan 00 00:00 GMT", b"1 Jan 49 00:00 GMT", b"1 Jan 50 00:00 GMT", b"1 Jan 99 00:00 GMT", b"1 Jan 000 00:00 GMT", b"1 Jan 070 00:00 GMT",
     b"1 Jan 999 00:00 GMT", b"1 Jan 7 00:00 GMT", b"001 Jan 2000 00:00 GMT",
-    # names, zones and tokens
+    # D4, D5, D7, D12: names, zones and tokens
     b"Mon, 1 Jan 2001 00:00 EST", b"mon,1jan70 00:00:03z", b"Monday, 1 Jan 2001 00:00 GMT", b"Mon 1 Jan 2001 00:00 GMT",
     b"Abc, 1 Jan 2001 00:00 GMT", b"1 Jan 2001 00:00 EDT", b"1 Jan 2001 00:00 CST", b"1 Jan 2001 00:00 CDT", b"1 Jan 2001 00:00 MST",
     b"1 Jan 2001 00:00 MDT", b"1 Jan 2001 00:00 PST", b"1 Jan 2001 00:00 pdt", b"1 Jan 2001 00:00 UT", b"1 Jan 2001 00:00 nowhere",
@@ -71,7 +71,7 @@ def cases() -> list[tuple[bytes, bytes]]:
     return [(kind, text) for kind, texts in ((b"b", TEXTS), (b"e", KEYS), (b"k", COMMENTS), (b"q", QUOTED), (b"d", DATES)) for text in texts]
 
 
-# the paper's example, a free slot, an address alone, and both halves at both ends of their limits
+# W8, W9: a key with a preference, a free slot, an address alone, and both halves at both ends of their limits
 ENTRIES = [
     table.Entry(b"alice@a.example", 1000, 1000, b"abc", True),
     None,

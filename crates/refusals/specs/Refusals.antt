@@ -24,18 +24,18 @@ numberOf OutputLength = 12
 
 -- R1 to R12: what each is about, in a few words
 abbrev pub wordsOf : Refusal → String
-wordsOf TableLength = "table length isn't 1 to 256 whole slots"
-wordsOf (BrokenSlot i) = "a slot is neither free nor sound"
-wordsOf ReceiptTime = "receipt time above the limit"
-wordsOf OuterBlock = "outer header block unreadable"
-wordsOf Sender = "not exactly one From field, or it isn't a readable list of exactly one address"
-wordsOf Report = "a Content-Type is multipart/report"
-wordsOf PayloadBlock = "gossip is taken and the payload block is unreadable"
-wordsOf NoFreeSlot = "more new addresses than free slots"
-wordsOf OwnAddress = "own address argument isn't one plain address"
-wordsOf Recipients = "recipient list unreadable, or not 1 to 100 addresses"
-wordsOf KeyLength = "key argument isn't 1 to 2,048 octets"
-wordsOf OutputLength = "output shorter than the field, or fewer than 11 numbers lent"
+wordsOf TableLength = "the table does not have 1 to 256 whole slots"
+wordsOf (BrokenSlot i) = "the table has a damaged slot"
+wordsOf ReceiptTime = "the receipt time lies beyond the year 9999"
+wordsOf OuterBlock = "the header block of the mail cannot be read"
+wordsOf Sender = "no single From field with a single address"
+wordsOf Report = "the mail is a report, of type multipart/report"
+wordsOf PayloadBlock = "gossip is wanted, but the payload block cannot be read"
+wordsOf NoFreeSlot = "too few free slots for the new addresses"
+wordsOf OwnAddress = "the address to write is not a plain one"
+wordsOf Recipients = "the recipients cannot be read, or are not 1 to 100"
+wordsOf KeyLength = "the key to write is empty or over 2,048 octets"
+wordsOf OutputLength = "too little room for the field, or for 11 numbers"
 
 -- R33: an index comes with 2 alone
 abbrev pub indexOf : Refusal → ℕ

@@ -38,23 +38,24 @@ class FieldValue(str):
 
 
 def autocrypt_field(address: Octets, key: Octets, mutual: bool = False) -> bytes:
-    """The Autocrypt field of an outgoing mail: name, value and CRLF at the end of each line.
+    """The Autocrypt field of an outgoing mail: name and value, with CRLF at the end of each line.
 
-    `address` is the sender's, `key` holds the octets of the sender's key. Raises `Refused` (9, 11).
+    `address` is the sender's, `key` holds the octets of the sender's key, and `mutual` says that the sender prefers
+    encryption. Raises `Refused` (9, 11).
     """
     return _written(_library.write_autocrypt, address, key, truth(mutual, "mutual"))
 
 
 def gossip_field(address: Octets, key: Octets) -> bytes:
-    """The Autocrypt-Gossip field for one recipient, for the header block of a mail's encrypted payload.
+    """The Autocrypt-Gossip field that tells of one recipient, for the header block inside an encrypted mail.
 
-    Raises `Refused` (9, 11).
+    `address` and `key` are that recipient's. Raises `Refused` (9, 11).
     """
     return _written(_library.write_gossip, address, key)
 
 
 def autocrypt_header(address: Octets, key: Octets, mutual: bool = False) -> tuple[str, FieldValue]:
-    """The same field as a name and a value: `message[name] = value` for an `EmailMessage`.
+    """The field of `autocrypt_field` as a name and a value: `message[name] = value` for an `EmailMessage`.
 
     The message then writes just the lines of `autocrypt_field`, with its policy's line endings.
     """

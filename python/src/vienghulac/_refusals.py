@@ -5,20 +5,20 @@ from __future__ import annotations
 from typing import Optional
 
 REFUSALS = {
-    1: "table length isn't 1 to 256 whole slots",
-    2: "a slot is neither free nor sound",
-    3: "receipt time above the limit",
-    4: "outer header block unreadable",
-    5: "not exactly one From field, or it isn't a readable list of exactly one address",
-    6: "a Content-Type is multipart/report",
-    7: "gossip is taken and the payload block is unreadable",
-    8: "more new addresses than free slots",
-    9: "own address argument isn't one plain address",
-    10: "recipient list unreadable, or not 1 to 100 addresses",
-    11: "key argument isn't 1 to 2,048 octets",
-    12: "output shorter than the field, or fewer than 11 numbers lent",
+    1: "the table does not have 1 to 256 whole slots",
+    2: "the table has a damaged slot",
+    3: "the receipt time lies beyond the year 9999",
+    4: "the header block of the mail cannot be read",
+    5: "no single From field with a single address",
+    6: "the mail is a report, of type multipart/report",
+    7: "gossip is wanted, but the payload block cannot be read",
+    8: "too few free slots for the new addresses",
+    9: "the address to write is not a plain one",
+    10: "the recipients cannot be read, or are not 1 to 100",
+    11: "the key to write is empty or over 2,048 octets",
+    12: "too little room for the field, or for 11 numbers",
 }
-"""The words of each refusal number, in order of checking."""
+"""The words of each refusal, by its number. If several hold, the lowest number is given."""
 
 _BAD_SLOT = 2
 
@@ -26,8 +26,8 @@ _BAD_SLOT = 2
 class Refused(Exception):
     """The library refused a call, and left everything as it was.
 
-    `number` is the refusal's number, `words` says what it means, and `slot` is the index of the lowest slot that is
-    neither free nor sound where the number is 2, else None.
+    `number` is the number of the refusal, and `words` says what it means. With number 2 `slot` is the index of the lowest
+    slot that is damaged, with all others it is None.
     """
 
     def __init__(self, number: int, slot: Optional[int] = None) -> None:

@@ -36,7 +36,7 @@ SLOTS = 256
 
 
 class Gossip(enum.IntEnum):
-    """Whether the gossip of a mail's payload is taken; unset takes."""
+    """Whether the gossip in a mail's payload is taken. With UNSET it is."""
 
     UNSET = 0
     TAKE = 1
@@ -44,16 +44,18 @@ class Gossip(enum.IntEnum):
 
 
 class Advice(enum.IntEnum):
-    """Whether a new mail should be encrypted."""
+    """Whether a new mail should be encrypted, from low to high.
+
+    DISABLE      it cannot be, since someone has no key
+    DISCOURAGE   it can be, but someone may not be able to read it
+    AVAILABLE    it can be, if the user asks for it
+    ENCRYPT      it should be
+    """
 
     DISABLE = 1
-    """It cannot be: someone has no key."""
     DISCOURAGE = 2
-    """It can be, but someone may not be able to read it."""
     AVAILABLE = 3
-    """It can be, if the user asks for it."""
     ENCRYPT = 4
-    """It should be."""
 
 
 _ADVICE = {advice.value: advice for advice in Advice}  # looked up in a fraction of the time of Advice(number)
@@ -68,9 +70,9 @@ def check(table: Octets) -> None:
 
 
 class Table:
-    """A table of correspondents, one a slot, that owns its octets.
+    """A table of correspondents, one in each slot, that owns its octets.
 
-    `Table(octets)` takes a copy of octets that were a table's before, and raises `Refused` (1, 2) where they are none.
+    `Table(octets)` takes a copy of octets that were a table's before, and raises `Refused` (1, 2) if they are no table.
     Nothing leads to the octets that it owns: `bytes(table)` is a copy, and a key is a view of a copy of that key, which the
     next write of the table releases. A table can be pickled and copied; the copy shares nothing with it. All calls may be
     made from any thread, but not from a signal handler: it would wait for the call that it interrupted.
@@ -87,13 +89,13 @@ class Table:
 
     @classmethod
     def new(cls, slots: int = SLOTS) -> Table:
-        """A table of free slots. Raises `Refused` (1) unless there are 1 to 256."""
+        """A table of free slots. Raises `Refused` (1) unless there are 1 to 256 of them."""
         # a larger number is refused just as 257 is, without its memory
         return cls(bytes(SLOT * min(number(slots, "slots"), SLOTS + 1)))
 
     @classmethod
     def load(cls, path: FilePath) -> Table:
-        """The table that a file holds. Raises `Refused` (1, 2) where it holds none; the file stays as it is."""
+        """The table that a file holds. Raises `Refused` (1, 2) if it holds none. The file stays as it is."""
         return cls(read_file(path, SLOTS * SLOT))
 
     def save(self, path: FilePath) -> None:
@@ -166,12 +168,12 @@ def _asked(table: Table, recipients: Octets, mutual: bool, reply: bool) -> tuple
 def process(
     table: Table, receipt: int, outer: Octets, payload: Octets = b"", gossip: Gossip = Gossip.UNSET
 ) -> None:
-    """Read one received mail and bring the table up to date.
+    """Take one received mail into the table.
 
-    `receipt` is when the mail was received, in seconds since 1970-01-01 UTC. `outer` is the mail's header block: its
-    octets as received, up to its first empty line. `payload` is the header block of the decrypted payload's root part,
-    if there is one. Raises `Refused` (3 to 8) and leaves the table as it was, or releases the views of keys that were
-    handed out before.
+    `receipt` is when the mail came in, counted in seconds from the beginning of 1970 in UTC. `outer` is the mail's header
+    block: its octets as they came in, up to the first empty line. `payload` is the header block of the root part inside a
+    decrypted mail; a mail that was not encrypted has none. Raises `Refused` (3 to 8) and leaves the table as it was, or
+    releases the views of keys that were handed out before.
     """
     if type(table) is not Table:
         _need_table(table)
@@ -197,8 +199,8 @@ def process(
 def recommend(table: Table, recipients: Octets, mutual: bool = False, reply: bool = False) -> Advice:
     """Should a new mail to these people be encrypted?
 
-    `recipients` is a list of 1 to 100 addresses as in a To field. `mutual` is the sender's own preference, `reply` says
-    that the mail answers an encrypted one. Raises `Refused` (10).
+    `recipients` is a list of 1 to 100 addresses as in a To field, but without line endings. `mutual` is the user's own
+    preference. `reply` says that the mail replies to an encrypted one. Raises `Refused` (10).
     """
     if type(table) is not Table or type(recipients) is not bytes or type(mutual) is not bool or type(reply) is not bool:
         recipients, mutual, reply = _asked(table, recipients, mutual, reply)
@@ -218,8 +220,8 @@ def target_key(
     """The key to encrypt to for the recipient at a place of the list, counted from 0.
 
     It is a read-only view of a copy of the key's octets. The next write of the table releases the view, or a later one
-    where someone holds the view's buffer just then: take `bytes(key)` to keep the octets longer. None where that recipient
-    has no key, past the end of the list, and where `recommend` refuses.
+    where someone holds the view's buffer just then: take `bytes(key)` to keep the octets longer. The answer is None if that
+    recipient has no key, if the place is past the list, and if `recommend` refuses.
     """
     if type(table) is not Table or type(recipients) is not bytes or type(mutual) is not bool or type(reply) is not bool:
         recipients, mutual, reply = _asked(table, recipients, mutual, reply)
@@ -237,8 +239,9 @@ def target_key(
 class Entry:
     """What a used slot held as `entries` read it.
 
-    None stands for what is absent. A key is a view of a copy of its octets, and ends as those of `target_key` do; all else
-    stays.
+    None stands for what is absent. Times count the seconds from the beginning of 1970 in UTC. The direct key came in the
+    correspondent's own mail, the gossip key in that of others. Both are views of copies, which end as those of `target_key`
+    do; all else stays.
     """
 
     slot: int
@@ -252,10 +255,9 @@ class Entry:
 
 
 def entries(table: Table) -> list[Entry]:
-    """The entries of a table, by slot.
+    """The entries of a table, in the order of its slots.
 
-    Their keys are read-only views of copies of the keys' octets, and the next write of the table releases them, as it does
-    those of `target_key`.
+    Their keys are read-only views of copies of the keys' octets, and end as those of `target_key` do.
     """
     _need_table(table)
     numbers = _library.Numbers()

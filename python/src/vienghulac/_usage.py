@@ -12,8 +12,8 @@ Command = Callable[[argparse.Namespace], int]
 
 _ABOUT = """\
 Autocrypt Level 1: keys and preferences of correspondents, read from the mail
-they send. They are kept in a table, a file of 1 to 256 slots of 4,392 octets,
-one a correspondent.
+they send. They are kept in a table, a file with a slot of 4,392 octets for each
+correspondent, 256 at most.
 
 A refusal, or a file that cannot be read or written, is one line on standard
 error and exit status 1; bad usage is 2.
@@ -48,10 +48,11 @@ List the correspondents of a table: address, when last seen, date and length of
 the key from their own mail, preference, date and length of the key that others
 sent (gossip). Times are UTC.
 
-With --json, for each: slot, address, last_seen, autocrypt_timestamp,
-direct_key_length, preference, gossip_timestamp, gossip_key_length. Times are
-seconds since 1970 or null, a key that is absent has length 0, and octets of an
-address that are not UTF-8 are lone surrogates."""
+With --json, for each: slot and address; last_seen; preference; and date and
+length of both keys, as autocrypt_timestamp and direct_key_length, and as
+gossip_timestamp and gossip_key_length. Times are seconds since 1970 or null, a
+key that is absent has length 0, and octets of an address that are not UTF-8 are
+lone surrogates."""
 
 _RECOMMEND = """\
 Say whether a new mail to the RECIPIENTS (one argument, a list as in a To field,
@@ -83,7 +84,7 @@ With --json: name and value, the value on one line."""
 _CHECK = """\
 Say of each FILE whether it is a table. The exit status is 1 where one is not;
 the line on standard error then has the number of the refusal and, for number 2,
-the lowest slot that is neither free nor sound. No file is changed.
+the lowest slot that is damaged. No file is changed.
 
 With --json, for each: file, its name; number, 0 for a table, else that of the
 refusal, or null where the file cannot be read; slot, that slot or null."""

@@ -1,6 +1,6 @@
-"""All of paper 01, rule by rule, in plain Python.
+"""The rules of docs/SCOPE.md, one by one, in plain Python.
 
-Each module states one part of the paper. The words in quotation marks above a
-function are the paper's own; a mark such as R5 or L2 names the reading in force
-where the words alone leave two ways. Nothing here is written for speed.
+Each module states one part of them. A comment such as `# T7: ..` stands right above the
+lines that carry the rule T7, and says it in a few words. Nothing here is written for
+speed.
 """

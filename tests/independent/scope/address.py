@@ -2,8 +2,7 @@
 
 from scope.tokens import (QUOTE, atom_end, is_atom_octet, is_digit, is_letter, quoted, skip)
 
-# "A plain address has at most 254 octets. The local part is 1 to 64 octets", "labels
-# ... of 1 to 63"
+# L6, L7: no more octets than these in an address, its local part and a label.
 ADDRESS_LIMIT = 254
 LOCAL_LIMIT = 64
 LABEL_LIMIT = 63
@@ -13,11 +12,11 @@ HYPHEN = ord("-")
 
 
 def is_plain(octets: bytes) -> bool:
-    """Whether the octets are a plain address and nothing else (R5)."""
-    # "A plain address has at most 254 octets."
+    """Whether the octets are a plain address and nothing else."""
+    # L6: an address is not longer than this.
     if len(octets) > ADDRESS_LIMIT:
         return False
-    # Neither side may hold an `@`, so there is exactly one.
+    # L6: one `@`; neither side may hold another.
     if octets.count(b"@") != 1:
         return False
     local, domain = octets.split(b"@")
@@ -25,8 +24,7 @@ def is_plain(octets: bytes) -> bool:
 
 
 def is_local_part(octets: bytes) -> bool:
-    # "The local part is 1 to 64 octets of nonempty RFC 5322 atoms joined by dots,
-    # octets of 128 and above allowed."
+    # L6: atoms with single dots between them, in 1 to 64 octets.
     if not 1 <= len(octets) <= LOCAL_LIMIT:
         return False
     return all(is_atom(atom) for atom in octets.split(b"."))
@@ -37,12 +35,12 @@ def is_atom(octets: bytes) -> bool:
 
 
 def is_domain(octets: bytes) -> bool:
-    # "The domain is one or more labels, joined by dots": one is enough (L13).
+    # L7: labels with single dots between them; one label will do.
     return all(is_label(label) for label in octets.split(b"."))
 
 
 def is_label(octets: bytes) -> bool:
-    # "of 1 to 63 ASCII letters, digits and hyphens, no hyphen at either end"
+    # L7: 1 to 63 letters, digits and hyphens, where the hyphens stand inside.
     if not 1 <= len(octets) <= LABEL_LIMIT:
         return False
     if octets[0] == HYPHEN or octets[-1] == HYPHEN:
@@ -52,14 +50,14 @@ def is_label(octets: bytes) -> bool:
 
 def canonical(octets: bytes) -> bytes:
     """The canonical form of a plain address."""
-    # "The canonical form lower-cases ASCII letters on both sides and keeps all else."
+    # L8: small letters for ASCII capitals, before and behind the `@`; no other change.
     return bytes(octet + 32 if ord("A") <= octet <= ord("Z") else octet for octet in octets)
 
 
 def addresses(value: bytes) -> list[bytes] | None:
     """The addresses of a list, as they stand and in order; None: unreadable."""
-    # "A list is addresses separated by commas: `address`, `[phrase] <address>`, or a
-    # group". A value without any place is an empty place (R10).
+    # L9: places with commas between them, up to the end. L17: their addresses in order,
+    # spelled as they are. L18: where nothing stands there is an empty place.
     read = places(value, skip(value, 0), False)
     if read is None:
         return None
@@ -78,8 +76,7 @@ def places(s: bytes, at: int | None, inside_group: bool) -> Read | None:
     """One list place or more, separated by commas."""
     found: list[bytes] = []
     while True:
-        # An empty place is none of the forms, so it is unreadable: "Empty list places
-        # ... make the field unreadable" (L4).
+        # L13: an empty place has none of the three forms, so it is unreadable.
         read = place(s, at, inside_group)
         if read is None:
             return None
@@ -91,21 +88,20 @@ def places(s: bytes, at: int | None, inside_group: bool) -> Read | None:
 
 
 def place(s: bytes, at: int | None, inside_group: bool) -> Read | None:
-    """One list place: `address`, `[phrase] <address>`, or a group."""
+    """One place of a list: a bare address, one in angle brackets, or a group."""
     if at is None or at == len(s):
         return None
-    # An octet run of atoms and dots with an `@` right behind it opens an address: a
-    # phrase holds no `@` (L11).
+    # L12: a run of atom octets and dots in which an `@` follows is an address. L15: so
+    # no phrase holds one.
     if opens_address(s, at):
         return bare_address(s, at)
     behind = phrase(s, at)
     if behind is None or behind == len(s):
         return None
-    # "[phrase] <address>"
+    # L9: an angle bracket, with a phrase in front of it or without.
     if s[behind] == LESS:
         return angle_address(s, behind)
-    # "a group `phrase : [list] ;` without inner groups". "A phrase is one or more
-    # words": here it is not optional.
+    # L9, L14: a colon opens a group, but only behind a phrase. L15: and not in a group.
     if s[behind] == COLON and behind > at and not inside_group:
         return group(s, behind)
     return None
@@ -125,9 +121,9 @@ def address_end(s: bytes, at: int) -> int:
 
 
 def bare_address(s: bytes, at: int) -> Read | None:
-    # "Spaces, tabs and comments may stand between tokens, never inside an address"
-    # (L1). The whole run must be a plain address: what ends it is looked at by the
-    # caller (L10).
+    # L12: the run is taken whole, and all of it has to be a plain address; the caller
+    # sees to what ends it. L11: so neither blank nor comment stands inside. L16: where it
+    # is not plain the whole list is unreadable.
     end = address_end(s, at)
     if not is_plain(s[at:end]):
         return None
@@ -136,8 +132,8 @@ def bare_address(s: bytes, at: int) -> Read | None:
 
 
 def angle_address(s: bytes, at: int) -> Read | None:
-    # Blanks and comments may stand between `<`, address and `>` (L1). Routes, `<>`,
-    # quoted local parts and domain literals are no plain address (L7).
+    # L11: blanks and comments may stand on both sides of the address. L15: nothing at
+    # all, a route, quotes before the `@` and brackets behind it are no plain address.
     start = skip(s, at + 1)
     if start is None:
         return None
@@ -156,7 +152,7 @@ def group(s: bytes, at: int) -> Read | None:
     start = skip(s, at + 1)
     if start is None or start == len(s):
         return None
-    # "[list]": nothing but blanks and comments is an empty group (L15).
+    # L14: a group may hold nothing but blanks and comments, and gives no address then.
     if s[start] == SEMICOLON:
         found, at = [], start
     else:
@@ -164,18 +160,17 @@ def group(s: bytes, at: int) -> Read | None:
         if read is None:
             return None
         found, at = read
+    # L14: a group ends with its semicolon. Behind that a comma or the end must follow,
+    # which `places` and `addresses` see to.
     if at == len(s) or s[at] != SEMICOLON:
         return None
-    # What follows the `;` must be a comma or the end, which `places` and `addresses`
-    # see to (L8).
     behind = skip(s, at + 1)
     return None if behind is None else (found, behind)
 
 
 def phrase(s: bytes, at: int) -> int | None:
     """The place behind the words from `at`, `at` itself if there is none; None: unreadable."""
-    # "A phrase is one or more words (atoms, dots, quoted strings)": a dot is a word
-    # (L2), and words need not be apart (L6).
+    # L10: words are atoms, dots and quoted strings, and may touch one another.
     while at < len(s):
         if s[at] == DOT:
             behind = at + 1

@@ -1,9 +1,10 @@
-"""Base64 (RFC 4648, section 4), as the fields of paper 01 use it."""
+"""Base64 (RFC 4648, section 4), as key data is read and written."""
 
+# F9: the characters for 0 to 63, and the one that pads.
 ALPHABET = b"ABCDEFGHIJKLMNOPQRSTUVWXYZabcdefghijklmnopqrstuvwxyz0123456789+/"
 PAD = b"="
 
-# "Base64 lines hold 76 characters, the last 1 to 76"
+# W4: a line is so long, but for the last one.
 LINE = 76
 
 
@@ -12,10 +13,10 @@ def decode(text: bytes) -> bytes | None:
 
     No limit on the length stands here; no characters decode to no octets.
     """
-    # "Key data: spaces and tabs removed, then padded Base64": any other octet that
-    # is not of the alphabet, CR included, is no Base64 (K7).
+    # F9: blanks are taken out first, wherever they are. F10: a CR is none, and like any
+    # other octet outside the alphabet it is no Base64.
     characters = bytes(octet for octet in text if octet not in b" \t")
-    # "padded": whole groups of four characters.
+    # F9: whole groups of four, so that padding must be there.
     if len(characters) % 4 != 0:
         return None
     octets = bytearray()
@@ -30,7 +31,7 @@ def decode(text: bytes) -> bytes | None:
 
 def decode_group(group: bytes, last: bool) -> bytes | None:
     """The one to three octets of four characters; None where they are no Base64."""
-    # Padding stands only at the end of the last group: one `=` or two (K7).
+    # F9: only the last group is padded, by one `=` or two at its end.
     if last and group[2:4] == PAD + PAD:
         digits = group[0:2]
     elif last and group[3:4] == PAD:
@@ -42,8 +43,8 @@ def decode_group(group: bytes, last: bool) -> bytes | None:
         if digit not in ALPHABET:
             return None
         bits = bits * 64 + ALPHABET.index(digit)
-    # Four characters hold 24 bits, three hold 18 of which 16 are used, two hold 12
-    # of which 8 are used. "with zero unused bits"
+    # F9: unused bits are zero. Four characters hold 24 bits and use all, three hold 18 and
+    # use 16, two hold 12 and use 8.
     unused = {4: 0, 3: 2, 2: 4}[len(digits)]
     if bits % (1 << unused) != 0:
         return None
@@ -57,7 +58,7 @@ def encode(octets: bytes) -> bytes:
 
 def encode_group(octets: bytes) -> bytes:
     """The four characters for one to three octets."""
-    # Missing octets count as zero bits; the characters that would hold only such
+    # F9: missing octets count as zero bits; the characters that would hold only such
     # bits are written as padding.
     bits = int.from_bytes(octets + bytes(3 - len(octets)), "big")
     characters = bytes(ALPHABET[(bits >> shift) % 64] for shift in (18, 12, 6, 0))
@@ -65,8 +66,7 @@ def encode_group(octets: bytes) -> bytes:
 
 
 def lines(octets: bytes) -> bytes:
-    """The Base64 of `octets` laid out in lines, as "Writing" has it."""
-    # "Base64 lines hold 76 characters, the last 1 to 76, each after one space and
-    # before CRLF." A full last line is followed by no empty one (W2).
+    """The Base64 of `octets` in the lines of a written field."""
+    # W4: each line has a space in front and CRLF behind; no empty line follows a full one.
     text = encode(octets)
     return b"".join(b" " + text[at:at + LINE] + b"\r\n" for at in range(0, len(text), LINE))

@@ -1,4 +1,7 @@
-"""The whole calls, each under its own name: what another program that is to be compared has as well."""
+"""The whole calls, each under its own name: what another program that is to be compared has as well.
+
+T13 `check`, T14 `entry_numbers`, U1 `process`, A1 `recommend`, A6 `target_key`, W1 the two writers.
+"""
 
 from scope.processing import process
 from scope.recommending import recommend, target_key

@@ -1,13 +1,16 @@
-"""The effective date."""
+"""The Date of a message, and its effective date."""
 
 from scope.tokens import digits_end, is_digit, is_letter, letters_end, skip
 
+# D7: the names of days. They are compared in small letters, since case means nothing.
 DAY_NAMES = [b"mon", b"tue", b"wed", b"thu", b"fri", b"sat", b"sun"]
 
+# D8: the names of months, compared likewise.
 MONTH_NAMES = [b"jan", b"feb", b"mar", b"apr", b"may", b"jun",
                b"jul", b"aug", b"sep", b"oct", b"nov", b"dec"]
 
-# "UT, GMT 0; EST -5, EDT -4, CST -6, CDT -5, MST -7, MDT -6, PST -8, PDT -7 hours"
+# D12: the zones that lie west, by their hours, and two that have no offset. Any other run
+# of letters has none either.
 ZONE_HOURS = {b"ut": 0, b"gmt": 0,
               b"est": -5, b"edt": -4, b"cst": -6, b"cdt": -5,
               b"mst": -7, b"mdt": -6, b"pst": -8, b"pdt": -7}
@@ -19,11 +22,9 @@ DAY = 24 * HOUR
 
 def effective(dates: list[bytes], receipt: int) -> int:
     """The effective date, from the values of all Date fields and the receipt time."""
-    # "The Date is available when there is exactly one Date field and it reads": two,
-    # even equal, make it unavailable (D8).
+    # D1: there is one Date field and its value reads; else the Date is unavailable.
     date = seconds(dates[0]) if len(dates) == 1 else None
-    # "The effective date is the smaller of Date and receipt time, or the receipt time
-    # when Date is unavailable."
+    # D2: the smaller of the two times, or the only one.
     return receipt if date is None else min(date, receipt)
 
 
@@ -32,13 +33,14 @@ def seconds(value: bytes) -> int | None:
     tokens = tokens_of(value)
     if tokens is None:
         return None
-    # "[day-name,]": a day name needs its comma (D5). "The day name must be one of
-    # seven, its truth isn't tested." "names and zones are in any case"
+    # D3, D7: a name with its comma may open the date. It is the name of some day, be it
+    # the right one or not.
     if len(tokens) >= 2 and tokens[1] == b",":
         if tokens[0].lower() not in DAY_NAMES:
             return None
         tokens = tokens[2:]
-    # "day month year hh:mm[:ss] zone"
+    # D3: the parts in their order, the second with its colon or without both. D10: a
+    # missing second is 0.
     if len(tokens) == 9:
         day_text, month_text, year_text, hh, colon, mm, colon_too, ss, zone = tokens
     elif len(tokens) == 7:
@@ -48,34 +50,34 @@ def seconds(value: bytes) -> int | None:
         return None
     if colon != b":" or colon_too != b":":
         return None
-    # "Day and month names have three letters"
+    # D8: a month is one of the twelve names.
     if month_text.lower() not in MONTH_NAMES:
         return None
     month = MONTH_NAMES.index(month_text.lower()) + 1
     year = year_of(year_text)
-    # "hours go to 23, minutes to 59, seconds to 60, two digits each"; second 60 is
-    # sixty seconds after second 0, in any minute (D4).
+    # D10: two digits each, up to these limits. Second 60 may stand in any minute, and is
+    # the second behind 59.
     hour = two_digits(hh, 23)
     minute = two_digits(mm, 59)
     second = two_digits(ss, 60)
     offset = offset_of(zone)
     if year is None or hour is None or minute is None or second is None or offset is None:
         return None
-    # "Day has 1 or 2 digits and must exist in the month"
+    # D8: one digit or two, for a day that the month has in that year.
     day = number(day_text, (1, 2))
     if day is None or not 1 <= day <= days_in_month(year, month):
         return None
     instant = days_from_1970(year, month, day) * DAY + hour * HOUR + minute * MINUTE + second
-    # "An east offset is subtracted, a west one added."
+    # D13: the offset counts east, so it is taken away.
     instant -= offset
-    # "Instants before 1970 count as 0": such a Date is available (D7).
+    # D13: what lies before 1970 is 0, and reads all the same.
     return max(instant, 0)
 
 
 def tokens_of(value: bytes) -> list[bytes] | None:
     """The tokens of a Date value; None where it holds anything else."""
-    # "with any spaces, tabs and comments (as in lists), or none, between tokens and
-    # at both ends"
+    # D5: blanks and comments, or nothing, on both sides of every token. D6: comments are
+    # those of lists, and what spoils them there makes the Date unavailable.
     tokens = []
     at = skip(value, 0)
     while at is not None and at < len(value):
@@ -89,8 +91,8 @@ def tokens_of(value: bytes) -> list[bytes] | None:
 
 def token_end(value: bytes, at: int) -> int:
     """The end of the token that starts at `at`, `at` itself if there is none."""
-    # "Tokens are whole runs of digits or letters, a sign with its digits, comma and
-    # colon." A sign without digits right behind it is no token (D2).
+    # D4: a run of digits, a run of letters, a sign with digits directly behind it, a comma
+    # or a colon; nothing else is a token.
     if is_digit(value[at]):
         return digits_end(value, at)
     if is_letter(value[at]):
@@ -126,8 +128,7 @@ def year_of(token: bytes) -> int | None:
     found = number(token, (2, 3, 4))
     if found is None:
         return None
-    # "Years: two digits 00-49 add 2000, 50-99 add 1900, three digits add 1900, four
-    # digits from 1900." One digit, five and more do not read (D6).
+    # D9: short years are counted from 2000 or 1900, and four digits say at least 1900.
     if len(token) == 2:
         return found + 2000 if found <= 49 else found + 1900
     if len(token) == 3:
@@ -137,7 +138,7 @@ def year_of(token: bytes) -> int | None:
 
 def offset_of(token: bytes) -> int | None:
     """The seconds that the zone lies east of UTC; None where the token is no zone."""
-    # "Zones: sign and four digits, minutes to 59": the hours go to 99 (D2).
+    # D11: a sign and four digits, hours up to 99 and minutes up to 59; `+` lies east.
     if token[0] in b"+-":
         if len(token) != 5:
             return None
@@ -147,14 +148,14 @@ def offset_of(token: bytes) -> int | None:
             return None
         east = hours * HOUR + minutes * MINUTE
         return east if token[0] == ord("+") else -east
-    # "names and zones are in any case", "other letters 0": one run of letters of any
-    # length (D3).
+    # D12: one run of letters, long or short; most of them mean UTC.
     if is_letter(token[0]):
         return ZONE_HOURS.get(token.lower(), 0) * HOUR
     return None
 
 
 def is_leap(year: int) -> bool:
+    # D8: 4 divides it; 100 does not, or 400 does.
     return year % 4 == 0 and (year % 100 != 0 or year % 400 == 0)
 
 

@@ -1,8 +1,9 @@
-"""Header blocks."""
+"""Header blocks, and the type of a message."""
 
-# "A block over 65,536 octets is unreadable."
+# B1: a longer block is unreadable.
 BLOCK_LIMIT = 65_536
 
+# B13: the type that is looked for.
 REPORT = b"multipart/report"
 
 
@@ -11,39 +12,37 @@ def fields(block: bytes) -> list[tuple[bytes, bytes]] | None:
 
     None where the block is unreadable.
     """
-    # The length of the whole argument is meant, what follows the empty line
-    # included (C1). "length 0 is readable"
+    # B1: all octets of the argument count, those behind the empty line too.
     if len(block) > BLOCK_LIMIT:
         return None
     found: list[tuple[bytes, bytes]] = []
     for line in lines_of(block):
-        # "The block ends at the first empty line." "what follows it isn't examined"
+        # B5: the first empty line ends the block; the lines behind it are not looked at.
         if line == b"":
             return found
         if line[0] in b" \t":
-            # "A line opening with space or tab continues the field above." A line of
-            # blanks only does too (C4). "a continuation with no field above included,
-            # is unreadable"
+            # B6: a blank in front continues the field above, be the line all blanks;
+            # without a field above the block is unreadable.
             if found == []:
                 return None
-            # "Unfolding drops line endings and keeps all other octets": the blank
-            # that opens the continuation stays (C10).
+            # B9: only line endings go; the blank in front stays with the value.
             name, value = found[-1]
             found[-1] = (name, value + line)
         else:
-            # "Every other line is a nonempty name of octets 33 to 126 without colon,
-            # then a colon."
+            # B7: a name of octets 33 to 126, and a colon right behind it. B8: any other
+            # line makes the block unreadable.
             colon = line.find(b":")
             if colon < 1 or not all(33 <= octet <= 126 for octet in line[:colon]):
                 return None
+            # B7, B10: the value is all that follows the first colon, whatever octets.
             found.append((line[:colon], line[colon + 1:]))
     return found
 
 
 def lines_of(block: bytes) -> list[bytes]:
     """The lines of a block, without their endings."""
-    # "Lines end in CRLF or LF; the last may lack an ending." A CR that no LF follows
-    # is an ordinary octet of its line (C2), as the last octet too (C3).
+    # B2: LF ends a line, and takes one CR in front of it along; the last line may do
+    # without. B3, B4: any other CR is an octet of its line, at the block's end too.
     pieces = block.split(b"\n")
     ended, last = pieces[:-1], pieces[-1]
     lines = [piece[:-1] if piece.endswith(b"\r") else piece for piece in ended]
@@ -54,25 +53,24 @@ def lines_of(block: bytes) -> list[bytes]:
 
 def same_name(a: bytes, b: bytes) -> bool:
     """Whether two field names are the same."""
-    # "Names compare without regard to ASCII case." (On octets, `lower` changes ASCII
-    # letters alone.)
+    # B11: the case of ASCII letters does not matter. (On octets `lower` changes no others.)
     return a.lower() == b.lower()
 
 
 def values_of(found: list[tuple[bytes, bytes]], name: bytes) -> list[bytes]:
     """The values of all fields of one name, in order."""
+    # B11: none of them hides another.
     return [value for its_name, value in found if same_name(its_name, name)]
 
 
 def is_report(value: bytes) -> bool:
     """Whether a Content-Type value is multipart/report."""
-    # "Multipart/report matches in any case after leading spaces and tabs": no
-    # comment is skipped (M1).
+    # B13: blanks may stand in front, comments may not; the case does not matter.
     start = 0
     while start < len(value) and value[start] in b" \t":
         start += 1
     end = start + len(REPORT)
     if value[start:end].lower() != REPORT:
         return False
-    # "and is followed by the end, space, tab, `;` or `(`"
+    # B13: what may follow directly.
     return end == len(value) or value[end] in b" \t;("

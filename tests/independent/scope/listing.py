@@ -5,31 +5,30 @@ import sys
 from scope import table as tables
 from scope.table import SLOT, Entry
 
-# "A listing program reads a table of at most 14 slots from standard input."
+# W7: the largest table that it takes.
 LISTING_SLOTS = 14
 
 
 def listing(stdin: bytes) -> bytes:
     """What the listing program prints for its standard input."""
-    # "longer input prints `refused 1`", sound or not (N3)
+    # W7: longer input is refused with 1, whatever it holds.
     if len(stdin) > LISTING_SLOTS * SLOT:
         return refused(1)
     refusal, _ = tables.check(stdin)
     if refusal != 0:
         return refused(refusal)
+    # W8: a line for each used slot, in order; none for a free one.
     return b"".join(line(entry) for entry in tables.entries(stdin) if entry is not None)
 
 
 def refused(number: int) -> bytes:
-    # "A refusal prints `refused` and the number": no index (N1), and LF ends the line
-    # (N2).
+    # W10: the word, the number and LF; the index of 2 is left out.
     return b"refused %d\n" % number
 
 
 def line(entry: Entry) -> bytes:
-    # "Per used slot it prints address, last seen, Autocrypt timestamp, direct key
-    # length, `mutual` or `none`, gossip timestamp, gossip key length." "One space parts
-    # the fields, LF ends each line." The address prints as stored (N4).
+    # W8: seven columns, a space between two of them and LF behind the last. W9: the
+    # address as it is stored, and `none` also where there is no direct half.
     return b" ".join([
         entry.address,
         time(entry.last_seen),
@@ -42,12 +41,12 @@ def line(entry: Entry) -> bytes:
 
 
 def time(seconds: int | None) -> bytes:
-    # "Absent times print `-`"
+    # W9: a number in base ten, or a hyphen for a time that is absent.
     return b"-" if seconds is None else b"%d" % seconds
 
 
 def length(key: bytes | None) -> bytes:
-    # "absent lengths 0"
+    # W9: an absent key counts as 0 octets.
     return b"0" if key is None else b"%d" % len(key)
 
 

@@ -4,17 +4,17 @@ from scope import table as tables
 from scope.address import addresses
 from scope.table import DIRECT_KEY_AT, GOSSIP_KEY_AT, SLOT, Entry
 
-# The advices, and what stands for none where the call refuses.
+# A1: the advices from low to high, and what comes with a refusal.
 REFUSED = 0
 DISABLE = 1
 DISCOURAGE = 2
 AVAILABLE = 3
 ENCRYPT = 4
 
-# "10: recipient list unreadable, or not 1 to 100 addresses"
+# R10: no more recipients than these.
 RECIPIENTS_LIMIT = 100
 
-# "exceeds the timestamp by more than 3,024,000 (35 days)"
+# A3: 35 days in seconds.
 GAP_LIMIT = 3_024_000
 
 
@@ -24,16 +24,17 @@ def recommend(table: bytes, recipients: bytes, mutual: bool, reply: bool) -> tup
     `mutual` is the sender's own preference; `reply` says that the mail replies to an
     encrypted one.
     """
-    # "recommending 1, 2, 10"
+    # R31: the refusals in their order. R1, R2: the table.
     refusal, index = tables.check(table)
     if refusal != 0:
         return refusal, index, REFUSED
-    # Places count, equal addresses as often as they stand (R9). The argument is a list
-    # and no field, so it is not unfolded (R12), and its length has no limit (R11).
+    # R10: a list that is readable, with 1 to 100 addresses, each counted as often as it
+    # stands. L19: as an argument it is read as it is. L17: it may have any length.
     found = addresses(recipients)
     if found is None or not 1 <= len(found) <= RECIPIENTS_LIMIT:
         return 10, 0, REFUSED
     held = tables.entries(table)
+    # A1: the advice of the whole list.
     advices = [advice_for(entry_for(held, address), mutual, reply) for address in found]
     return 0, 0, whole_list(advices)
 
@@ -45,20 +46,19 @@ def entry_for(held: list[Entry | None], address: bytes) -> Entry | None:
 
 def advice_for(entry: Entry | None, mutual: bool, reply: bool) -> int:
     """The advice for one recipient."""
-    # "no entry or no key, disable"
+    # A2: without an entry or a key, disable.
     if entry is None or (entry.direct_key is None and entry.gossip_key is None):
         return DISABLE
-    # "Only gossip, target gossip key, discourage. Else the direct key, discourage if
-    # last seen exceeds the timestamp by more than 3,024,000 (35 days), otherwise
-    # available." (V3)
+    # A2: gossip alone, discourage; a direct half, discourage or available. A3: the gap that
+    # decides lies between last seen and the timestamp, and at the limit it is not yet wide.
     if entry.direct_key is None:
         preliminary = DISCOURAGE
     elif entry.last_seen - entry.autocrypt_timestamp > GAP_LIMIT:
         preliminary = DISCOURAGE
     else:
         preliminary = AVAILABLE
-    # "A reply to an encrypted mail makes either one encrypt; so do available and both
-    # sides mutual." Mutual on both sides does not lift discourage (V1).
+    # A4: a reply to an encrypted mail lifts both to encrypt; mutual on both sides lifts
+    # available alone.
     if reply:
         return ENCRYPT
     if preliminary == AVAILABLE and entry.mutual and mutual:
@@ -67,7 +67,7 @@ def advice_for(entry: Entry | None, mutual: bool, reply: bool) -> int:
 
 
 def whole_list(advices: list[int]) -> int:
-    # "Whole list: any disable; all encrypt; any discourage; else available, first match."
+    # A5: the first of these that fits, which is the lowest advice of the list.
     if DISABLE in advices:
         return DISABLE
     if all(advice == ENCRYPT for advice in advices):
@@ -83,21 +83,23 @@ def target_key(table: bytes, recipients: bytes, mutual: bool, reply: bool,
 
     (0, 0) is the empty part.
     """
-    # "an empty part without one, past the list or where the first call refuses";
-    # a list that is disable because of another recipient is no refusal (V2).
+    # A7: empty where the other call refuses. A8: to get disable because of someone else is
+    # no refusal. A9: nothing else depends on preference and reply.
     refusal, _, _ = recommend(table, recipients, mutual, reply)
     if refusal != 0:
         return 0, 0
-    # "a list place from 0": places count addresses in order, those of groups in their
-    # place (V6).
+    # A10: places count the addresses in order, those of groups where they stand. A7: empty
+    # past the list.
     found = addresses(recipients)
     if place >= len(found):
         return 0, 0
     held = tables.entries(table)
     at = tables.find(held, found[place])
+    # A7: empty for a recipient without a key.
     if at is None:
         return 0, 0
     entry = held[at]
+    # A2, A6: the direct key, else the gossip key, by its place in the table.
     if entry.direct_key is not None:
         return at * SLOT + DIRECT_KEY_AT[0], len(entry.direct_key)
     if entry.gossip_key is not None:

@@ -4,27 +4,26 @@ from dataclasses import dataclass
 
 from scope.address import canonical, is_plain
 
-# "1 to 256 slots of 4,392 octets."
+# T1: the octets of a slot, and the slots that a table may have.
 SLOT = 4_392
 SLOTS_LIMIT = 256
 
-# "A two-octet mark opens each slot: 41 31 used, 00 00 free." A free slot is all zero,
-# so its mark needs no look of its own.
+# T4: the mark of a used slot. A free one is all zero, so its mark needs no look of its own.
 USED = b"\x41\x31"
 
-# "Times are seconds since 1970-01-01 UTC, 0 to 253,402,300,799."
+# T6: the largest time, the last second of the year 9999.
 TIME_LIMIT = 253_402_300_799
 
-# "key lengths are 1 to 2,048"
+# T8.6: the octets that a key may have.
 KEY_LIMIT = 2_048
 
-# Octet 4: "bit 0 last seen, bit 1 direct key, bit 2 gossip key, bit 3 mutual"
+# T5: what the bits of octet 4 stand for.
 LAST_SEEN = 1
 DIRECT = 2
 GOSSIP = 4
 MUTUAL = 8
 
-# The columns of the paper's table: first octet and the octet behind the last.
+# T3: what stands where, by its first octet and the one behind its last.
 MARK_AT = (0, 2)
 ADDRESS_LENGTH_AT = (2, 4)
 BITS_AT = 4
@@ -41,14 +40,15 @@ GOSSIP_KEY_AT = (2344, 4392)
 
 Place = tuple[int, int]
 
-# A slot is told in so many numbers: whether it is used, its bits, last seen, the Autocrypt
-# and the gossip timestamp, and start and length of address, direct key and gossip key.
+# T14: a slot is told in so many numbers: whether it is used, its bits, last seen, the
+# Autocrypt and the gossip timestamp, and start and length of address, direct key and gossip
+# key.
 NUMBERS = 11
 
 
 @dataclass
 class Entry:
-    """What a used slot holds. None stands for what is absent."""
+    """What a used slot holds (T7). None stands for what is absent."""
     address: bytes
     last_seen: int | None = None
     autocrypt_timestamp: int | None = None  # present exactly when the direct key is
@@ -62,7 +62,7 @@ def octets(slot: bytes, place: Place) -> bytes:
     return slot[place[0]:place[1]]
 
 
-# "Numbers are little-endian."
+# T2: the least octet comes first.
 def number(slot: bytes, place: Place) -> int:
     return int.from_bytes(octets(slot, place), "little")
 
@@ -78,15 +78,16 @@ def slots(table: bytes) -> list[bytes]:
 
 def check(table: bytes) -> tuple[int, int]:
     """The refusal number a table gives, 0 for none, and the index that 2 carries."""
-    # "1: table length isn't 1 to 256 whole slots"
+    # R1, T1: whole slots, at least 1 and at most 256.
     if len(table) % SLOT != 0 or not 1 <= len(table) // SLOT <= SLOTS_LIMIT:
         return 1, 0
-    # "2: a slot is neither free nor sound; the lowest such index is returned"
+    # R2: every slot is free or sound; the first one that is neither is answered.
     lower: list[bytes] = []
     for index, slot in enumerate(slots(table)):
         if is_free(slot):
             continue
-        # "sound when its address is canonical and in no lower slot" (T4, T7)
+        # T8.3: no lower slot has the address. T12: they are compared as they stand, and a
+        # lower slot that is broken was answered before this one.
         if not is_sound_alone(slot) or address_of(slot) in lower:
             return 2, index
         lower.append(address_of(slot))
@@ -94,7 +95,7 @@ def check(table: bytes) -> tuple[int, int]:
 
 
 def is_free(slot: bytes) -> bool:
-    # "A free slot is all zero." (T1)
+    # T4: every octet is zero, not the mark alone.
     return is_zero(slot)
 
 
@@ -104,27 +105,27 @@ def address_of(slot: bytes) -> bytes:
 
 def is_sound_alone(slot: bytes) -> bool:
     """Every condition of a sound used slot but that on the lower slots."""
-    # "A two-octet mark opens each slot: 41 31 used"
+    # T8.1: it opens with the mark.
     if octets(slot, MARK_AT) != USED:
         return False
-    # "its address is canonical": at most 254 octets, though 256 would fit (T5). A length
-    # beyond the area gives all 256 octets of it, which are no plain address.
+    # T8.2: the address is canonical. T9: so it ends at 254 octets, though the room has 256; a
+    # length beyond the room gives all of the room, which is no plain address.
     address = address_of(slot)
     if not is_plain(address) or canonical(address) != address:
         return False
-    # "bits 4 to 7, octets 5-7 and 36-39 are clear"
+    # T8.4: no other bit is set, and the unused octets are zero.
     bits = slot[BITS_AT]
     if bits >= 16 or not is_zero(octets(slot, ZERO_AT)) or not is_zero(octets(slot, ZERO_TOO_AT)):
         return False
-    # "times are in range"; absent ones through being zero (T6).
+    # T8.5: no time is above the largest one, be it there or not.
     for place in (LAST_SEEN_AT, AUTOCRYPT_TIMESTAMP_AT, GOSSIP_TIMESTAMP_AT):
         if number(slot, place) > TIME_LIMIT:
             return False
-    # "key lengths are 1 to 2,048 where the bit is set"
+    # T8.6: a key that is there has 1 to 2,048 octets.
     for bit, place in ((DIRECT, DIRECT_LENGTH_AT), (GOSSIP, GOSSIP_LENGTH_AT)):
         if bits & bit and not 1 <= number(slot, place) <= KEY_LIMIT:
             return False
-    # "everything absent ... is zero"
+    # T8.7: times and lengths of what is absent are zero. T7: so a half is there or not.
     if not bits & LAST_SEEN and number(slot, LAST_SEEN_AT) != 0:
         return False
     if not bits & DIRECT and (number(slot, AUTOCRYPT_TIMESTAMP_AT) != 0
@@ -133,17 +134,17 @@ def is_sound_alone(slot: bytes) -> bool:
     if not bits & GOSSIP and (number(slot, GOSSIP_TIMESTAMP_AT) != 0
                               or number(slot, GOSSIP_LENGTH_AT) != 0):
         return False
-    # "or past a length is zero"; an absent key has length 0, so all of its area is
-    # past the length.
+    # T8.8: behind the stored length each room is zero; of an absent key that is all of it.
     for length_place, place in ((ADDRESS_LENGTH_AT, ADDRESS_AT),
                                 (DIRECT_LENGTH_AT, DIRECT_KEY_AT),
                                 (GOSSIP_LENGTH_AT, GOSSIP_KEY_AT)):
         if not is_zero(octets(slot, place)[number(slot, length_place):]):
             return False
-    # "mutual implies a direct key"
+    # T8.9: a preference stands beside a direct half.
     if bits & MUTUAL and not bits & DIRECT:
         return False
-    # "a direct key implies last seen present and not below the Autocrypt timestamp"
+    # T8.10: a direct half has last seen beside it, which is not before its timestamp. T11:
+    # nothing of the kind is asked of gossip. T10: nor that any bit is set.
     if bits & DIRECT:
         if not bits & LAST_SEEN:
             return False
@@ -156,7 +157,7 @@ def entry_of(slot: bytes) -> Entry | None:
     """The entry of a sound slot; None for a free one."""
     if is_free(slot):
         return None
-    # "Zero is a real time; only the bits mark absence."
+    # T6: the bits alone tell what is there, since 0 is a time.
     bits = slot[BITS_AT]
     entry = Entry(address_of(slot))
     if bits & LAST_SEEN:
@@ -220,7 +221,7 @@ def table_of(held: list[Entry | None]) -> bytes:
 
 def find(held: list[Entry | None], address: bytes) -> int | None:
     """The index of the entry of an address; None where there is none."""
-    # "Addresses are compared in canonical form only." Entries hold that form.
+    # T15, L8: canonical forms are compared, and entries hold them.
     wanted = canonical(address)
     for index, entry in enumerate(held):
         if entry is not None and entry.address == wanted:
@@ -236,20 +237,21 @@ def free_slots(held: list[Entry | None]) -> list[int]:
 def entry_numbers(table: bytes, slot: int, room: int) -> tuple[int, int, list[int] | None]:
     """The refusal number, 0 for none, the index that 2 carries, and the numbers that tell a slot.
 
-    `room` says how many numbers are lent; None stands for those of a call that refuses. No
-    rule of the paper: the library has this call for its callers.
+    `room` says how many numbers are lent; None stands for those of a call that refuses.
     """
+    # T14, R31: refusals 1, 2 and 12, in this order.
     refusal, index = check(table)
     if refusal != 0:
         return refusal, index, None
-    # Too little room has the paper's number for it, and is looked at last, as in writing.
+    # R12: too few numbers are lent.
     if room < NUMBERS:
         return 12, 0, None
-    # A slot past the end reads like a free one.
+    # T14: a slot past the end reads like a free one.
     held = entries(table)
     entry = held[slot] if slot < len(held) else None
     if entry is None:
         return 0, 0, [0] * NUMBERS
+    # T14: places count from the table's first octet.
     start = slot * SLOT
     return 0, 0, [
         1, table[start + BITS_AT],
@@ -261,5 +263,5 @@ def entry_numbers(table: bytes, slot: int, room: int) -> tuple[int, int, list[in
 
 
 def part(start: int, content: bytes | None) -> tuple[int, int]:
-    """Start and length of a part of the table; two zeros where it is absent."""
+    """Start and length of a part of the table; two zeros where it is absent (T14)."""
     return (0, 0) if content is None else (start, len(content))

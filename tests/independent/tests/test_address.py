@@ -1,4 +1,4 @@
-"""Plain addresses, their canonical form, and lists."""
+"""L2 to L19: plain addresses, their canonical form, and lists."""
 
 import unittest
 
@@ -15,13 +15,15 @@ def nested(depth: int) -> bytes:
 
 
 class Plain(unittest.TestCase):
-    def test_plain_addresses(self):
+    """L6 and L7."""
+
+    def test_plain_addresses_L6_L7(self):
         for text in [b"a@b", b"a@b.example", b"A.B@C.D", b"1@2", b"a+b@c", b"a=b@c", b"a@b--c",
                      b"a@1-2.x", b"\xc3\xa9@b", b"\xff@b", b"!#$%&'*+-/=?^_`{|}~@b", b"a.b.c@d",
                      b"-@b", b"-a-@b"]:
             self.assertTrue(is_plain(text), text)
 
-    def test_others(self):
+    def test_others_L6_L7(self):
         for text in [b"", b"a", b"@", b"a@", b"@b", b"a@b@c", b"a@@b", b".a@b", b"a.@b", b"a..b@c",
                      b"a@.b", b"a@b.", b"a@b..c", b"a@-b", b"a@b-", b"a@b-.c", b"a@b.-c", b"a@-",
                      b"a@b_c", b"a@\xc3\xa9", b"a@[1.2.3.4]", b'"a"@b', b"a b@c", b" a@b", b"a@b ",
@@ -29,21 +31,21 @@ class Plain(unittest.TestCase):
                      b"a:b@c", b"a;b@c", b"a\\b@c", b"a[b@c", b"a)b@c"]:
             self.assertFalse(is_plain(text), text)
 
-    def test_every_octet_in_the_local_part(self):
+    def test_every_octet_in_the_local_part_L6(self):
         for octet in range(256):
             one = bytes([octet])
             good = octet in LETTERS + DIGITS + ATOM_SIGNS or octet >= 128
             self.assertEqual(is_plain(one + b"@b"), good, octet)
             self.assertEqual(is_plain(b"x" + one + b"y@b"), good or octet == 46, octet)
 
-    def test_every_octet_in_a_label(self):
+    def test_every_octet_in_a_label_L7(self):
         for octet in range(256):
             one = bytes([octet])
             good = octet in LETTERS + DIGITS
             self.assertEqual(is_plain(b"a@" + one), good, octet)
             self.assertEqual(is_plain(b"a@x" + one + b"y"), good or octet in b"-.", octet)
 
-    def test_local_part_of_64_and_65_octets(self):
+    def test_local_part_of_64_and_65_octets_L6(self):
         self.assertTrue(is_plain(b"a" * 64 + b"@b"))
         self.assertFalse(is_plain(b"a" * 65 + b"@b"))
         self.assertTrue(is_plain(b"a." * 31 + b"aa@b"))
@@ -51,13 +53,13 @@ class Plain(unittest.TestCase):
         self.assertTrue(is_plain(b"\xc3\xa9" * 32 + b"@b"))
         self.assertFalse(is_plain(b"\xc3\xa9" * 32 + b"a@b"))
 
-    def test_label_of_63_and_64_octets(self):
+    def test_label_of_63_and_64_octets_L7(self):
         self.assertTrue(is_plain(b"a@" + b"b" * 63))
         self.assertFalse(is_plain(b"a@" + b"b" * 64))
         self.assertTrue(is_plain(b"a@x." + b"b" * 63 + b".y"))
         self.assertFalse(is_plain(b"a@x." + b"b" * 64 + b".y"))
 
-    def test_address_of_254_and_255_octets(self):
+    def test_address_of_254_and_255_octets_L6(self):
         domain = b".".join([b"b" * 63] * 3)
         self.assertEqual(len(domain), 191)
         self.assertTrue(is_plain(b"a" * 62 + b"@" + domain))  # 254
@@ -68,10 +70,10 @@ class Plain(unittest.TestCase):
 
 
 class Canonical(unittest.TestCase):
-    def test_ascii_letters_on_both_sides(self):
+    def test_ascii_letters_on_both_sides_L8(self):
         self.assertEqual(canonical(b"Alice.B@EXAMPLE.Org"), b"alice.b@example.org")
 
-    def test_all_else_stays(self):
+    def test_all_else_stays_L8(self):
         for octet in range(256):
             one = bytes([octet])
             expected = bytes([octet + 32]) if 65 <= octet <= 90 else one
@@ -80,35 +82,37 @@ class Canonical(unittest.TestCase):
 
 
 class Single(unittest.TestCase):
-    def test_bare_addresses(self):
+    """L9 to L12, L15 and L16: lists of one address."""
+
+    def test_bare_addresses_L9(self):
         self.assertEqual(addresses(b"a@b"), [b"a@b"])
         self.assertEqual(addresses(b" \ta.b@c.d\t "), [b"a.b@c.d"])
         self.assertEqual(addresses(b"A@B"), [b"A@B"])
         self.assertEqual(addresses(b"(x)a@b(y)"), [b"a@b"])
         self.assertEqual(addresses(b"\xc3\xa9@b"), [b"\xc3\xa9@b"])
 
-    def test_angle_addresses(self):
+    def test_angle_addresses_L9_L10(self):
         for text in [b"<a@b>", b" < a@b > ", b"<\t(x)a@b(y) >", b"Bob <a@b>", b"Bob<a@b>",
-                     b"Bob B. Bobson <a@b>", b'"Bob, B." <a@b>', b'"" <a@b>', b"B.B.<a@b>",
+                     b"Bob B. <a@b>", b"Bob B. Bobson <a@b>", b'"Bob, B." <a@b>', b'"" <a@b>', b"B.B.<a@b>",
                      b"(x)Bob(y)B(z)<a@b>(w)", b"\xc3\xa9 <a@b>", b'"\xc3\xa9" <a@b>',
                      b"\"a\\\"b\" <a@b>", b"=?utf-8?q?x?= <a@b>"]:
             self.assertEqual(addresses(text), [b"a@b"], text)
 
-    def test_a_dot_is_a_word_L2(self):
+    def test_a_dot_is_a_word_L10(self):
         for text in [b". <a@b>", b"... <a@b>", b".<a@b>", b". . \"x\" <a@b>", b".x <a@b>"]:
             self.assertEqual(addresses(text), [b"a@b"], text)
 
-    def test_words_need_not_be_apart_L6(self):
+    def test_words_need_not_be_apart_L10(self):
         self.assertEqual(addresses(b'"a""b"c<x@y>'), [b"x@y"])
         self.assertEqual(addresses(b'a"b".c"d"<x@y>'), [b"x@y"])
 
-    def test_blanks_and_comments_never_inside_an_address_L1(self):
+    def test_blanks_and_comments_never_inside_an_address_L11(self):
         for text in [b"a @b", b"a@ b", b"a. b@c", b"a .b@c", b"a@b .c", b"a@b. c", b"a(c)@b",
                      b"a@(c)b", b"a@b(c).d", b"<a @b>", b"<a@ b>", b"<a(c)@b>", b"<a@b (c).d>",
                      b"a\t@b", b"a.(c)b@d"]:
             self.assertIsNone(addresses(text), text)
 
-    def test_what_ends_an_address_L10(self):
+    def test_what_ends_an_address_L12(self):
         for text in [b'a@b"x"', b"a@b_", b"a@b.", b"a@b<c@d>", b"a@b:", b"a@b;", b"a@b>", b"a@b[x]",
                      b"a@b@c", b"a@b\\x", b"a@b)", b"a@b\r", b"a@b\x00", b"a@b\xc3\xa9", b"a@b-",
                      b"<a@b"]:
@@ -120,13 +124,13 @@ class Single(unittest.TestCase):
             expected = [text] if good else [b"a@b"] if octet in b" \t" else None
             self.assertEqual(addresses(text), expected, octet)
 
-    def test_words_and_bare_addresses_do_not_mix_L11(self):
+    def test_words_and_bare_addresses_do_not_mix_L15(self):
         for text in [b"Bob b@x", b"b@x Bob", b"<a@b> Bob", b"<a@b> <c@d>", b"[x] <a@b>",
                      b"x@y <a@b>", b"Bob", b"Bob Bobson", b'"Bob"', b'"x" a@b', b'"x"a@b', b"a@b c@d",
                      b"a@b <a@b>", b". a@b", b"(c) Bob b@x", b"\\x <a@b>", b")x <a@b>"]:
             self.assertIsNone(addresses(text), text)
 
-    def test_forms_that_are_unreadable(self):
+    def test_forms_that_are_unreadable_L15(self):
         for text in [b"<>", b"< >", b"Bob <>", b"<@r:a@b>", b"<@r,@s:a@b>", b'"a"@b', b'<"a"@b>',
                      b'"a".b@c', b'a."b"@c', b"a@[1.2.3.4]", b"<a@[1.2.3.4]>", b"a@\xc3\xa9",
                      b"<a>", b"<a@>", b"<@b>", b"<a@b", b"a@b>", b"<<a@b>>", b"<a@b>>", b"<a@b,c@d>",
@@ -135,7 +139,7 @@ class Single(unittest.TestCase):
                      b"(Bob <a@b>", b"Bob (x <a@b>"]:
             self.assertIsNone(addresses(text), text)
 
-    def test_one_address_that_is_no_plain_one_hides_the_rest_L7(self):
+    def test_one_address_that_is_no_plain_one_hides_the_rest_L16(self):
         for bad in [b"a" * 65 + b"@b", b'"q"@b', b"a@[1.2.3.4]", b"a@\xc3\xa9.x",
                     b"a@" + b"b" * 64]:
             self.assertIsNone(addresses(b"x@y, " + bad))
@@ -143,7 +147,7 @@ class Single(unittest.TestCase):
             self.assertIsNone(addresses(b"x@y, <" + bad + b">"))
             self.assertIsNone(addresses(b"x@y, g:" + bad + b";"))
 
-    def test_limits_of_an_address_in_a_list(self):
+    def test_limits_of_an_address_in_a_list_L6_L16(self):
         self.assertEqual(addresses(b"<" + b"a" * 64 + b"@b>"), [b"a" * 64 + b"@b"])
         self.assertIsNone(addresses(b"<" + b"a" * 65 + b"@b>"))
         domain = b".".join([b"b" * 63] * 3)
@@ -152,63 +156,70 @@ class Single(unittest.TestCase):
 
 
 class Lists(unittest.TestCase):
-    def test_several_addresses(self):
+    def test_several_addresses_L9_L17(self):
         self.assertEqual(addresses(b"a@b,c@d"), [b"a@b", b"c@d"])
         self.assertEqual(addresses(b" a@b , Bob <c@d>(x),(y)<e@f> "), [b"a@b", b"c@d", b"e@f"])
         self.assertEqual(addresses(b"a@b,a@b,A@b"), [b"a@b", b"a@b", b"A@b"])
 
-    def test_empty_places_L4(self):
+    def test_empty_places_L13(self):
         for text in [b"", b" ", b"(c)", b",", b"a@b,", b",a@b", b"a@b,,c@d", b"a@b, ,c@d", b"a@b,(c)",
                      b"(c),a@b", b"a@b, (c) ,c@d", b"g: a@b,;", b"g:,a@b;", b"g:a@b,,c@d;", b"g:,;",
                      b"g:;,", b",g:;"]:
             self.assertIsNone(addresses(text), text)
 
-    def test_other_separators(self):
+    def test_nothing_to_read_L18(self):
+        for text in [b"", b" ", b"\t", b"(c)", b" (c)\t(d) "]:
+            self.assertIsNone(addresses(text), text)
+
+    def test_other_separators_L9(self):
         for text in [b"a@b;c@d", b"a@b c@d", b"a@b:c@d", b"a@b|c@d", b"a@b.c@d", b"a@b\r\n ,c@d"]:
             self.assertIsNone(addresses(text), text)
 
-    def test_a_folded_argument_R12(self):
+    def test_a_folded_argument_L19(self):
         self.assertIsNone(addresses(b"a@b,\r\n c@d"))
         self.assertIsNone(addresses(b"a@b,\n c@d"))
         self.assertEqual(addresses(b"a@b, c@d"), [b"a@b", b"c@d"])
 
-    def test_no_limit_on_the_number_L14(self):
+    def test_no_limit_on_the_number_L17(self):
         self.assertEqual(addresses(b",".join([b"a@b"] * 5000)), [b"a@b"] * 5000)
 
 
 class Groups(unittest.TestCase):
-    def test_groups(self):
+    """L9, L14 and L15: groups."""
+
+    def test_groups_L9_L17(self):
         self.assertEqual(addresses(b"g:a@b;"), [b"a@b"])
         self.assertEqual(addresses(b" g h (c) : a@b , Bob <c@d> ; (e)"), [b"a@b", b"c@d"])
         self.assertEqual(addresses(b'"g,h":a@b;,c@d'), [b"a@b", b"c@d"])
         self.assertEqual(addresses(b"x@y,g:a@b;,h:c@d;"), [b"x@y", b"a@b", b"c@d"])
         self.assertEqual(addresses(b".:a@b;"), [b"a@b"])
+        self.assertEqual(addresses(b"team: a@b, <c@d>;"), [b"a@b", b"c@d"])
 
-    def test_empty_groups_L15_R10(self):
+    def test_empty_groups_L14_L18(self):
         self.assertEqual(addresses(b"g:;"), [])
         self.assertEqual(addresses(b"g: (c) ;"), [])
         self.assertEqual(addresses(b"g:;,h:;"), [])
 
-    def test_groups_beside_one_address_L3(self):
+    def test_groups_beside_one_address_U3(self):
         self.assertEqual(addresses(b"g: a@b;"), [b"a@b"])
         self.assertEqual(addresses(b"g:;, a@b"), [b"a@b"])
 
-    def test_what_follows_a_group_L8(self):
+    def test_what_follows_a_group_L14(self):
         for text in [b"g:; a@b", b"g:;a@b", b"g:;;", b"g:", b"g:a@b", b"g:a@b,c@d", b"g", b"g:a@b;x",
                      b"g:;g:;"]:
             self.assertIsNone(addresses(text), text)
 
-    def test_no_inner_groups(self):
+    def test_no_inner_groups_L15(self):
         for text in [b"g:h:;;", b"g:h:a@b;;", b"g:a@b,h:c@d;;", b"g:h:a@b;,c@d;"]:
             self.assertIsNone(addresses(text), text)
 
-    def test_a_group_needs_a_phrase(self):
+    def test_a_group_needs_a_phrase_L14(self):
         for text in [b":;", b":a@b;", b"(c):a@b;", b"a@b:c@d;", b"<a@b>:c@d;", b"g: :a@b;"]:
             self.assertIsNone(addresses(text), text)
 
 
 class CommentsAndControls(unittest.TestCase):
-    def test_comment_depth_16_and_17(self):
+    def test_comment_depth_16_and_17_L2(self):
         self.assertEqual(addresses(nested(16) + b"a@b"), [b"a@b"])
         self.assertIsNone(addresses(nested(17) + b"a@b"))
         self.assertEqual(addresses(b"Bob " + nested(16) + b"<a@b>" + nested(16)), [b"a@b"])
@@ -217,7 +228,7 @@ class CommentsAndControls(unittest.TestCase):
             self.assertIsNotNone(addresses(place % nested(16)), place)
             self.assertIsNone(addresses(place % nested(17)), place)
 
-    def test_each_comment_counts_afresh_L12(self):
+    def test_each_comment_counts_afresh_L2_L4(self):
         self.assertEqual(addresses(nested(16) + nested(16) + b"a@b"), [b"a@b"])
         self.assertEqual(addresses(b"(\\()a@b"), [b"a@b"])
         self.assertEqual(addresses(b'(")a@b(")'), [b"a@b"])
@@ -231,11 +242,11 @@ class CommentsAndControls(unittest.TestCase):
                          b"x" + one + b"y <a@b>", b"a" + one + b"@b"]:
                 self.assertIsNone(addresses(text), text)
 
-    def test_tabs_L16(self):
+    def test_tabs_L4_L11(self):
         for text in [b'"\t" <a@b>', b'"\\\t" <a@b>', b"(\t)a@b", b"x\ty <a@b>", b"\ta@b\t"]:
             self.assertEqual(addresses(text), [b"a@b"], text)
 
-    def test_every_octet_in_a_phrase(self):
+    def test_every_octet_in_a_phrase_L10(self):
         for octet in range(256):
             good = octet in LETTERS + DIGITS + ATOM_SIGNS + b" \t." or octet >= 128
             expected = [b"a@b"] if good else None

@@ -1,4 +1,7 @@
-"""The generator of cases reaches every answer of every call, by seed."""
+"""The generator of cases reaches every answer of every call, by seed.
+
+Where cases have to reach both sides of a limit, the test names its rule.
+"""
 
 import pathlib
 import sys
@@ -66,7 +69,7 @@ class Readers(unittest.TestCase):
         self.both(Counter(tokens.quoted(text, 0) is None for text in quoted), len(quoted))
         self.both(Counter(tokens.quoted(cases.quoted_text(), 0) is None for _ in range(1000)), 1000)
 
-    def test_depths_on_both_sides_of_the_limit(self):
+    def test_depths_on_both_sides_of_the_limit_L2(self):
         cases = Cases(SEED)
         depths = Counter()
         for _ in range(1500):
@@ -168,6 +171,7 @@ class Calls(unittest.TestCase):
             octets, receipt, outer, payload, gossip = cases.processing()
             number, index, after = processing.process(octets, receipt, outer, payload, gossip)
             numbers[number] += 1
+            # R32: a refusal leaves the table. C4: a sound table stays sound.
             if number != 0:
                 self.assertEqual(after, octets)
                 continue

@@ -1,4 +1,4 @@
-"""Fetch order is immaterial: demand 3 run by the independent program, and why it needs each of its premises."""
+"""C11: the order of fetching does not matter, run by the independent program; and why each premise is needed."""
 
 import unittest
 

@@ -1,4 +1,4 @@
-"""The value of Autocrypt and Autocrypt-Gossip fields."""
+"""Page F: the value of Autocrypt and Autocrypt-Gossip fields."""
 
 import base64 as standard
 import unittest
@@ -9,38 +9,40 @@ GOOD = b"addr=a@b.example; keydata=Zm9v"
 
 
 class Examples(unittest.TestCase):
-    def test_proved_examples_of_the_paper(self):
+    def test_proved_examples_C14_F3_F5_F8_F12_F13(self):
         foo = Field(b"a@b.example", False, b"foo")
         self.assertEqual(counted([GOOD], b"A@B.example"), foo)
         self.assertIsNone(counted([b"addr=a@b.example; type=1; keydata=Zm9v"], b"A@B.example"))
         self.assertEqual(counted([b"addr=a@b.example; _type=1; keydata=Zm9v"], b"A@B.example"), foo)
         self.assertIsNone(counted([GOOD + b";"], b"A@B.example"))
 
-    def test_proved_examples_on_key_data(self):
+    def test_proved_examples_on_key_data_C14_F9(self):
         self.assertEqual(read(b"addr=a@b; keydata=Zg==").key, b"f")
         self.assertIsNone(read(b"addr=a@b; keydata=Zh=="))
         self.assertIsNone(read(b"addr=a@b; keydata=Zg"))
 
-    def test_key_of_2048_octets_read_and_2049_not(self):
+    def test_key_of_2048_octets_read_and_2049_not_F10(self):
         for length, read_too in [(1, True), (2, True), (2047, True), (2048, True), (2049, False),
                                  (2050, False), (8192, False)]:
             text = standard.b64encode(bytes(length))
             found = read(b"addr=a@b; keydata=" + text)
             self.assertEqual(found, Field(b"a@b", False, bytes(length)) if read_too else None)
 
-    def test_the_form_of_000(self):
+    def test_a_whole_field_F11(self):
         self.assertEqual(
-            read(b" addr=a@b.example.org; prefer-encrypt=mutual; keydata=\t Zm9v Ym Fy"),
-            Field(b"a@b.example.org", True, b"foobar"))
+            read(b" addr=Bob@b.example.org; prefer-encrypt=mutual; keydata=\t Zm9v Ym Fy"),
+            Field(b"bob@b.example.org", True, b"foobar"))
 
 
 class Pieces(unittest.TestCase):
-    def test_trimming_of_spaces_and_tabs(self):
+    """F1 to F3."""
+
+    def test_trimming_of_spaces_and_tabs_F2(self):
         self.assertEqual(read(b" \taddr\t = \ta@b ; prefer-encrypt \t=\tmutual\t; keydata = Zm9v "),
                          Field(b"a@b", True, b"foo"))
         self.assertEqual(read(b"addr=a@b;keydata=Zm9v"), Field(b"a@b", False, b"foo"))
 
-    def test_nothing_else_is_trimmed(self):
+    def test_nothing_else_is_trimmed_F2(self):
         for octet in (b"\r", b"\n", b"\x0b", b"\x0c", b"\0", b"\xa0"):
             self.assertIsNone(read(octet + GOOD))
             self.assertIsNone(read(b"addr" + octet + b"=a@b; keydata=Zm9v"))
@@ -53,7 +55,7 @@ class Pieces(unittest.TestCase):
             field = read(b"addr=a@b; prefer-encrypt=mutual" + octet + b"; keydata=Zm9v")
             self.assertEqual(field, Field(b"a@b", False, b"foo"))
 
-    def test_a_piece_without_equals_or_name(self):
+    def test_a_piece_without_equals_or_name_F3(self):
         for text in [b"", b" ", b";", b"addr", b"addr=a@b; x; keydata=Zm9v",
                      b"addr=a@b; ; keydata=Zm9v", b"addr=a@b;; keydata=Zm9v", b";" + GOOD,
                      b"addr=a@b; =x; keydata=Zm9v", b"addr=a@b; = ; keydata=Zm9v",
@@ -61,10 +63,10 @@ class Pieces(unittest.TestCase):
                      b"addr=a@b; mutual; keydata=Zm9v"]:
             self.assertIsNone(read(text), text)
 
-    def test_an_empty_value_is_spoiled_K8(self):
+    def test_an_empty_value_is_spoiled_F3(self):
         self.assertIsNone(read(b""))
 
-    def test_no_comments_and_no_quoted_strings_K1(self):
+    def test_no_comments_and_no_quoted_strings_F1(self):
         for text in [b"addr=a@b (c); keydata=Zm9v", b'addr="a@b"; keydata=Zm9v',
                      b"addr=<a@b>; keydata=Zm9v", b"addr=a@b; _x=(;); keydata=Zm9v",
                      b'addr=a@b; _x=";"; keydata=Zm9v', b"(c) addr=a@b; keydata=Zm9v",
@@ -74,24 +76,26 @@ class Pieces(unittest.TestCase):
         self.assertEqual(read(b"addr=a@b; prefer-encrypt=\"mutual\"; keydata=Zm9v"),
                          Field(b"a@b", False, b"foo"))
 
-    def test_parted_at_the_first_equals_K9(self):
+    def test_parted_at_the_first_equals_F2(self):
         self.assertEqual(read(b"addr=a=b@c; keydata=Zm9v"), Field(b"a=b@c", False, b"foo"))
         self.assertEqual(read(b"addr==@c; keydata=Zm9v"), Field(b"=@c", False, b"foo"))
         self.assertEqual(read(b"addr=a@c; _x==y=z=; keydata=Zg=="), Field(b"a@c", False, b"f"))
 
 
 class Names(unittest.TestCase):
-    def test_names_are_case_sensitive_K3(self):
+    """F4 to F8."""
+
+    def test_names_are_case_sensitive_F4(self):
         for text in [b"Addr=a@b; keydata=Zm9v", b"addr=a@b; KEYDATA=Zm9v", b"addr=a@b; Keydata=Zm9v",
                      b"addr=a@b; Prefer-Encrypt=mutual; keydata=Zm9v"]:
             self.assertIsNone(read(text), text)
 
-    def test_unknown_names_spoil(self):
+    def test_unknown_names_spoil_F2_F5(self):
         for name in [b"type", b"x", b"addr2", b"-", b"keydata2", b"prefer_encrypt", b"key data", b"add"]:
             self.assertIsNone(read(b"addr=a@b; " + name + b"=1; keydata=Zm9v"), name)
             self.assertIsNone(read(b"addr=a@b; " + name + b"=; keydata=Zm9v"), name)
 
-    def test_names_that_open_with_an_underscore_K5(self):
+    def test_names_that_open_with_an_underscore_F5(self):
         for names in [[b"_"], [b"_x"], [b"_addr"], [b"_keydata"], [b"_x", b"_x"], [b"_", b"_y", b"_"],
                       [b"_x y"], [b"__"], [b"_\xff\x01"]]:
             middle = b"".join(name + b"=1; " for name in names)
@@ -100,35 +104,37 @@ class Names(unittest.TestCase):
         self.assertEqual(read(b"_=; addr=a@b; keydata=Zm9v"), Field(b"a@b", False, b"foo"))
         self.assertIsNone(read(b"addr=a@b; _; keydata=Zm9v"))
 
-    def test_addr_once(self):
+    def test_addr_once_F6(self):
         self.assertIsNone(read(b"keydata=Zm9v"))
         self.assertIsNone(read(b"addr=a@b; addr=a@b; keydata=Zm9v"))
         self.assertIsNone(read(b"addr=a@b; addr=; keydata=Zm9v"))
         self.assertIsNone(read(b"_addr=a@b; keydata=Zm9v"))
 
-    def test_keydata_once_and_last_K2(self):
+    def test_keydata_once_and_last_F8(self):
         for text in [b"addr=a@b", b"addr=a@b; keydata=Zm9v; keydata=Zm9v", b"keydata=Zm9v; addr=a@b",
                      b"addr=a@b; keydata=Zm9v; prefer-encrypt=mutual", b"addr=a@b; keydata=Zm9v; _x=1",
                      b"addr=a@b; keydata=Zm9v;", b"addr=a@b; keydata=Zm9v; ", b"addr=a@b; _keydata=Zm9v"]:
             self.assertIsNone(read(text), text)
 
-    def test_order_of_the_others(self):
+    def test_order_of_the_others_F8(self):
         self.assertEqual(read(b"prefer-encrypt=mutual; _x=1; addr=a@b; keydata=Zm9v"),
                          Field(b"a@b", True, b"foo"))
 
 
 class Values(unittest.TestCase):
-    def test_addr_is_a_plain_address(self):
+    """F6, F7, F9 and F10."""
+
+    def test_addr_is_a_plain_address_F6(self):
         for text in [b"", b"a", b"a@", b"@b", b"a@b, c@d", b"Bob <a@b>", b"a @b", b"a@b.", b'"a"@b',
                      b"a" * 65 + b"@b", b"a@" + b"b" * 64, b"a@\xc3\xa9"]:
             self.assertIsNone(read(b"addr=" + text + b"; keydata=Zm9v"), text)
         self.assertEqual(read(b"addr=" + b"a" * 64 + b"@b; keydata=Zm9v"),
                          Field(b"a" * 64 + b"@b", False, b"foo"))
 
-    def test_addr_is_canonical(self):
+    def test_addr_is_canonical_F11(self):
         self.assertEqual(read(b"addr=A.\xc3\x89@B.C; keydata=Zm9v").address, b"a.\xc3\x89@b.c")
 
-    def test_prefer_encrypt_K4(self):
+    def test_prefer_encrypt_F7(self):
         for value, mutual in [(b"mutual", True), (b"Mutual", False), (b"MUTUAL", False), (b"", False),
                               (b"nopreference", False), (b"mutual x", False), (b"mutual=", False),
                               (b"mutua", False), (b"mutuall", False), (b"\x00", False)]:
@@ -139,7 +145,7 @@ class Values(unittest.TestCase):
                       b"prefer-encrypt=mutual; _x=1; prefer-encrypt=x; "]:
             self.assertIsNone(read(b"addr=a@b; " + twice + b"keydata=Zm9v"), twice)
 
-    def test_key_data_K7(self):
+    def test_key_data_F9_F10(self):
         for text, key in [(b" Z m\t9 v ", b"foo"), (b"Zg= =", b"f"), (b"Zg=\t=", b"f"), (b"Zm8 =", b"fo")]:
             self.assertEqual(read(b"addr=a@b; keydata=" + text), Field(b"a@b", False, key), text)
         for text in [b"", b" ", b"Zm9v\r", b"Zm\r9v", b"Zm9v=", b"Zg=", b"Z", b"Zm9", b"=", b"====",
@@ -148,18 +154,20 @@ class Values(unittest.TestCase):
 
 
 class Counting(unittest.TestCase):
-    MUTUAL = b"addr=a@b.example; prefer-encrypt=mutual; keydata=YmFy"
+    """F12 and F13."""
 
-    def test_none_and_one(self):
+    MUTUAL = b"prefer-encrypt=mutual; addr=a@b.example; keydata=YmFy"
+
+    def test_none_and_one_F13(self):
         self.assertIsNone(counted([], b"a@b.example"))
         self.assertEqual(counted([GOOD], b"a@b.example"), Field(b"a@b.example", False, b"foo"))
 
-    def test_two_valid_even_equal_count_as_none(self):
+    def test_two_valid_ones_even_equal_do_not_count_F13(self):
         self.assertIsNone(counted([GOOD, GOOD], b"a@b.example"))
         self.assertIsNone(counted([GOOD, self.MUTUAL], b"a@b.example"))
         self.assertIsNone(counted([GOOD, GOOD, GOOD], b"a@b.example"))
 
-    def test_spoiled_fields_and_other_addresses_do_not_count_K6(self):
+    def test_spoiled_fields_and_other_addresses_do_not_count_F13(self):
         too_long = b"addr=a@b.example; keydata=" + standard.b64encode(bytes(2049))
         others = [b"", b"x", too_long, b"addr=c@d; keydata=Zm9v", GOOD + b";",
                   b"addr=a@b.example; type=1; keydata=Zm9v"]
@@ -167,7 +175,7 @@ class Counting(unittest.TestCase):
                          Field(b"a@b.example", True, b"bar"))
         self.assertIsNone(counted(others, b"a@b.example"))
 
-    def test_the_sender_in_any_case(self):
+    def test_the_sender_in_any_case_F12(self):
         self.assertEqual(counted([b"addr=A@b.EXAMPLE; keydata=Zm9v"], b"a@B.example"),
                          Field(b"a@b.example", False, b"foo"))
         self.assertIsNone(counted([GOOD], b"a@b.example.org"))

@@ -1,4 +1,4 @@
-"""The listing program."""
+"""W7 to W10: the listing program."""
 
 import unittest
 
@@ -7,11 +7,11 @@ from scope.table import SLOT, TIME_LIMIT, Entry, slot_of, table_of
 
 
 class Lines(unittest.TestCase):
-    def test_the_example_of_the_paper(self):
-        slot = slot_of(Entry(b"alice@a.example", 1000, 1000, b"foo", True))
-        self.assertEqual(listing(slot), b"alice@a.example 1000 1000 3 mutual - 0\n")
+    def test_an_example_W9(self):
+        slot = slot_of(Entry(b"bob@b.example", 2000, 1000, b"foo", True))
+        self.assertEqual(listing(slot), b"bob@b.example 2000 1000 3 mutual - 0\n")
 
-    def test_every_kind_of_entry(self):
+    def test_every_kind_of_entry_W8_W9(self):
         held = [
             Entry(b"a@b"),
             Entry(b"c@d", 0),
@@ -29,13 +29,13 @@ class Lines(unittest.TestCase):
             b"i@j 253402300799 253402300799 2 mutual 253402300799 2048\n"
             b"\xc3\x89@k 5 - 0 none 6 2\n"))
 
-    def test_free_slots_print_nothing_N3(self):
+    def test_free_slots_print_nothing_W8(self):
         self.assertEqual(listing(bytes(SLOT)), b"")
         self.assertEqual(listing(bytes(14 * SLOT)), b"")
 
 
 class Refusals(unittest.TestCase):
-    def test_14_and_15_slots_N3(self):
+    def test_14_and_15_slots_W7(self):
         held = [Entry(b"a%d@b" % place, place) for place in range(14)]
         expected = b"".join(b"a%d@b %d - 0 none - 0\n" % (place, place) for place in range(14))
         self.assertEqual(listing(table_of(held)), expected)
@@ -44,16 +44,16 @@ class Refusals(unittest.TestCase):
         self.assertEqual(listing(b"\xff" * (15 * SLOT)), b"refused 1\n")
         self.assertEqual(listing(bytes(256 * SLOT)), b"refused 1\n")
 
-    def test_lengths(self):
+    def test_lengths_W7(self):
         for length in (0, 1, SLOT - 1, SLOT + 1, 14 * SLOT - 1, 14 * SLOT + 1):
             self.assertEqual(listing(bytes(length)), b"refused 1\n", length)
 
-    def test_a_broken_slot_prints_no_index_N1_N2(self):
+    def test_a_broken_slot_prints_no_index_W10(self):
         bad = slot_of(Entry(b"A@b"))
         self.assertEqual(listing(bad), b"refused 2\n")
         self.assertEqual(listing(bytes(13 * SLOT) + bad), b"refused 2\n")
 
-    def test_nothing_is_printed_before_a_refusal(self):
+    def test_nothing_is_printed_before_a_refusal_W10(self):
         good, bad = slot_of(Entry(b"a@b")), slot_of(Entry(b"A@b"))
         self.assertEqual(listing(good + bad), b"refused 2\n")
 

@@ -1,7 +1,9 @@
-"""Recommending and target keys."""
+"""Page A: advice and target keys; and refusals 1, 2 and 10."""
 
 import unittest
 
+from mails import key_field, mail
+from scope.processing import UNSET, process
 from scope.recommending import (AVAILABLE, DISABLE, DISCOURAGE, ENCRYPT, GAP_LIMIT, recommend,
                                 target_key)
 from scope.table import SLOT, Entry, slot_of, table_of
@@ -20,16 +22,18 @@ TABLE = table_of(HELD)
 
 
 class Advice(unittest.TestCase):
+    """A1 to A5."""
+
     def advice(self, recipients: bytes, mutual: bool = False, reply: bool = False,
                octets: bytes = TABLE) -> int:
         number, index, advice = recommend(octets, recipients, mutual, reply)
         self.assertEqual((number, index), (0, 0))
         return advice
 
-    def test_the_numbers_of_the_advices(self):
+    def test_the_numbers_of_the_advices_A1(self):
         self.assertEqual((DISABLE, DISCOURAGE, AVAILABLE, ENCRYPT), (1, 2, 3, 4))
 
-    def test_one_recipient(self):
+    def test_one_recipient_A2_A4(self):
         rows = [
             # recipient, plain, mutual, reply, both
             (b"unknown@x", DISABLE, DISABLE, DISABLE, DISABLE),
@@ -46,8 +50,8 @@ class Advice(unittest.TestCase):
             self.assertEqual(self.advice(name, reply=True), reply, name)
             self.assertEqual(self.advice(name, mutual=True, reply=True), both, name)
 
-    def test_the_gap_V3(self):
-        """Proved examples: no reply, no preference, gap 3,024,000 and 3,024,001."""
+    def test_the_gap_A3(self):
+        """C14 has two of these as proved examples: gaps of 35 days, and of one second more."""
         self.assertEqual(GAP_LIMIT, 35 * 24 * 60 * 60)
         for gap, expected in [(0, AVAILABLE), (GAP - 1, AVAILABLE), (GAP, AVAILABLE),
                               (GAP + 1, DISCOURAGE), (10 * GAP, DISCOURAGE)]:
@@ -59,15 +63,15 @@ class Advice(unittest.TestCase):
                                  ENCRYPT if gap <= GAP else DISCOURAGE)
                 self.assertEqual(self.advice(b"a@b", reply=True, octets=octets), ENCRYPT)
 
-    def test_gossip_beside_a_stale_key(self):
+    def test_gossip_beside_a_stale_key_A2(self):
         octets = slot_of(Entry(b"a@b", GAP + 1, 0, b"k", False, GAP + 1, b"g"))
         self.assertEqual(self.advice(b"a@b", octets=octets), DISCOURAGE)
         self.assertEqual(target_key(octets, b"a@b", False, False, 0), (296, 1))
 
-    def test_a_reply_never_lifts_disable_V1(self):
+    def test_a_reply_never_lifts_disable_A4(self):
         self.assertEqual(self.advice(b"unknown@x, fresh@x", mutual=True, reply=True), DISABLE)
 
-    def test_whole_lists(self):
+    def test_whole_lists_A5(self):
         rows = [
             # recipients, plain, mutual, reply
             (b"fresh@x, unknown@x", DISABLE, DISABLE, DISABLE),
@@ -87,7 +91,27 @@ class Advice(unittest.TestCase):
             self.assertEqual(self.advice(recipients, mutual=True), mutual, recipients)
             self.assertEqual(self.advice(recipients, reply=True), reply, recipients)
 
-    def test_addresses_are_compared_in_canonical_form(self):
+    def test_the_lowest_advice_of_the_list_A5(self):
+        names = [b"unknown@x", b"seen@x", b"heard@x", b"stale@x", b"fresh@x", b"keen@x"]
+        for one in names:
+            for other in names:
+                for mutual, reply in [(False, False), (True, False), (False, True), (True, True)]:
+                    lowest = min(self.advice(one, mutual, reply), self.advice(other, mutual, reply))
+                    self.assertEqual(self.advice(one + b", " + other, mutual, reply), lowest)
+
+    def test_slots_do_not_matter_C10(self):
+        """The same entries in other slots give the same advice and the same octets."""
+        other = table_of([None] + HELD[::-1])
+        self.assertNotEqual(other, TABLE)
+        for recipients in (b"fresh@x, keen@x", b"heard@x", b"stale@x, fresh@x", b"unknown@x, keen@x"):
+            for mutual, reply in [(False, False), (True, False), (False, True), (True, True)]:
+                self.assertEqual(self.advice(recipients, mutual, reply, other), self.advice(recipients, mutual, reply))
+            for place in range(3):
+                (at, length), (start, long) = (target_key(octets, recipients, False, False, place)
+                                               for octets in (TABLE, other))
+                self.assertEqual(TABLE[at:at + length], other[start:start + long])
+
+    def test_two_spellings_are_one_recipient_L8(self):
         self.assertEqual(self.advice(b"FRESH@X"), AVAILABLE)
         octets = slot_of(Entry(b"\xc3\xa9@x", 1, 1, b"k"))
         self.assertEqual(self.advice(b"\xc3\xa9@X", octets=octets), AVAILABLE)
@@ -95,6 +119,8 @@ class Advice(unittest.TestCase):
 
 
 class Refusals(unittest.TestCase):
+    """R1, R2, R10 and R31; and A7: no key where a list is refused."""
+
     def refused(self, number: int, octets: bytes, recipients: bytes, index: int = 0) -> None:
         for mutual in (False, True):
             for reply in (False, True):
@@ -102,21 +128,21 @@ class Refusals(unittest.TestCase):
                 for place in (0, 1, 99, 100):
                     self.assertEqual(target_key(octets, recipients, mutual, reply, place), (0, 0))
 
-    def test_1(self):
+    def test_1_R1(self):
         for length in (0, SLOT - 1, SLOT + 1, 257 * SLOT):
             self.refused(1, bytes(length), b"fresh@x")
 
-    def test_2(self):
+    def test_2_R2(self):
         self.refused(2, TABLE + TABLE, b"fresh@x", len(HELD))
         self.refused(2, slot_of(Entry(b"A@b")), b"fresh@x", 0)
 
-    def test_10(self):
+    def test_10_R10_L18_A7(self):
         for recipients in [b"", b" ", b"fresh@x,", b",", b"fresh@x;", b"Bob", b"g:;", b"g:;,h:;",
                            b"fresh@x, \"q\"@y", b"<>", b"fresh@x\r\n", b"a@b,\r\n c@d", b"(",
                            b"fresh@x " + b"(" * 17 + b")" * 17]:
             self.refused(10, TABLE, recipients)
 
-    def test_1_to_100_addresses_R9(self):
+    def test_1_to_100_addresses_R10(self):
         for count, number in [(1, 0), (2, 0), (99, 0), (100, 0), (101, 10), (200, 10)]:
             recipients = b",".join([b"fresh@x"] * count)
             if number == 0:
@@ -130,63 +156,80 @@ class Refusals(unittest.TestCase):
         grouped = b"g:;," * 50 + b"g:" + b",".join([b"fresh@x"] * 100) + b";"
         self.assertEqual(recommend(TABLE, grouped, False, False), (0, 0, AVAILABLE))
 
-    def test_no_limit_on_the_length_of_the_argument_R11(self):
+    def test_no_limit_on_the_length_of_the_argument_R10_L17(self):
         recipients = b" " * 70000 + b"fresh@x"
         self.assertEqual(recommend(TABLE, recipients, False, False), (0, 0, AVAILABLE))
         self.assertEqual(target_key(TABLE, recipients, False, False, 0), (296, 9))
 
-    def test_a_folded_argument_R12(self):
+    def test_a_folded_argument_L19(self):
         self.refused(10, TABLE, b"fresh@x,\r\n keen@x")
 
-    def test_the_order_of_checking_R1(self):
+    def test_the_order_of_testing_A1_R31(self):
         self.refused(1, b"", b"")
         self.refused(2, slot_of(Entry(b"A@b")), b"")
         self.refused(10, TABLE, b"")
 
 
 class TargetKeys(unittest.TestCase):
+    """A6 to A11."""
+
     def key(self, recipients: bytes, place: int) -> bytes:
         start, length = target_key(TABLE, recipients, False, False, place)
-        # The answers to mutual and reply do not change the key.
+        # A9: mutual and reply do not change the key.
         for mutual in (False, True):
             for reply in (False, True):
                 self.assertEqual(target_key(TABLE, recipients, mutual, reply, place), (start, length))
         return TABLE[start:start + length]
 
-    def test_the_part_of_the_table(self):
+    def test_the_part_of_the_table_A6(self):
         self.assertEqual(target_key(TABLE, b"fresh@x", False, False, 0), (296, 9))
         self.assertEqual(target_key(TABLE, b"KEEN@x", True, True, 0), (2 * SLOT + 296, 8))
         self.assertEqual(target_key(TABLE, b"heard@x", False, False, 0), (4 * SLOT + 2344, 12))
 
-    def test_direct_before_gossip(self):
+    def test_direct_before_gossip_A2(self):
         self.assertEqual(self.key(b"keen@x", 0), b"keen key")
         self.assertEqual(self.key(b"heard@x", 0), b"heard gossip")
         self.assertEqual(self.key(b"stale@x", 0), b"stale key")
 
-    def test_without_a_key(self):
+    def test_without_a_key_A7(self):
         for name in (b"unknown@x", b"seen@x", b"bare@x"):
             self.assertEqual(target_key(TABLE, name, False, False, 0), (0, 0))
 
-    def test_the_list_is_disable_because_of_another_V2(self):
+    def test_the_list_is_disable_because_of_another_A8(self):
         self.assertEqual(recommend(TABLE, b"unknown@x, fresh@x", False, False), (0, 0, DISABLE))
         self.assertEqual(self.key(b"unknown@x, fresh@x", 0), b"")
         self.assertEqual(self.key(b"unknown@x, fresh@x", 1), b"fresh key")
 
-    def test_places_count_addresses_V6(self):
+    def test_preference_and_reply_do_not_matter_A9(self):
+        for name in (b"fresh@x", b"keen@x", b"stale@x", b"heard@x", b"seen@x", b"unknown@x"):
+            answers = {target_key(TABLE, name, mutual, reply, 0) for mutual in (False, True) for reply in (False, True)}
+            self.assertEqual(len(answers), 1, name)
+
+    def test_a_part_is_no_copy_A11(self):
+        """A part leads into the table: to the same octets after a refused call, to what was written after another."""
+        held = slot_of(Entry(b"a@x", 5, 5, b"old"))
+        start, length = target_key(held, b"a@x", False, False, 0)
+        for outer, number, octets in [(b"no field", 4, b"old"), (mail(b"b@x", 9), 8, b"old"),
+                                      (mail(b"a@x", 9, key_field(b"a@x", b"new")), 0, b"new")]:
+            answer, _, after = process(held, 9, outer, b"", UNSET)
+            self.assertEqual(answer, number)
+            self.assertEqual(after[start:start + length], octets)
+
+    def test_places_count_addresses_A10(self):
         recipients = b"h:;, fresh@x, g: keen@x, heard@x;, h:;, fresh@x"
         self.assertEqual([self.key(recipients, place) for place in range(5)],
                          [b"fresh key", b"keen key", b"heard gossip", b"fresh key", b""])
         self.assertEqual(target_key(TABLE, recipients, False, False, 0),
                          target_key(TABLE, recipients, False, False, 3))
 
-    def test_past_the_list_V4(self):
+    def test_past_the_list_A7(self):
         for place in (1, 2, 100, 255, 256, 1 << 32, (1 << 64) - 1):
             self.assertEqual(target_key(TABLE, b"fresh@x", False, False, place), (0, 0))
         hundred = b",".join([b"fresh@x"] * 100)
         self.assertEqual(target_key(TABLE, hundred, False, False, 99), (296, 9))
         self.assertEqual(target_key(TABLE, hundred, False, False, 100), (0, 0))
 
-    def test_the_largest_key_in_the_last_slot(self):
+    def test_the_largest_key_in_the_last_slot_A6(self):
         octets = bytes(255 * SLOT) + slot_of(Entry(b"a@b", 1, 1, b"k" * 2048, False, 2, b"g" * 2048))
         self.assertEqual(target_key(octets, b"a@b", False, False, 0), (255 * SLOT + 296, 2048))
         octets = bytes(255 * SLOT) + slot_of(Entry(b"a@b", gossip_timestamp=2, gossip_key=b"g" * 2048))
