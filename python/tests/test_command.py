@@ -6,49 +6,25 @@ import json
 import os
 import pty
 import re
+import signal
 import subprocess
 import sys
+import time
 from pathlib import Path
 
 import pytest
-from letters import EXAMPLES, RECEIPT, letter, table_with
+from commands import INBOX, answer, failure, mailbox_of, run, words_of
+from letters import EXAMPLES, RECEIPT, letter, lock_of, table_with
 
-from vienghulac import Table, autocrypt_field, entries, gossip_field, process, target_key
+from vienghulac import Table, autocrypt_field, entries, gossip_field, open_table, process, target_key
 
-INBOX = EXAMPLES / "inbox.mbox"
 ALICE, BOB, CAROL, DAVE = "alice@autocrypt.example", "bob@autocrypt.example", "carol@autocrypt.example", "dave@mail.example"
-
-
-def run(*words, **more):
-    words = [os.fsencode(word) for word in words]
-    return subprocess.run([sys.executable, "-m", "vienghulac", *words], capture_output=True, **more)
-
-
-def answer(*words, **more):
-    """What a command that succeeds prints; it has nothing to complain about."""
-    done = run(*words, **more)
-    assert (done.returncode, done.stderr) == (0, b"")
-    return done.stdout
-
-
-def failure(status, *words, **more):
-    """The one line of a command that fails, which answers nothing."""
-    done = run(*words, **more)
-    assert (done.returncode, done.stdout) == (status, b"")
-    if status == 1:
-        assert done.stderr.startswith(b"vienghulac: ") and done.stderr.count(b"\n") == 1
-    return done.stderr.decode()
 
 
 @pytest.fixture
 def imported(table_file):
     answer("import", INBOX, "--table", table_file)
     return table_file
-
-
-def mailbox_of(path, letters):
-    path.write_bytes(b"".join(b"From a@x Sun Sep 13 12:26:40 2020\n" + block + b"body\n\n" for block in letters))
-    return path
 
 
 # import
@@ -145,6 +121,53 @@ def test_a_bar_on_a_terminal_and_none_in_a_pipe(table_file):
     assert done.returncode == 0 and b"[####" in shown and b"100% " in shown
     assert b"%" not in done.stdout
     assert run(*command[3:]).stderr == b""
+
+
+# two programs at once
+
+
+def test_an_import_waits_for_another_program(table_file):
+    """It says so once, after a second, and reads the table when it is its turn."""
+    began = time.monotonic()
+    with open_table(table_file, slots=8):
+        one = subprocess.Popen(words_of("import", INBOX, "--table", table_file), stdout=subprocess.PIPE, stderr=subprocess.PIPE)
+        line = one.stderr.readline().decode()
+        assert line == f"vienghulac: waiting for another program, which holds {lock_of(table_file)}\n"
+        assert one.poll() is None and time.monotonic() - began >= 1
+    out, more = one.communicate()
+    assert (one.returncode, more) == (0, b"") and out.decode().endswith(": 4 of 8 slots used\n")
+
+
+def test_an_import_that_is_not_to_wait(imported):
+    before = imported.read_bytes()
+    words = ("import", INBOX, "--no-wait", "--receipt", "1700000000", "--table", imported)
+    with open_table(imported):
+        line = failure(1, *words)
+        assert line == f"vienghulac: {imported}: another program holds its lock, {lock_of(imported)}\n"
+    assert imported.read_bytes() == before
+    answer(*words)
+    assert imported.read_bytes() != before
+
+
+def test_an_import_that_is_interrupted_as_it_waits(imported):
+    before = imported.read_bytes()
+    with open_table(imported):
+        one = subprocess.Popen(words_of("import", INBOX, "--table", imported), stdout=subprocess.PIPE, stderr=subprocess.PIPE)
+        assert one.stderr.readline().startswith(b"vienghulac: waiting")
+        one.send_signal(signal.SIGINT)
+        assert one.communicate() == (b"", b"vienghulac: interrupted\n")
+        assert one.returncode == 130
+    assert imported.read_bytes() == before
+    assert sorted(imported.parent.iterdir()) == [lock_of(imported), imported]
+    answer("import", INBOX, "--no-wait", "--table", imported)
+
+
+def test_readers_do_not_wait(imported):
+    with open_table(imported):
+        assert b"4 of 256" in answer("check", imported)
+        assert len(answer("list", "--table", imported).splitlines()) == 5
+        assert answer("recommend", "--table", imported, BOB) == b"available\n"
+        assert len(answer("key", "--table", imported, BOB)) > 0
 
 
 # list, recommend, key, field, check
@@ -283,6 +306,12 @@ def test_help_names_the_keys_of_json(imported):
 def test_help_of_import_tells_where_blocks_and_times_come_from():
     text = " ".join(answer("import", "--help").decode().split())
     for words in ("up to and including the first empty line", "'From ' line", "file's time", "--receipt", "no gossip is taken"):
+        assert words in text
+
+
+def test_help_of_import_tells_of_the_lock():
+    text = " ".join(answer("import", "--help").decode().split())
+    for words in (".NAME.lock", "says so after a second", "with --no-wait it fails at once"):
         assert words in text
 
 

@@ -18,6 +18,13 @@ buffer just then, such as a socket that is sending it in another thread, or an i
 releases it; until then it shows the key that it was made of. So does, for ever, what was made out of a view before: a slice,
 a cast, a memoryview of it.
 
+Files: `table.save` replaces a file whole, so whoever reads it meanwhile, or after a crash, meets the old table or the new one.
+Several programs, or threads, that change one file do so in a block of `open_table`, which holds a lock from reading the
+table to replacing the file:
+
+    with open_table("correspondents.table") as table:      # waits for others, and makes a table where there is no file
+        process(table, receipt, header_block)
+
 Stack: `process` takes up to 312,000 octets of its thread's stack. Threads have more, unless `threading.stack_size` made it
 small: a thread with less than 327,680 must not call it.
 
@@ -28,6 +35,7 @@ raises `Refused` with its number and leaves everything as it was.
 from ._arguments import Octets
 from ._fields import FieldValue, autocrypt_field, autocrypt_header, gossip_field, gossip_header
 from ._refusals import REFUSALS, Refused
+from ._shared import Locked, open_table
 from ._table import SLOT, SLOTS, Advice, Entry, Gossip, Table, check, entries, process, recommend, target_key
 
 __all__ = [
@@ -35,6 +43,7 @@ __all__ = [
     "Entry",
     "FieldValue",
     "Gossip",
+    "Locked",
     "Octets",
     "REFUSALS",
     "Refused",
@@ -47,6 +56,7 @@ __all__ = [
     "entries",
     "gossip_field",
     "gossip_header",
+    "open_table",
     "process",
     "recommend",
     "target_key",
