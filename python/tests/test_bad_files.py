@@ -120,7 +120,7 @@ def test_what_cannot_be_read(table_file, make, kind, words):
     for command in (["list"], ["recommend", "a@x"], ["key", "a@x"]):
         assert path.name in failure(1, *command, "--table", path)
     assert path.name in failure(1, "check", path)
-    assert all_below(table_file.parent, path) == before and not lock_of(path).is_file()
+    assert all_below(table_file.parent, path) == before and not os.path.isfile(lock_of(path))
 
 
 @pytest.mark.parametrize("make, kind, words", cases(UNWRITABLE))

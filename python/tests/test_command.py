@@ -138,15 +138,27 @@ def test_an_import_waits_for_another_program(table_file):
     assert (one.returncode, more) == (0, b"") and out.decode().endswith(": 4 of 8 slots used\n")
 
 
-def test_an_import_that_is_not_to_wait(imported):
+def test_mail_that_moves_while_an_import_waits(table_file, tmp_path):
+    for name in ("cur", "new"):
+        (tmp_path / "mail" / name).mkdir(parents=True)
+    (tmp_path / "mail" / "new" / "1").write_bytes(letter(b"a@x", b"key"))
+    with open_table(table_file):
+        words = words_of("import", tmp_path / "mail", "--table", table_file)
+        one = subprocess.Popen(words, stdout=subprocess.PIPE, stderr=subprocess.PIPE)
+        assert one.stderr.readline().startswith(b"vienghulac: waiting")
+        (tmp_path / "mail" / "new" / "1").rename(tmp_path / "mail" / "cur" / "1:2,S")
+    out, more = one.communicate()
+    assert (one.returncode, more) == (0, b"") and out.startswith(b"1 messages\n")
+
+
+def test_an_import_that_is_not_to_wait(imported, tmp_path):
     before = imported.read_bytes()
-    words = ("import", INBOX, "--no-wait", "--receipt", "1700000000", "--table", imported)
+    words = ("import", mailbox_of(tmp_path / "mbox", [letter(b"a@x", b"key")]), "--no-wait", "--table", imported)
     with open_table(imported):
         line = failure(1, *words)
         assert line == f"vienghulac: {imported}: another program holds its lock, {lock_of(imported)}\n"
     assert imported.read_bytes() == before
-    answer(*words)
-    assert imported.read_bytes() != before
+    assert b"5 of 256" in answer(*words)
 
 
 def test_an_import_that_is_interrupted_as_it_waits(imported):

@@ -3,6 +3,7 @@ and the file is the old table or the new one at every moment."""
 
 import contextlib
 import errno
+import faulthandler
 import gc
 import os
 import random
@@ -21,6 +22,14 @@ from letters import RECEIPT, letter, lock_of, table_with
 from vienghulac import SLOT, Locked, Refused, Table, _shared, entries, open_table, process
 
 SOON = 10  # seconds that nothing here takes
+
+
+@pytest.fixture(autouse=True)
+def no_waiting_for_ever():
+    """A test of locks that goes wrong may wait for ever; it ends the run instead, and says where it stood."""
+    faulthandler.dump_traceback_later(60, exit=True)
+    yield
+    faulthandler.cancel_dump_traceback_later()
 
 
 @pytest.fixture
@@ -140,6 +149,17 @@ def test_what_is_not_changed_is_not_written(table_file):
     assert table_file.stat().st_ino != before.st_ino
 
 
+def test_all_is_on_the_disk_as_the_block_is_left(table_file, monkeypatch):
+    """Also what was found there: whoever wrote it may have been killed before it was."""
+    synced = []
+    monkeypatch.setattr("os.fsync", lambda descriptor: synced.append(os.readlink(f"/proc/self/fd/{descriptor}")))
+    add(table_file, b"a@x", slots=4)
+    assert len(synced) == 2 and synced[0].endswith(".new") and synced[1] == str(table_file.parent)
+    synced.clear()
+    add(table_file)
+    assert synced == [str(table_file), str(table_file.parent)]
+
+
 FILL = """
 import sys
 from vienghulac import open_table, process
@@ -200,14 +220,18 @@ def test_many_threads_lose_nothing(table_file):
     assert senders(table_file) == {b"s%d@t%d" % (number, thread) for number in range(8) for thread in range(8)}
 
 
-def test_a_block_inside_a_block(table_file):
+def test_a_block_inside_a_block(table_file, impatient):
     """The same file once more is an error, by whatever name; another file is none."""
+
+    def wait_in_vain(_):
+        pytest.fail("a thread that waits for itself")
+
     link, other = table_file.with_name("link"), table_file.with_name("other")
     link.symlink_to(table_file.name)
     with open_table(table_file, slots=4) as table:
         for name in (table_file, link, os.path.relpath(table_file)):
             with pytest.raises(RuntimeError, match="would wait for itself"):
-                with open_table(name):
+                with open_table(name, waiting=wait_in_vain):
                     pytest.fail("two at once")
             with pytest.raises(Locked):
                 with open_table(name, wait=False):
@@ -274,7 +298,11 @@ def test_who_may_write_the_table_may_lock_it(table_file):
     assert lock_of(other).stat().st_mode & 0o777 == 0o664
     other.chmod(0o600)
     add(other, b"c@x")
-    assert lock_of(other).stat().st_mode & 0o777 == 0o664  # who made it chose; it is no one else's to change
+    assert lock_of(other).stat().st_mode & 0o777 == 0o664  # as it was made
+    lock_of(other).unlink()
+    other.chmod(0o444)
+    add(other, b"d@x")
+    assert lock_of(other).stat().st_mode & 0o777 == 0o644
 
 
 # The lock file.
@@ -422,7 +450,7 @@ def test_an_interrupt_ends_the_wait_and_leaves_nothing_behind(table_file, patien
             add(table_file, b"a@x", **more)
         assert not is_free(table_file)
         holder.stdin.close()
-    assert open_files() == before and _shared._all_open() == []
+    assert open_files() == before
     add(table_file, b"b@x", wait=False)
     assert senders(table_file) == {b"b@x"}
 
@@ -473,6 +501,14 @@ def test_a_forked_process_that_outlives_the_holder_does_not_hold(table_file):
         assert is_free(table_file)
 
 
+def test_a_copy_of_the_descriptor_does_not_hold(table_file):
+    """As a process has one between its fork and the program that it becomes."""
+    with open_table(table_file, slots=4):
+        copies = [os.dup(lock.fileno()) for lock in _shared._all_open() if not lock.closed]
+    assert len(copies) == 1 and is_free(table_file)
+    os.close(copies[0])
+
+
 WAIT = """
 import os, sys
 from vienghulac import open_table, process
@@ -495,7 +531,20 @@ def test_a_forked_process_waits_as_any_other(table_file):
 # All at once.
 
 
-IMPORTS, SENDERS, LETTERS = 8, 32, 20
+IMPORTS, SENDERS, LETTERS = 8, 32, 100
+
+IMPORT = """
+import contextlib, sys
+from vienghulac import _command
+open_table = _command.open_table
+@contextlib.contextmanager
+def telling(*words):
+    with open_table(*words) as table:
+        print("there", flush=True)
+        yield table
+_command.open_table = telling
+sys.exit(_command.main(sys.argv[1:]))
+"""
 
 
 def watch(table_file, over):
@@ -518,21 +567,28 @@ def test_imports_at_the_same_time_of_which_some_are_killed(table_file, tmp_path)
         for number, own in enumerate(everyone)
     ]
 
-    def begin(mailbox, table=table_file):
-        return subprocess.Popen(words_of("import", mailbox, "--table", table), stdout=subprocess.DEVNULL)
-
     began = time.monotonic()
-    assert begin(mailboxes[0], tmp_path / "other").wait() == 0
+    subprocess.run(words_of("import", mailboxes[0], "--table", tmp_path / "other"), stdout=subprocess.DEVNULL, check=True)
     whole = time.monotonic() - began  # what an import takes that is alone
 
-    def work(number):
-        chance, killed = random.Random(number), 0
-        for _ in range(number % 4):
-            one = begin(mailboxes[number])
-            time.sleep(chance.uniform(0, whole))
+    def is_killed(mailbox, inside, delay):
+        """Start an import, and kill it so long after its start, or after it got in. Was it still running?"""
+        words = [sys.executable, "-c", IMPORT, "import", mailbox, "--table", table_file]
+        with subprocess.Popen(words, stdout=subprocess.PIPE) as one:
+            if inside:
+                assert one.stdout.readline() == b"there\n"
+            time.sleep(delay)
             one.kill()
-            killed += one.wait() == -signal.SIGKILL
-        assert begin(mailboxes[number]).wait() == 0
+        assert one.returncode in (0, -signal.SIGKILL)
+        return one.returncode != 0
+
+    def work(number):
+        """Kill imports of a mailbox before one is left alone. How many were killed that were in already."""
+        chance, mailbox, killed = random.Random(number), mailboxes[number], 0
+        for turn in range(number % 4):
+            is_killed(mailbox, inside=False, delay=chance.uniform(0, whole))
+            killed += is_killed(mailbox, inside=True, delay=chance.uniform(0, 2 * whole) if turn else 0)
+        subprocess.run(words_of("import", mailbox, "--table", table_file), stdout=subprocess.DEVNULL, check=True)
         assert senders(table_file) >= everyone[number]
         return killed
 

@@ -157,7 +157,7 @@ class _LockFile(io.FileIO):
         _open.add(weakref.ref(self, _open.discard))
 
     def _descriptor(self, path: str, _: int) -> int:
-        """A descriptor of the lock file. A new one has the table's mode: who may write the one may lock the other."""
+        """A descriptor of the lock file. Who may write the table may lock a new one, and its owner always may."""
         flags = os.O_RDWR | os.O_CREAT | os.O_NOFOLLOW | os.O_CLOEXEC
         try:
             try:
@@ -167,7 +167,7 @@ class _LockFile(io.FileIO):
         except OSError as error:
             raise OSError(error.errno, f"The lock file cannot be opened: {error.strerror}", path) from None
         with contextlib.suppress(OSError):
-            os.fchmod(descriptor, os.stat(self._target).st_mode & 0o666)
+            os.fchmod(descriptor, os.stat(self._target).st_mode & 0o666 | 0o600)
         return descriptor
 
     def take(self, how: int = 0) -> bool:
