@@ -6,6 +6,7 @@ import errno
 import os
 import subprocess
 import sys
+import time
 from pathlib import Path
 
 import pytest
@@ -336,11 +337,15 @@ def test_a_file_that_is_replaced_while_it_is_read(table_file, meddle, before, af
     assert bytes(Table.load(table_file)) == octets
 
 
-def test_what_is_no_regular_file_may_change_as_it_is_read(table_file):
-    """A table through a pipe, as a shell passes one."""
-    octets = good(table_file).read_bytes()
-    reading, writing = os.pipe()
-    os.write(writing, octets)
-    os.close(writing)
-    assert bytes(Table.load(f"/proc/self/fd/{reading}")) == octets
-    os.close(reading)
+def test_what_is_no_regular_file_may_change_as_it_is_read(table_file, meddle):
+    """A table through a pipe, as a shell may pass one."""
+    octets, pipe = good(table_file).read_bytes(), a_pipe(table_file.with_name("pipe"))
+    writing = os.open(pipe, os.O_RDWR)
+
+    def write(_):
+        time.sleep(0.02)  # so that the pipe's time is another
+        os.write(writing, octets)
+        os.close(writing)
+
+    meddle(write, nothing)
+    assert bytes(Table.load(pipe)) == octets

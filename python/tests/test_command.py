@@ -125,6 +125,8 @@ def test_a_bar_on_a_terminal_and_none_in_a_pipe(table_file):
 
 # two programs at once
 
+SOON = 10  # seconds that nothing here takes
+
 
 def test_an_import_waits_for_another_program(table_file):
     """It says so once, after a second, and reads the table when it is its turn."""
@@ -134,7 +136,7 @@ def test_an_import_waits_for_another_program(table_file):
         line = one.stderr.readline().decode()
         assert line == f"vienghulac: waiting for another program, which holds {lock_of(table_file)}\n"
         assert one.poll() is None and time.monotonic() - began >= 1
-    out, more = one.communicate()
+    out, more = one.communicate(timeout=SOON)
     assert (one.returncode, more) == (0, b"") and out.decode().endswith(": 4 of 8 slots used\n")
 
 
@@ -147,7 +149,7 @@ def test_mail_that_moves_while_an_import_waits(table_file, tmp_path):
         one = subprocess.Popen(words, stdout=subprocess.PIPE, stderr=subprocess.PIPE)
         assert one.stderr.readline().startswith(b"vienghulac: waiting")
         (tmp_path / "mail" / "new" / "1").rename(tmp_path / "mail" / "cur" / "1:2,S")
-    out, more = one.communicate()
+    out, more = one.communicate(timeout=SOON)
     assert (one.returncode, more) == (0, b"") and out.startswith(b"1 messages\n")
 
 
@@ -155,7 +157,7 @@ def test_an_import_that_is_not_to_wait(imported, tmp_path):
     before = imported.read_bytes()
     words = ("import", mailbox_of(tmp_path / "mbox", [letter(b"a@x", b"key")]), "--no-wait", "--table", imported)
     with open_table(imported):
-        line = failure(1, *words)
+        line = failure(1, *words, timeout=SOON)
         assert line == f"vienghulac: {imported}: another program holds its lock, {lock_of(imported)}\n"
     assert imported.read_bytes() == before
     assert b"5 of 256" in answer(*words)
@@ -167,7 +169,7 @@ def test_an_import_that_is_interrupted_as_it_waits(imported):
         one = subprocess.Popen(words_of("import", INBOX, "--table", imported), stdout=subprocess.PIPE, stderr=subprocess.PIPE)
         assert one.stderr.readline().startswith(b"vienghulac: waiting")
         one.send_signal(signal.SIGINT)
-        assert one.communicate() == (b"", b"vienghulac: interrupted\n")
+        assert one.communicate(timeout=SOON) == (b"", b"vienghulac: interrupted\n")
         assert one.returncode == 130
     assert imported.read_bytes() == before
     assert sorted(imported.parent.iterdir()) == [lock_of(imported), imported]
