@@ -6,17 +6,15 @@ import json
 import os
 import pty
 import re
-import signal
 import subprocess
 import sys
-import time
 from pathlib import Path
 
 import pytest
-from commands import INBOX, answer, failure, mailbox_of, run, words_of
-from letters import EXAMPLES, RECEIPT, letter, lock_of, table_with
+from commands import INBOX, answer, failure, mailbox_of, run
+from letters import EXAMPLES, RECEIPT, letter, table_with
 
-from vienghulac import Table, autocrypt_field, entries, gossip_field, open_table, process, target_key
+from vienghulac import Table, autocrypt_field, entries, gossip_field, process, target_key
 
 ALICE, BOB, CAROL, DAVE = "alice@autocrypt.example", "bob@autocrypt.example", "carol@autocrypt.example", "dave@mail.example"
 
@@ -121,67 +119,6 @@ def test_a_bar_on_a_terminal_and_none_in_a_pipe(table_file):
     assert done.returncode == 0 and b"[####" in shown and b"100% " in shown
     assert b"%" not in done.stdout
     assert run(*command[3:]).stderr == b""
-
-
-# two programs at once
-
-SOON = 10  # seconds that nothing here takes
-
-
-def test_an_import_waits_for_another_program(table_file):
-    """It says so once, after a second, and reads the table when it is its turn."""
-    began = time.monotonic()
-    with open_table(table_file, slots=8):
-        one = subprocess.Popen(words_of("import", INBOX, "--table", table_file), stdout=subprocess.PIPE, stderr=subprocess.PIPE)
-        line = one.stderr.readline().decode()
-        assert line == f"vienghulac: waiting for another program, which holds {lock_of(table_file)}\n"
-        assert one.poll() is None and time.monotonic() - began >= 1
-    out, more = one.communicate(timeout=SOON)
-    assert (one.returncode, more) == (0, b"") and out.decode().endswith(": 4 of 8 slots used\n")
-
-
-def test_mail_that_moves_while_an_import_waits(table_file, tmp_path):
-    for name in ("cur", "new"):
-        (tmp_path / "mail" / name).mkdir(parents=True)
-    (tmp_path / "mail" / "new" / "1").write_bytes(letter(b"a@x", b"key"))
-    with open_table(table_file):
-        words = words_of("import", tmp_path / "mail", "--table", table_file)
-        one = subprocess.Popen(words, stdout=subprocess.PIPE, stderr=subprocess.PIPE)
-        assert one.stderr.readline().startswith(b"vienghulac: waiting")
-        (tmp_path / "mail" / "new" / "1").rename(tmp_path / "mail" / "cur" / "1:2,S")
-    out, more = one.communicate(timeout=SOON)
-    assert (one.returncode, more) == (0, b"") and out.startswith(b"1 messages\n")
-
-
-def test_an_import_that_is_not_to_wait(imported, tmp_path):
-    before = imported.read_bytes()
-    words = ("import", mailbox_of(tmp_path / "mbox", [letter(b"a@x", b"key")]), "--no-wait", "--table", imported)
-    with open_table(imported):
-        line = failure(1, *words, timeout=SOON)
-        assert line == f"vienghulac: {imported}: another program holds its lock, {lock_of(imported)}\n"
-    assert imported.read_bytes() == before
-    assert b"5 of 256" in answer(*words)
-
-
-def test_an_import_that_is_interrupted_as_it_waits(imported):
-    before = imported.read_bytes()
-    with open_table(imported):
-        one = subprocess.Popen(words_of("import", INBOX, "--table", imported), stdout=subprocess.PIPE, stderr=subprocess.PIPE)
-        assert one.stderr.readline().startswith(b"vienghulac: waiting")
-        one.send_signal(signal.SIGINT)
-        assert one.communicate(timeout=SOON) == (b"", b"vienghulac: interrupted\n")
-        assert one.returncode == 130
-    assert imported.read_bytes() == before
-    assert sorted(imported.parent.iterdir()) == [lock_of(imported), imported]
-    answer("import", INBOX, "--no-wait", "--table", imported)
-
-
-def test_readers_do_not_wait(imported):
-    with open_table(imported):
-        assert b"4 of 256" in answer("check", imported)
-        assert len(answer("list", "--table", imported).splitlines()) == 5
-        assert answer("recommend", "--table", imported, BOB) == b"available\n"
-        assert len(answer("key", "--table", imported, BOB)) > 0
 
 
 # list, recommend, key, field, check

@@ -16,7 +16,7 @@ import time
 from concurrent.futures import ThreadPoolExecutor
 
 import pytest
-from commands import mailbox_of, words_of
+from commands import INBOX, answer, failure, mailbox_of, words_of
 from letters import RECEIPT, letter, lock_of, table_with
 
 from vienghulac import SLOT, Locked, Refused, Table, _shared, entries, open_table, process
@@ -526,6 +526,75 @@ sys.exit(os.waitpid(child, 0)[1])
 def test_a_forked_process_waits_as_any_other(table_file):
     subprocess.run([sys.executable, "-c", WAIT, table_file], check=True)
     assert senders(table_file) == {b"parent@x", b"child@x"}
+
+
+# The command.
+
+
+@pytest.fixture
+def imported(table_file):
+    answer("import", INBOX, "--table", table_file)
+    return table_file
+
+
+def asked(mailbox, table_file):
+    """An import that says that it waits."""
+    words = words_of("import", mailbox, "--table", table_file)
+    one = subprocess.Popen(words, stdout=subprocess.PIPE, stderr=subprocess.PIPE)
+    line = one.stderr.readline().decode()
+    assert line == f"vienghulac: waiting for another program, which holds {lock_of(table_file)}\n"
+    return one
+
+
+def test_an_import_waits_for_another_program(table_file):
+    """It says so once, after a second, and reads the table when it is its turn."""
+    began = time.monotonic()
+    with open_table(table_file, slots=8):
+        one = asked(INBOX, table_file)
+        assert one.poll() is None and time.monotonic() - began >= 1
+    out, more = one.communicate(timeout=SOON)
+    assert (one.returncode, more) == (0, b"") and out.decode().endswith(": 4 of 8 slots used\n")
+
+
+def test_mail_that_moves_while_an_import_waits(table_file, tmp_path):
+    for name in ("cur", "new"):
+        (tmp_path / "mail" / name).mkdir(parents=True)
+    (tmp_path / "mail" / "new" / "1").write_bytes(letter(b"a@x", b"key"))
+    with open_table(table_file):
+        one = asked(tmp_path / "mail", table_file)
+        (tmp_path / "mail" / "new" / "1").rename(tmp_path / "mail" / "cur" / "1:2,S")
+    out, more = one.communicate(timeout=SOON)
+    assert (one.returncode, more) == (0, b"") and out.startswith(b"1 messages\n")
+
+
+def test_an_import_that_is_not_to_wait(imported, tmp_path):
+    before = imported.read_bytes()
+    words = ("import", mailbox_of(tmp_path / "mbox", [letter(b"a@x", b"key")]), "--no-wait", "--table", imported)
+    with open_table(imported):
+        line = failure(1, *words, timeout=SOON)
+        assert line == f"vienghulac: {imported}: another program holds its lock, {lock_of(imported)}\n"
+    assert imported.read_bytes() == before
+    assert b"5 of 256" in answer(*words)
+
+
+def test_an_import_that_is_interrupted_as_it_waits(imported):
+    before = imported.read_bytes()
+    with open_table(imported):
+        one = asked(INBOX, imported)
+        one.send_signal(signal.SIGINT)
+        assert one.communicate(timeout=SOON) == (b"", b"vienghulac: interrupted\n")
+        assert one.returncode == 130
+    assert imported.read_bytes() == before
+    assert sorted(imported.parent.iterdir()) == [lock_of(imported), imported]
+    answer("import", INBOX, "--no-wait", "--table", imported)
+
+
+def test_readers_do_not_wait(imported):
+    with open_table(imported):
+        assert b"4 of 256" in answer("check", imported)
+        assert len(answer("list", "--table", imported).splitlines()) == 5
+        assert answer("recommend", "--table", imported, "bob@autocrypt.example") == b"available\n"
+        assert len(answer("key", "--table", imported, "bob@autocrypt.example")) > 0
 
 
 # All at once.

@@ -9,6 +9,13 @@
     field = autocrypt_field(b"alice@a.example", own_key)   # what to send with it
     table.save("correspondents.table")
 
+Files: `table.save` replaces a file whole. Whoever reads it meanwhile, or after a crash, meets
+the old table or the new one. Programs or threads that share a file change it in blocks of
+`open_table`, which holds a lock from reading the table to replacing the file:
+
+    with open_table("correspondents.table") as table:      # a new table where there is no file
+        process(table, receipt, header_block)
+
 Ownership: what a call is given is borrowed for that call and not kept. `bytes` are handed down as they are, a bytearray or
 a memoryview is copied first, so that no other thread can change it meanwhile.
 
@@ -17,13 +24,6 @@ is, a `process` that is not refused, releases the view, and using it then raises
 buffer just then, such as a socket that is sending it in another thread, or an interrupt breaks the call off, a later write
 releases it; until then it shows the key that it was made of. So does, for ever, what was made out of a view before: a slice,
 a cast, a memoryview of it.
-
-Files: `table.save` replaces a file whole, so whoever reads it meanwhile, or after a crash, meets the old table or the new one.
-Several programs, or threads, that change one file do so in a block of `open_table`, which holds a lock from reading the
-table to replacing the file:
-
-    with open_table("correspondents.table") as table:      # waits for others, and makes a table where there is no file
-        process(table, receipt, header_block)
 
 Stack: `process` takes up to 312,000 octets of its thread's stack. Threads have more, unless `threading.stack_size` made it
 small: a thread with less than 327,680 must not call it.
