@@ -1,4 +1,6 @@
-"""Autocrypt Level 1 for mail programs: keys and preferences of correspondents, read from the mail they send.
+"""Autocrypt Level 1 for mail programs.
+
+Keys and preferences of correspondents are read from the mail that they send, and kept in a table:
 
     from vienghulac import Table, process, recommend, target_key, autocrypt_field
 
@@ -16,20 +18,24 @@ the old table or the new one. Programs or threads that share a file change it in
     with open_table("correspondents.table") as table:      # a new table where there is no file
         process(table, receipt, header_block)
 
-Ownership: what a call is given is borrowed for that call and not kept. `bytes` are handed down as they are, a bytearray or
-a memoryview is copied first, so that no other thread can change it meanwhile.
+Rules: docs/SCOPE.md of the project says what each call does, for every input.
 
-Keys: a key that comes back is a read-only memoryview of a copy of its octets in the table. The next write of the table, that
-is, a `process` that is not refused, releases the view, and using it then raises ValueError. Where someone holds the view's
-buffer just then, such as a socket that is sending it in another thread, or an interrupt breaks the call off, a later write
-releases it; until then it shows the key that it was made of. So does, for ever, what was made out of a view before: a slice,
-a cast, a memoryview of it.
+Ownership: a call borrows what it is given and keeps nothing of it. `bytes` are handed down as
+they are. A bytearray or a memoryview is copied first, so that no other thread can change it
+meanwhile.
 
-Stack: `process` takes up to 312,000 octets of its thread's stack. Threads have more, unless `threading.stack_size` made it
-small: a thread with less than 327,680 must not call it.
+Keys: a key comes back as a read-only memoryview of a copy of its octets. The next write of the
+table, that is, the next `process` that is not refused, releases the view, and using it then
+raises ValueError. It may be a later write that does: where someone holds the view's buffer at
+that moment, such as a socket that is sending it in another thread, or where an interrupt breaks
+the call off. Until then the view shows the key that it was made of. What was made out of it
+before, such as a slice, a cast or another memoryview, shows that key for ever.
 
-Errors: a wrong type raises TypeError, a number below 0 ValueError. All other input has an answer, or a refusal, which
-raises `Refused` with its number and leaves everything as it was.
+Stack: `process` takes up to 312,000 octets of its thread's stack. A thread has more, unless
+`threading.stack_size` made it small; with less than 327,680 it must not call `process`.
+
+Errors: a wrong type raises TypeError, and a number below 0 ValueError. All other input has an
+answer or is refused. A refusal raises `Refused` with its number, and leaves everything as it was.
 """
 
 from ._arguments import Octets
