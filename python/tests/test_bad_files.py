@@ -85,6 +85,19 @@ def lock_is_a_link(path):
     return good(path)
 
 
+@pytest.fixture
+def line_of(capsys):
+    """Runs a command that fails: its one line on standard error."""
+
+    def run(*words):
+        assert main([str(word) for word in words]) == 1
+        out, line = capsys.readouterr()
+        assert out == "" and line.startswith("vienghulac: ") and line.count("\n") == 1 and line.endswith("\n")
+        return line
+
+    return run
+
+
 # What stands there, what is raised, and the words of it.
 UNREADABLE = [
     (a_folder, IsADirectoryError, "Is a directory"),
@@ -113,27 +126,28 @@ def cases(listed):
 
 
 @pytest.mark.parametrize("make, kind, words", cases(UNREADABLE))
-def test_what_cannot_be_read(table_file, make, kind, words):
+def test_what_cannot_be_read(table_file, line_of, make, kind, words):
     path = make(table_file)
     before = all_below(table_file.parent, path)
     with pytest.raises(kind, match=words):
         Table.load(path)
     for command in (["list"], ["recommend", "a@x"], ["key", "a@x"]):
-        assert path.name in failure(1, *command, "--table", path)
-    assert path.name in failure(1, "check", path)
+        assert path.name in line_of(*command, "--table", path)
+    assert path.name in line_of("check", path)
     assert all_below(table_file.parent, path) == before and not os.path.isfile(lock_of(path))
 
 
 @pytest.mark.parametrize("make, kind, words", cases(UNWRITABLE))
-def test_what_cannot_be_changed(table_file, make, kind, words):
+def test_what_cannot_be_changed(table_file, line_of, make, kind, words):
     path = make(table_file)
     before = all_below(table_file.parent, path)
     for wait in (True, False):
         with pytest.raises(kind, match=words):
             with open_table(path, slots=2, wait=wait):
                 pytest.fail("a block without a table")
+    assert path.name in line_of("import", INBOX, "--table", path)
+    assert path.name in line_of("import", INBOX, "--no-wait", "--table", path)
     assert path.name in failure(1, "import", INBOX, "--table", path)
-    assert path.name in failure(1, "import", INBOX, "--no-wait", "--table", path)
     assert all_below(table_file.parent, path) == before
 
 
@@ -147,12 +161,12 @@ def test_no_lock_file_where_no_table_can_be(table_file, make):
 
 
 @pytest.mark.parametrize("slots", [0, 257, 2**64])
-def test_a_new_table_of_a_bad_length(table_file, slots):
+def test_a_new_table_of_a_bad_length(table_file, line_of, slots):
     with pytest.raises(Refused) as caught:
         with open_table(table_file, slots=slots):
             pytest.fail("a block without a table")
     assert caught.value.number == 1
-    assert "refused 1" in failure(1, "import", INBOX, "--slots", str(slots), "--table", table_file)
+    assert "refused 1" in line_of("import", INBOX, "--slots", slots, "--table", table_file)
     assert not table_file.exists()
 
 
@@ -305,11 +319,13 @@ def nothing(path):
     pass
 
 
-WRITTEN = [(cut, nothing), (grown, nothing), (emptied, nothing), (cut, mended), (nothing, cut), (nothing, grown), (nothing, later)]
+WRITTEN = [
+    (cut, nothing), (grown, nothing), (emptied, nothing), (cut, mended), (nothing, cut), (nothing, grown), (nothing, later),
+]  # fmt: skip
 
 
 @pytest.mark.parametrize("before, after", WRITTEN)
-def test_a_file_that_is_written_while_it_is_read(table_file, meddle, capsys, before, after):
+def test_a_file_that_is_written_while_it_is_read(table_file, line_of, meddle, before, after):
     source = good(table_file.with_name("good"))
 
     def put():
@@ -322,11 +338,10 @@ def test_a_file_that_is_written_while_it_is_read(table_file, meddle, capsys, bef
         with pytest.raises(OSError, match="The file was written while it was read") as caught:
             act(table_file)
         assert (caught.value.errno, caught.value.filename) == (errno.EBUSY, str(table_file))
-    for command in (["list"], ["recommend", "a@x"], ["key", "a@x"], ["import", str(INBOX)]):
+    for command in (["list"], ["recommend", "a@x"], ["key", "a@x"], ["import", INBOX]):
         put()
-        assert main([*command, "--table", str(table_file)]) == 1
-        out, line = capsys.readouterr()
-        assert out == "" and line == f"vienghulac: [Errno 16] The file was written while it was read: '{table_file}'\n"
+        line = line_of(*command, "--table", table_file)
+        assert line == f"vienghulac: [Errno 16] The file was written while it was read: '{table_file}'\n"
     assert sorted(table_file.parent.iterdir()) == [lock_of(table_file), table_file, source]
 
 

@@ -27,7 +27,7 @@ SOON = 10  # seconds that nothing here takes
 @pytest.fixture(autouse=True)
 def no_waiting_for_ever():
     """A test of locks that goes wrong may wait for ever; it ends the run instead, and says where it stood."""
-    faulthandler.dump_traceback_later(60, exit=True)
+    faulthandler.dump_traceback_later(120, exit=True)
     yield
     faulthandler.cancel_dump_traceback_later()
 

@@ -12,8 +12,9 @@ Keys and preferences of correspondents are read from the mail that they send, an
     table.save("correspondents.table")
 
 Files: `table.save` replaces a file whole. Whoever reads it meanwhile, or after a crash, meets
-the old table or the new one. Programs or threads that share a file change it in blocks of
-`open_table`, which holds a lock from reading the table to replacing the file:
+the old table or the new one. A file that someone writes in place while it is read raises OSError.
+Programs or threads that share a file change it in blocks of `open_table`, which holds a lock from
+reading the table to replacing the file:
 
     with open_table("correspondents.table") as table:      # a new table where there is no file
         process(table, receipt, header_block)

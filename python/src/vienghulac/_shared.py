@@ -32,7 +32,7 @@ _ATTEMPTS = 16  # lock files that may be removed just as they are locked, one af
 
 
 class Locked(BlockingIOError):
-    """Someone else has the table file open for writing, and `open_table` was not to wait. `filename` is the lock file."""
+    """The lock of a table file is held, and `open_table` was not to wait for it. `filename` is the lock file."""
 
 
 @contextlib.contextmanager
@@ -51,9 +51,9 @@ def open_table(
     or written, or its lock file cannot be made.
 
     From before the table is read until the file is replaced, the block holds a lock: flock(2), exclusive, on the file
-    `.NAME.lock` beside the table file NAME, where that stands when symbolic links are followed. The lock keeps out other
-    threads, other processes, and programs in other languages that take it too. It is freed as the block is left, and when
-    the process ends or is killed. The lock file stays. Where someone removes it during the block, leaving the block raises
+    `.NAME.lock` beside the table file NAME, where that stands when symbolic links are followed. It keeps out other threads,
+    other processes, and programs in other languages that take it too. It is freed as the block is left, and when the
+    process ends or is killed. The lock file stays. Where someone removes it during the block, leaving the block raises
     OSError and writes nothing, since another may have got in. Readers need no lock: `Table.load` gives the old table or the
     new one. `Table.save` takes none, so all who share a file change it in such blocks.
 
@@ -124,7 +124,7 @@ class _Patience:
         if lock.take(fcntl.LOCK_NB):
             return
         if not self._wait:
-            raise Locked(errno.EWOULDBLOCK, "Someone else holds the lock of the table", lock.path)
+            raise Locked(errno.EWOULDBLOCK, "The lock of the table file is held", lock.path)
         if lock.is_held_here():
             raise RuntimeError(f"this thread has the table open already, and would wait for itself: {lock.path}")
         if self._notice is not None:
