@@ -1,4 +1,4 @@
-"""Mail for the tests: header blocks, their keys, and tables that hold them."""
+"""Mail for the tests: header blocks, their keys, and tables that hold them, with their lock files."""
 
 import base64
 import os
@@ -26,6 +26,11 @@ def gossip(*pairs):
     return b"".join(
         b"Autocrypt-Gossip: addr=" + address + b"; keydata=" + base64.b64encode(key) + b"\r\n" for address, key in pairs
     )
+
+
+def lock_of(table_file):
+    """The path of a table file's lock file."""
+    return table_file.with_name(f".{table_file.name}.lock")
 
 
 def table_with(*senders, slots=8):

@@ -11,44 +11,18 @@ import sys
 from pathlib import Path
 
 import pytest
+from commands import INBOX, answer, failure, mailbox_of, run
 from letters import EXAMPLES, RECEIPT, letter, table_with
 
 from vienghulac import REFUSALS, Table, autocrypt_field, entries, gossip_field, process, target_key
 
-INBOX = EXAMPLES / "inbox.mbox"
 ALICE, BOB, CAROL, DAVE = "alice@autocrypt.example", "bob@autocrypt.example", "carol@autocrypt.example", "dave@mail.example"
-
-
-def run(*words, **more):
-    words = [os.fsencode(word) for word in words]
-    return subprocess.run([sys.executable, "-m", "vienghulac", *words], capture_output=True, **more)
-
-
-def answer(*words, **more):
-    """What a command that succeeds prints; it has nothing to complain about."""
-    done = run(*words, **more)
-    assert (done.returncode, done.stderr) == (0, b"")
-    return done.stdout
-
-
-def failure(status, *words, **more):
-    """The one line of a command that fails, which answers nothing."""
-    done = run(*words, **more)
-    assert (done.returncode, done.stdout) == (status, b"")
-    if status == 1:
-        assert done.stderr.startswith(b"vienghulac: ") and done.stderr.count(b"\n") == 1
-    return done.stderr.decode()
 
 
 @pytest.fixture
 def imported(table_file):
     answer("import", INBOX, "--table", table_file)
     return table_file
-
-
-def mailbox_of(path, letters):
-    path.write_bytes(b"".join(b"From a@x Sun Sep 13 12:26:40 2020\n" + block + b"body\n\n" for block in letters))
-    return path
 
 
 # import
@@ -283,6 +257,12 @@ def test_help_names_the_keys_of_json(imported):
 def test_help_of_import_tells_where_blocks_and_times_come_from():
     text = " ".join(answer("import", "--help").decode().split())
     for words in ("up to and including the first empty line", "'From ' line", "file's time", "--receipt", "no gossip is taken"):
+        assert words in text
+
+
+def test_help_of_import_tells_of_the_lock():
+    text = " ".join(answer("import", "--help").decode().split())
+    for words in (".NAME.lock", "says so after a second", "with --no-wait it fails at once"):
         assert words in text
 
 

@@ -108,7 +108,7 @@ def test_the_package_is_strictly_typed():
 
 USER = """
 from typing import Optional
-from vienghulac import Advice, Table, autocrypt_header, process, recommend, target_key
+from vienghulac import Advice, Table, autocrypt_header, open_table, process, recommend, target_key
 
 table: Table = Table.new(slots=4)
 process(table, 0, b"From: a@x")
@@ -116,6 +116,8 @@ advice: Advice = recommend(table, bytearray(b"a@x"), mutual=True)
 key: Optional[memoryview] = target_key(table, memoryview(b"a@x"))
 name, value = autocrypt_header(b"a@x", b"key")
 text: str = name + value
+with open_table("correspondents.table", slots=4, waiting=print) as shared:
+    process(shared, 0, b"From: a@x")
 """
 
 
@@ -124,6 +126,6 @@ def test_its_users_are_checked_too(tmp_path):
     words = [*MYPY, "--python-executable", sys.executable]
     (tmp_path / "good.py").write_text(USER)
     output(*words, "good.py", cwd=tmp_path)
-    (tmp_path / "bad.py").write_text(USER + "recommend(table, 'a@x')\nbytes(target_key(table, b'a@x'))\n")
+    (tmp_path / "bad.py").write_text(USER + "recommend(table, 'a@x')\nbytes(target_key(table, b'a@x'))\nopen_table('t').slots\n")
     bad = subprocess.run([*words, "bad.py"], capture_output=True, text=True, cwd=tmp_path)
-    assert bad.returncode == 1 and "Found 2 errors" in bad.stdout
+    assert bad.returncode == 1 and "Found 3 errors" in bad.stdout

@@ -11,6 +11,14 @@ Keys and preferences of correspondents are read from the mail that they send, an
     field = autocrypt_field(b"alice@a.example", own_key)   # what to send with it
     table.save("correspondents.table")
 
+Files: `table.save` replaces a file whole. Whoever reads it meanwhile, or after a crash, meets
+the old table or the new one. A file that someone writes in place while it is read raises OSError.
+Programs or threads that share a file change it in blocks of `open_table`, which holds a lock from
+reading the table to replacing the file:
+
+    with open_table("correspondents.table") as table:      # a new table where there is no file
+        process(table, receipt, header_block)
+
 Rules: docs/SCOPE.md of the project says what each call does, for every input.
 
 Ownership: a call borrows what it is given and keeps nothing of it. `bytes` are handed down as
@@ -34,6 +42,7 @@ answer or is refused. A refusal raises `Refused` with its number, and leaves eve
 from ._arguments import Octets
 from ._fields import FieldValue, autocrypt_field, autocrypt_header, gossip_field, gossip_header
 from ._refusals import REFUSALS, Refused
+from ._shared import Locked, open_table
 from ._table import SLOT, SLOTS, Advice, Entry, Gossip, Table, check, entries, process, recommend, target_key
 
 __all__ = [
@@ -41,6 +50,7 @@ __all__ = [
     "Entry",
     "FieldValue",
     "Gossip",
+    "Locked",
     "Octets",
     "REFUSALS",
     "Refused",
@@ -53,6 +63,7 @@ __all__ = [
     "entries",
     "gossip_field",
     "gossip_header",
+    "open_table",
     "process",
     "recommend",
     "target_key",

@@ -8,18 +8,20 @@ from __future__ import annotations
 import argparse
 import base64
 import collections
+import contextlib
 import io
 import json
 import os
 import sys
 import time
 from datetime import datetime, timezone
-from typing import Any, Optional, Sequence
+from typing import Any, Iterator, Optional, Sequence
 
 from ._fields import FieldValue, autocrypt_field, gossip_field
 from ._files import read_file, replace_file
 from ._mailbox import Mailbox, NoMailbox, open_mailbox
 from ._refusals import REFUSALS, Refused
+from ._shared import Locked, open_table
 from ._table import Entry, Table, entries, process, recommend, target_key
 from ._usage import Command, parser
 
@@ -56,12 +58,11 @@ def main(arguments: Optional[Sequence[str]] = None) -> int:
 
 
 def _import(options: argparse.Namespace) -> int:
-    table = _load(options.table) if os.path.exists(options.table) else Table.new(options.slots)
-    mailboxes = [(name, open_mailbox(name)) for name in options.mailbox]
     answers: collections.Counter[int] = collections.Counter()
-    for name, mailbox in mailboxes:
-        answers += _taken_in(table, name, mailbox, options.receipt)
-    table.save(options.table)
+    with _opened(options) as table:
+        mailboxes = [(name, open_mailbox(name)) for name in options.mailbox]
+        for name, mailbox in mailboxes:
+            answers += _taken_in(table, name, mailbox, options.receipt)
     if options.json:
         _print_json(
             {
@@ -77,6 +78,22 @@ def _import(options: argparse.Namespace) -> int:
         print(f"{answers[number]:>8}  {number:>2}  {REFUSALS.get(number, 'done')}")
     print(f"{options.table}: {_use(table)}")
     return 0
+
+
+@contextlib.contextmanager
+def _opened(options: argparse.Namespace) -> Iterator[Table]:
+    """The table to change; the file is replaced where nothing fails."""
+    try:
+        with open_table(options.table, options.slots, not options.no_wait, _say_waiting) as table:
+            yield table
+    except Locked as locked:
+        raise _Failure(f"{options.table}: another program holds its lock, {locked.filename}") from None
+    except Refused as refused:
+        raise _Failure(f"{options.table}: {refused}") from None
+
+
+def _say_waiting(lock: str) -> None:
+    print(f"vienghulac: waiting for another program, which holds {lock}", file=sys.stderr)
 
 
 def _taken_in(table: Table, name: str, mailbox: Mailbox, receipt: Optional[int]) -> collections.Counter[int]:

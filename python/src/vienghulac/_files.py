@@ -3,6 +3,7 @@
 from __future__ import annotations
 
 import contextlib
+import errno
 import os
 import stat
 import tempfile
@@ -12,9 +13,19 @@ FilePath = Union[str, "os.PathLike[str]"]
 
 
 def read_file(path: FilePath, limit: int) -> bytes:
-    """The octets of a file, or its first `limit + 1` where it is longer than the limit."""
+    """The octets of a file, or its first `limit + 1` where it is longer than the limit.
+
+    Raises OSError where the file was written meanwhile: half of it may then be missing, and what is there may be sound.
+    """
     with open(path, "rb") as file:
-        return file.read(limit + 1)
+        before = os.fstat(file.fileno())
+        octets = file.read(limit + 1)
+        after = os.fstat(file.fileno())
+    missing = len(octets) < min(before.st_size, limit + 1)
+    written = (before.st_size, before.st_mtime_ns) != (after.st_size, after.st_mtime_ns)
+    if stat.S_ISREG(before.st_mode) and (missing or written):
+        raise OSError(errno.EBUSY, "The file was written while it was read", os.fspath(path))
+    return octets
 
 
 def replace_file(path: FilePath, octets: bytes) -> None:
@@ -39,11 +50,18 @@ def replace_file(path: FilePath, octets: bytes) -> None:
         with contextlib.suppress(FileNotFoundError):
             os.unlink(fresh)
         raise
-    _sync_folder(folder)
+    _sync(folder)
 
 
-def _sync_folder(folder: str) -> None:
-    descriptor = os.open(folder, os.O_RDONLY | os.O_DIRECTORY)
+def sync_file(path: FilePath) -> None:
+    """Have a file on the disk under its name, as it stands."""
+    target = os.path.realpath(path)
+    _sync(target)
+    _sync(os.path.dirname(target))
+
+
+def _sync(path: str) -> None:
+    descriptor = os.open(path, os.O_RDONLY)
     try:
         os.fsync(descriptor)
     finally:

@@ -101,7 +101,8 @@ class Table:
     def save(self, path: FilePath) -> None:
         """Store the table as a file.
 
-        The file is replaced whole: whatever happens, the path then leads to the old file or to the new one.
+        The file is replaced whole: whatever happens, the path then leads to the old file or to the new one. What someone
+        else saved since this table was loaded is lost: `open_table` keeps others out meanwhile.
         """
         replace_file(path, bytes(self))
 

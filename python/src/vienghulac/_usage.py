@@ -36,9 +36,13 @@ it is the file's time of change. --receipt sets one time for all. Encrypted
 payloads are not read, so no gossip is taken.
 
 The table is written once, when all is read: a failure leaves the file as it
-was. Only one import into a table may run at a time. The messages are counted by
-answer, 0 for those taken and the number of the refusal for the others; a
-message that is refused changes nothing, and is no failure of the import.
+was. Imports into one table file run one after the other, by a lock on the file
+.NAME.lock beside it, which stays there. One that waits says so after a second;
+with --no-wait it fails at once. The other commands never wait.
+
+The messages are counted by answer, 0 for those taken and the number of the
+refusal for the others; a message that is refused changes nothing, and is no
+failure of the import.
 
 With --json: messages, their number; answers, how many have each answer; slots
 and used, those of the table."""
@@ -121,6 +125,7 @@ def parser(commands: Mapping[str, Command]) -> argparse.ArgumentParser:
         "--slots", metavar="N", type=_natural, default=SLOTS,
         help="slots of the table where FILE does not exist yet, 1 to 256 (default: 256)",
     )  # fmt: skip
+    made.add_argument("--no-wait", action="store_true", help="fail at once where another program is changing the table")
 
     with_table(command("list", _LIST, "list the correspondents of a table"))
 
