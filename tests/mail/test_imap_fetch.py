@@ -32,6 +32,9 @@ PROGRAM = Path(imap_fetch.__file__)
 NAME = 'Söhne & "Co"\\'  # every letter that the name of a mailbox has to be spelled for
 SEED = 2026
 
+SENDERS = Letters(SEED, 30)
+BOX = SENDERS.mailbox(400)
+
 Asked = tuple[list[bytes], bool, bool]  # recipients, the user's own preference, and whether the mail is a reply
 
 
@@ -110,6 +113,14 @@ def questions(addresses: list[bytes]) -> list[Asked]:
     return [(to, mutual, reply) for to in lists for mutual in (False, True) for reply in (False, True)]
 
 
+def setUpModule():
+    """One server for all but those that are killed; INBOX is for the tests that need just some mail."""
+    global SERVER
+    SERVER = unittest.enterModuleContext(Dovecot())
+    fill(SERVER, "INBOX", BOX)
+    fill(SERVER, "Empty", [])
+
+
 class Order(unittest.TestCase):
     """C11: the order of fetching, and the number of connections, change nothing but slots."""
 
@@ -122,24 +133,24 @@ class Order(unittest.TestCase):
         asked = questions(letters.addresses)
         answers = [expected.says(one) for one in asked]
         self.assertEqual({advice for advice, _ in answers}, {1, 2, 3, 4})
-        with Dovecot() as server, tempfile.TemporaryDirectory() as folder:
-            fill(server, mailbox, box)
-            printed, tables = [], []
+        fill(SERVER, mailbox, box)
+        printed, tables = [], []
+        with tempfile.TemporaryDirectory() as folder:
             for number, (zone, *words) in enumerate(runs):
                 file = Path(folder) / str(number)
                 if table.strip(b"\0"):
                     file.write_bytes(table)
-                done = run(server.port, "--mailbox", mailbox, "--table", file, *words, TZ=zone)
+                done = run(SERVER.port, "--mailbox", mailbox, "--table", file, *words, TZ=zone)
                 self.assertEqual((done.returncode, done.stderr), (0, ""))
                 printed.append(done.stdout)
                 tables.append(file.read_bytes())
-            with server.connection() as imap:
-                imap.select(spelled(mailbox), readonly=True)
-                self.assertEqual(imap.uid("SEARCH", "SEEN"), ("OK", [b""]))  # none is marked as read
+        with SERVER.connection() as imap:
+            imap.select(spelled(mailbox), readonly=True)
+            self.assertEqual(imap.uid("SEARCH", "SEEN"), ("OK", [b""]))  # none is marked as read
         self.assertEqual(len(set(tables)), len(runs))  # orders did differ, as slots tell
-        for file in tables:
-            self.assertEqual(by_address(file), held)
-            known = vienghulac.Table(file)
+        for saved in tables:
+            self.assertEqual(by_address(saved), held)
+            known = vienghulac.Table(saved)
             self.assertEqual([library_says(known, one) for one in asked], answers)
         self.assert_printed(printed, count, expected, held)
 
@@ -164,11 +175,11 @@ class Order(unittest.TestCase):
             ("EST5EDT", "--connections", 3, "--shuffle", 1),
             ("TST-13", "--connections", 8, "--shuffle", 2),
         ]
-        self.assert_same("INBOX", Letters(SEED, 256), bytes(256 * SLOT), 2_000, runs)
+        self.assert_same("Full", Letters(SEED + 1, 256), bytes(256 * SLOT), 2_000, runs)
 
     def test_a_table_that_goes_on(self):
         """A table of 40 slots that holds someone already, of older, equal and newer dates than the messages."""
-        letters = Letters(SEED + 1, 40)
+        letters = Letters(SEED + 2, 40)
         a, b, c, d = letters.addresses[:4]
         begun = [
             Entry(a, BEGIN, BEGIN, b"old key", True),
@@ -188,19 +199,11 @@ class Order(unittest.TestCase):
 class Failing(unittest.TestCase):
     """One clear line, exit status 1, nothing printed, and the table file as it was."""
 
-    @classmethod
-    def setUpClass(cls):
-        cls.letters = Letters(SEED + 2, 30)
-        cls.box = cls.letters.mailbox(400)
-        cls.server = cls.enterClassContext(Dovecot())
-        fill(cls.server, "INBOX", cls.box)
-        fill(cls.server, "Empty", [])
-
     def setUp(self):
         self.folder = Path(self.enterContext(tempfile.TemporaryDirectory()))
         self.file = self.folder / "table"
         table = vienghulac.Table.new(30)
-        vienghulac.process(table, BEGIN, b"From: " + self.letters.addresses[0] + b"\r\n\r\n")
+        vienghulac.process(table, BEGIN, b"From: " + SENDERS.addresses[0] + b"\r\n\r\n")
         table.save(self.file)
 
     def assert_fails(self, port, *words, saying, **more):
@@ -213,44 +216,44 @@ class Failing(unittest.TestCase):
             self.assertEqual({file: file.read_bytes() for file in self.folder.iterdir()}, before)
 
     def test_refused_login(self):
-        self.assert_fails(self.server.port, IMAP_PASSWORD="wrong", saying="logging in as reader: .*Authentication failed")
-        self.assert_fails(self.server.port, "--user", "some one", saying="logging in as some one: .*Authentication failed")
+        self.assert_fails(SERVER.port, IMAP_PASSWORD="wrong", saying="logging in as reader: .*Authentication failed")
+        self.assert_fails(SERVER.port, "--user", "some one", saying="logging in as some one: .*Authentication failed")
 
     def test_missing_mailbox(self):
         for name in ("Missing", "two\nlines", "a b"):
             saying = re.escape(f"opening the mailbox {name}: ".replace("\n", "\\n")) + ".*[Mm]ailbox doesn't exist"
-            self.assert_fails(self.server.port, "--mailbox", name, saying=saying)
+            self.assert_fails(SERVER.port, "--mailbox", name, saying=saying)
 
     def test_nobody_listens(self):
-        with Relay(self.server.port, 0, lambda: None) as relay:
+        with Relay(SERVER.port, 0, lambda: None) as relay:
             port = relay.port
         self.assert_fails(port, saying=f"connecting to 127.0.0.1, port {port}: .*refused")
 
     def test_a_name_that_no_host_has(self):
-        done = run(self.server.port, "--table", self.file, host="x" * 64)
+        done = run(SERVER.port, "--table", self.file, host="x" * 64)
         self.assertEqual((done.returncode, done.stdout), (1, ""))
         self.assertRegex(done.stderr, r"\Aimap_fetch: connecting to x{64}, port [^\n]*\n\Z")
 
     def test_bad_usage(self):
         """Exit status 2, as everywhere."""
         for option, value in (("connections", 0), ("connections", "two"), ("port", 65_536), ("timeout", -1), ("shuffle", "")):
-            done = run(self.server.port, "--table", self.file, f"--{option}={value}")
+            done = run(SERVER.port, "--table", self.file, f"--{option}={value}")
             self.assertEqual((done.returncode, done.stdout), (2, ""))
             self.assertIn(f"error: argument --{option}", done.stderr)
 
     def test_a_certificate_that_nobody_knows(self):
-        self.assert_fails(self.server.tls_port, plain=False, saying="connecting to .*certificate")
+        self.assert_fails(SERVER.tls_port, plain=False, saying="connecting to .*certificate")
 
     def test_no_table(self):
         self.file.write_bytes(b"Dear diary")
         before = self.file.read_bytes()
-        done = run(self.server.port, "--table", self.file)
+        done = run(SERVER.port, "--table", self.file)
         self.assertEqual((done.returncode, done.stdout), (1, ""))
         self.assertRegex(done.stderr, r"\Aimap_fetch: [^\n]*/table: refused 1: [^\n]*\n\Z")
         self.assertEqual(self.file.read_bytes(), before)
 
     def test_a_file_that_cannot_be_written(self):
-        done = run(self.server.port, "--mailbox", "Empty", "--table", self.folder / "none" / "table")
+        done = run(SERVER.port, "--mailbox", "Empty", "--table", self.folder / "none" / "table")
         self.assertEqual((done.returncode, done.stdout), (1, ""))
         self.assertRegex(done.stderr, r"\Aimap_fetch: [^\n]*No such file[^\n]*\n\Z")
 
@@ -263,7 +266,7 @@ class Failing(unittest.TestCase):
 
     def test_a_server_that_falls_silent(self):
         end = threading.Event()
-        with Relay(self.server.port, 100_000, end.wait) as relay:
+        with Relay(SERVER.port, 100_000, end.wait) as relay:
             try:
                 done = run(relay.port, "--table", self.file, "--timeout", 1, "--connections", 1)
             finally:
@@ -345,22 +348,14 @@ class Answers(unittest.TestCase):
 class Serving(unittest.TestCase):
     """What else the program can do."""
 
-    @classmethod
-    def setUpClass(cls):
-        cls.letters = Letters(SEED + 4, 30)
-        cls.box = cls.letters.mailbox(200)
-        cls.server = cls.enterClassContext(Dovecot())
-        fill(cls.server, "INBOX", cls.box)
-
     def test_tls(self):
-        plain = run(self.server.port)
-        done = run(self.server.tls_port, plain=False, SSL_CERT_FILE=str(self.server.certificate))
+        plain = run(SERVER.port)
+        done = run(SERVER.tls_port, plain=False, SSL_CERT_FILE=str(SERVER.certificate))
         self.assertEqual((done.returncode, done.stderr, done.stdout), (0, "", plain.stdout))
-        self.assertEqual(counted(done.stdout), Expected(bytes(30 * SLOT), self.box).numbers)
+        self.assertEqual(counted(done.stdout), Expected(bytes(30 * SLOT), BOX).numbers)
 
     def test_an_empty_mailbox(self):
-        fill(self.server, "Empty", [])
-        done = run(self.server.port, "--mailbox", "Empty", "--connections", 3)
+        done = run(SERVER.port, "--mailbox", "Empty", "--connections", 3)
         self.assertEqual((done.returncode, done.stderr), (0, ""))
         self.assertEqual(done.stdout.splitlines()[0], "0 of 0 messages")
         self.assertEqual(len(done.stdout.splitlines()), 2)
@@ -370,10 +365,10 @@ class Serving(unittest.TestCase):
         with tempfile.TemporaryDirectory() as folder:
             file = Path(folder) / "table"
             vienghulac.Table.new(10).save(file)
-            done = run(self.server.port, "--table", file)
+            done = run(SERVER.port, "--table", file)
             self.assertEqual((done.returncode, done.stderr), (0, ""))
             self.assertEqual(len(by_address(file.read_bytes())), 10)
-        numbers = Expected(bytes(30 * SLOT), self.box).numbers
+        numbers = Expected(bytes(30 * SLOT), BOX).numbers
         found = counted(done.stdout)
         self.assertGreater(found[8], 20)
         self.assertEqual([found[0] + found[8], found[4], found[5], found[6]], [numbers[0], numbers[4], numbers[5], numbers[6]])
