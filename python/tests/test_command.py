@@ -175,9 +175,25 @@ def test_key(imported, tmp_path):
     assert (tmp_path / "bob.key").read_bytes() == key
     described = json.loads(answer("key", "--json", "--table", imported, BOB))
     assert described == {"length": len(key), "key": base64.b64encode(key).decode()}
+    both = answer("key", "--json", "--table", imported, BOB, "--output", tmp_path / "both.key")
+    assert (json.loads(both), (tmp_path / "both.key").read_bytes()) == (described, key)
     assert "no key" in failure(1, "key", "--table", imported, DAVE)
     assert "no key" in failure(1, "key", "--table", imported, BOB, "--place", "1")
     assert "refused 10" in failure(1, "key", "--table", imported, "not a list")
+
+
+def test_a_key_that_does_not_fit_is_told_what_to_do():
+    for key in (b"", b"k" * 2_049):
+        said = failure(1, "field", ALICE, "--key", "-", input=key)
+        assert "refused 11" in said and "RSA-4096" in said
+    assert "(" not in failure(1, "field", "no address", "--key", "-", input=b"k")  # no hint for 9
+
+
+def test_an_armored_key_is_no_key(tmp_path):
+    key = tmp_path / "alice.asc"
+    key.write_bytes(b"-----BEGIN PGP PUBLIC KEY BLOCK-----\n\nmDMEX\n")
+    assert f"{key}: the key is armored" in failure(1, "field", ALICE, "--key", key)
+    assert "-: the key is armored" in failure(1, "field", ALICE, "--key", "-", input=key.read_bytes())
 
 
 def test_field(tmp_path):

@@ -122,6 +122,7 @@ class TooLong(unittest.TestCase):
                 write(DORA.address, DORA.key)
             self.assertEqual(raised.exception.number, 11)
             self.assert_says_eleven(str(raised.exception))
+            self.assertIn("RSA-4096 keys do not", raised.exception.hint)
 
     def test_the_command_does_not_write_it(self):
         for more in ([], ["--gossip"]):
@@ -130,6 +131,7 @@ class TooLong(unittest.TestCase):
             self.assertEqual((done.returncode, done.stdout), (1, b""))
             self.assertEqual(done.stderr.count(b"\n"), 1)
             self.assert_says_eleven(done.stderr.decode())
+            self.assertIn("RSA-4096 keys do not", done.stderr.decode())
 
     def test_it_is_not_read(self):
         """Mail with such a key is mail without one: its sender is seen, and cannot be encrypted to (F10)."""

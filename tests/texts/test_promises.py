@@ -8,7 +8,7 @@
     decisions   a line that opens with `**N. Title.**` begins a decision. The numbers are 1, 2, 3 .. with no gap and no double, in any
                 order. Each has "*Why:*" and "*Weighed:*" once, in this order, and behind them "*Stands.*" or "*Replaced by N.*", N being
                 another decision
-    width       a line of docs/*.md has at most 120 characters
+    width       a line of docs/*.md, of the README and of CONTRIBUTING has at most 120 characters
 
 Each rule is a function from a text to its faults, which are tried on texts that must be refused.
 """
@@ -157,7 +157,7 @@ class Promises(unittest.TestCase):
         self.assertGreater(len(parts(text, r"\*\*")), 45)
 
     def test_width(self):
-        files = sorted(DOCS.glob("*.md"))
+        files = [*sorted(DOCS.glob("*.md")), ROOT / "README.md", ROOT / "CONTRIBUTING.md"]
         self.assertGreater(len(files), 4)
         self.assertEqual({file.name: wide(file.read_text()) for file in files if wide(file.read_text())}, {})
 

@@ -26,6 +26,7 @@ from ._table import Entry, Table, entries, process, recommend, target_key
 from ._usage import Command, parser
 
 _KEY_LIMIT = 2_048
+_ARMOR = b"-----BEGIN PGP"
 
 
 class _Failure(Exception):
@@ -47,7 +48,8 @@ def main(arguments: Optional[Sequence[str]] = None) -> int:
         os.dup2(os.open(os.devnull, os.O_WRONLY), sys.stdout.fileno())
         return 1
     except (_Failure, NoMailbox, Refused, OSError) as failure:
-        print(f"vienghulac: {failure}", file=sys.stderr)
+        hint = failure.hint if isinstance(failure, Refused) else None
+        print(f"vienghulac: {failure}" + (f" ({hint})" if hint else ""), file=sys.stderr)
         return 1
     except KeyboardInterrupt:
         print("vienghulac: interrupted", file=sys.stderr)
@@ -245,11 +247,11 @@ def _key(options: argparse.Namespace) -> int:
     key = target_key(table, recipients, place=options.place)
     if key is None:
         raise _Failure(f"no key for the recipient at place {options.place}")
+    if options.output is not None:
+        replace_file(options.output, bytes(key))
     if options.json:
         _print_json({"length": len(key), "key": base64.b64encode(key).decode("ascii")})
-    elif options.output is not None:
-        replace_file(options.output, bytes(key))
-    else:
+    elif options.output is None:
         sys.stdout.buffer.write(key)
     return 0
 
@@ -269,7 +271,11 @@ def _field(options: argparse.Namespace) -> int:
 
 
 def _read_key(name: str) -> bytes:
-    return sys.stdin.buffer.read(_KEY_LIMIT + 1) if name == "-" else read_file(name, _KEY_LIMIT)
+    """The octets of a key. What is armored is no key yet, though it may be short enough to be written as one."""
+    key = sys.stdin.buffer.read(_KEY_LIMIT + 1) if name == "-" else read_file(name, _KEY_LIMIT)
+    if key.startswith(_ARMOR):
+        raise _Failure(f"{name}: the key is armored; it has to be binary (gpg --dearmor)")
+    return key
 
 
 # what the commands share

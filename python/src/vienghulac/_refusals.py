@@ -20,6 +20,10 @@ REFUSALS = {
 }
 """The words of each refusal, by its number. If several hold, the lowest number is given."""
 
+_HINTS = {
+    11: "export it as binary and with its newest signatures alone; Ed25519 and RSA-3072 keys then fit, RSA-4096 keys do not",
+}
+
 _BAD_SLOT = 2
 
 
@@ -27,7 +31,7 @@ class Refused(Exception):
     """The library refused a call, and left everything as it was.
 
     `number` is the number of the refusal, and `words` says what it means. With number 2 `slot` is the index of the lowest
-    slot that is damaged, with all others it is None.
+    slot that is damaged, with all others it is None. `hint` says what a user can do, where there is something to say.
     """
 
     def __init__(self, number: int, slot: Optional[int] = None) -> None:
@@ -38,6 +42,10 @@ class Refused(Exception):
     @property
     def words(self) -> str:
         return REFUSALS[self.number]
+
+    @property
+    def hint(self) -> Optional[str]:
+        return _HINTS.get(self.number)
 
     def __str__(self) -> str:
         where = "" if self.slot is None else f" (slot {self.slot})"

@@ -81,7 +81,8 @@ _FIELD = """\
 Write the Autocrypt field for a mail from ADDRESS, or with --gossip the
 Autocrypt-Gossip field for a recipient, to standard output, with CRLF at the end
 of each line. The key file holds 1 to 2,048 octets, an OpenPGP key without
-armor.
+armor, as `gpg --export-options export-minimal --export` writes it. Ed25519 and
+RSA-3072 keys fit, RSA-4096 keys do not.
 
 With --json: name and value, the value on one line."""
 
