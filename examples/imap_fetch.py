@@ -12,8 +12,8 @@ at the same time, so the messages come in no order of their own. That does not m
 first, the entries are the same in the end, unless the table was too small (refusal 8), or someone sent different keys within
 one second. Encrypted mail is not opened here, so no gossip is taken; examples/openpgp.py does that.
 
-The table is saved when all is read. Where something fails before, that is one line on standard error and exit status 1, and
-the file is as it was: the next run begins anew.
+The table's file is locked meanwhile, so that no other program writes to it, and replaced when all is read. Where something
+fails before, that is one line on standard error and exit status 1, and the file is as it was: the next run begins anew.
 """
 
 from __future__ import annotations
@@ -37,7 +37,7 @@ from datetime import datetime, timezone
 from email.utils import mktime_tz, parsedate_tz
 from typing import Any, Callable, Iterator, Optional, Sequence
 
-from vienghulac import REFUSALS, Entry, Refused, Table, entries, process
+from vienghulac import REFUSALS, Entry, Refused, Table, entries, open_table, process
 
 BATCH = 100
 """How many messages one command asks for: its line stays short, and its answer is soon over."""
@@ -229,12 +229,15 @@ def show(table: Table, listed: int, numbers: Counter[int]) -> None:
         print("  ".join(cell.ljust(width) for cell, width in zip(cells, widths)).rstrip())
 
 
-def loaded(path: Optional[str]) -> Table:
-    """The table of a file, or a new one where there is no file yet."""
-    if path is None or not os.path.exists(path):
-        return Table.new()
+@contextlib.contextmanager
+def opened(path: Optional[str]) -> Iterator[Table]:
+    """A new table; or that of a file, which is replaced at the end, and which no other program writes to until then."""
+    if path is None:
+        yield Table.new()
+        return
     try:
-        return Table.load(path)
+        with open_table(path, waiting=lambda lock: print(f"imap_fetch: waiting for {lock}", file=sys.stderr)) as table:
+            yield table
     except Refused as refused:
         raise Failure(f"{path}: {refused}") from None
 
@@ -277,13 +280,11 @@ def main(arguments: Optional[Sequence[str]] = None) -> int:
     if isinstance(sys.stdout, io.TextIOWrapper):
         sys.stdout.reconfigure(errors="backslashreplace")  # a letter that the terminal lacks is no failure
     try:
-        table = loaded(options.table)
         port = options.port or (143 if options.plain else 993)
         password = password_of(options.user)
         account = Account(options.host, port, not options.plain, options.timeout, options.user, password, options.mailbox)
-        listed, numbers = asyncio.run(read_mailbox(account, table, options.connections, options.shuffle))
-        if options.table is not None:
-            table.save(options.table)
+        with opened(options.table) as table:
+            listed, numbers = asyncio.run(read_mailbox(account, table, options.connections, options.shuffle))
     except (Failure, OSError) as failure:
         print(f"imap_fetch: {printable(str(failure))}", file=sys.stderr)
         return 1

@@ -47,6 +47,11 @@ def run(
     return subprocess.run([str(word) for word in command], capture_output=True, text=True, encoding="utf-8", env=environment)
 
 
+def stored(folder: str | Path) -> dict[Path, bytes]:
+    """The files of a folder, but for locks, which stay."""
+    return {file: file.read_bytes() for file in Path(folder).iterdir() if not file.name.endswith(".lock")}
+
+
 def spelled(mailbox: str) -> str:
     """A mailbox's name for imaplib; NAME by hand, as the server has to show it."""
     return '"S&APY-hne &- \\"Co\\"\\\\"' if mailbox == NAME else mailbox
@@ -208,12 +213,12 @@ class Failing(unittest.TestCase):
 
     def assert_fails(self, port, *words, saying, **more):
         """With a table file, and with none, of which nothing comes."""
-        before = {file: file.read_bytes() for file in self.folder.iterdir()}
+        before = stored(self.folder)
         for file in (self.file, self.folder / "new"):
             done = run(port, "--table", file, *words, **more)
             self.assertEqual((done.returncode, done.stdout), (1, ""))
             self.assertRegex(done.stderr, rf"\Aimap_fetch: [^\n]*{saying}[^\n]*\n\Z")
-            self.assertEqual({file: file.read_bytes() for file in self.folder.iterdir()}, before)
+            self.assertEqual(stored(self.folder), before)
 
     def test_refused_login(self):
         self.assert_fails(SERVER.port, IMAP_PASSWORD="wrong", saying="logging in as reader: .*Authentication failed")
@@ -297,7 +302,7 @@ class Killed(unittest.TestCase):
                 self.assertEqual((done.returncode, done.stdout), (1, ""))
                 self.assertRegex(done.stderr, saying)
                 self.assertEqual(file.read_bytes(), before)
-                self.assertEqual(os.listdir(folder), ["table"])
+                self.assertEqual([file.name for file in stored(folder)], ["table"])
 
 
 class Answers(unittest.TestCase):
