@@ -137,14 +137,6 @@ module _ (s : List ℕ) (b : Bool) (t : b ≡ isSome (fieldsOf s)) where
   pub clear-begin : b ≡ true → isSome (fieldsFrom s 0) ≡ true
   clear-begin q = sym (ap isSome (fields-fit s (clear-fits q))) ∙ sym t ∙ q
 
-  pub unclear : b ≡ false → fieldsOf s ≡ none
-  unfolding isSome
-  unclear q = go (fieldsOf s) refl
-    where
-      go : (o : Option (List FieldText)) → fieldsOf s ≡ o → o ≡ none
-      go none e = refl
-      go (some fs) e = absurd (false≢true (sym q ∙ t ∙ ap isSome e))
-
 module _ (s : List ℕ) (at : ℕ) (r : Step) (c : isSome (fieldsFrom s at) ≡ true) (t : r ≡ stepAt s at) where
   pub clear-next : (n v e : ℕ) → r ≡ Field n v e → isSome (fieldsFrom s e) ≡ true
   clear-next n v e q = sym (some-front (fieldAt s at n v e) (fieldsFrom s e)) ∙ sym (ap isSome (from-field s at r t n v e q)) ∙ c

@@ -1,7 +1,7 @@
 -- Rows 1 and 2 (R1, R2): what they come to, by the answer of the table's check, and back.
 --     slot-fits                          the index of a broken slot is a small number
 --     sound-rows, length-rows, slot-rows    the rows, by the answer of the check
---     rows-sound, checked-sound          neither row holds only where the check finds nothing
+--     rows-sound                         neither row holds only where the check finds nothing
 --     lowest-broken, broken-refused      2 is given exactly with the index of the lowest slot that is neither free nor sound
 --     opens-sound .. opens-slot          the answer that `open_table` gives, with the tags
 --     the ruleset                        opening, for `open_table`
@@ -21,9 +21,7 @@ use mir.Val.{Fits}
 use Rattle.octets.proofs.Tests.{and-right, by-test}
 use Rattle.refusals.specs.Rows.{firstOf, answeredBy, answerOf}
 use Rattle.refusals.specs.declared.Refusal.the-variants.{TableLength, BrokenSlot}
-use Rattle.refusals.specs.declared.Answer.{Answer}
 use Rattle.refusals.specs.declared.Answer.the-variants.{Done, Refused}
-use Rattle.refusals.proofs.Rows.{answer-done}
 use Rattle.table.specs.Table.{slots, whole, checked}
 use Rattle.table.specs.Slotwise.{Broken}
 use Rattle.table.specs.declared.Checked.{Checked}
@@ -110,8 +108,5 @@ module _ (t : List ℕ) where
 
       pub opens-slot : (i : ℕ) → r ≡ Slot i → Opens t tags (Refused (BrokenSlot i))
       opens-slot i q = record { answer = as-slot i q; opens = λ z. let n : _≡_ {A = ℕ} 0 1 = cc in absurd (omega arith) }
-
-  pub checked-sound : (k : Answer) → k ≡ answerOf (firstOf (tableRows t)) → k ≡ Done → checked t ≡ Sound
-  checked-sound k e q = rows-sound (answer-done (firstOf (tableRows t)) (sym e ∙ q))
 
 pub ruleset opening = (slot-fits, opens-sound, opens-length, opens-slot, needs)
