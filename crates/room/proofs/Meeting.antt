@@ -9,7 +9,6 @@ use mathlib.Core.Path.{_≡_, sym, ap, _∙_}
 use mathlib.Core.Bool.{Bool, true, false, not}
 use mathlib.Core.List.{List, [], _∷_}
 use native.Mathlib.Omega.{arith}
-use borrow.Author.Needs.{needs}
 use borrow.Author.Tests.{not-true, not-false}
 use lib.ListN.{length, take, drop, length-append}
 use Rattle.octets.specs.Octets.{sameOctets}
@@ -25,7 +24,7 @@ use Rattle.table.proofs.Lowest.{free-most}
 use Rattle.roll.specs.Roll.{unrolled}
 use Rattle.roll.specs.Growing.{inRoll, Kept, Adds, Grew}
 use Rattle.roll.specs.declared.Rolled.{Rolled}
-use Rattle.roll.proofs.Growing.{kept-begin, kept-within, kept-tags, kept-places, kept-list, kept-index, adds-one}
+use Rattle.roll.proofs.Growing.{kept-begin, kept-list, adds-one}
 use Rattle.room.specs.Room.{isNew, withNew}
 use Rattle.room.specs.Counting.{Asks, Rolls, Meets, IsTooMany, MetAs, RollsAs}
 use Rattle.room.specs.declared.Met.{Met}
@@ -46,8 +45,6 @@ module _ (t a : List ℕ) (f : Found) (e : f ≡ found t a) where
       → b ≡ among a (unrolled (take (at .end - 0) (drop 0 known))) → not b ≡ isNew t (inRoll at known) a
   told-rolled tags known numbers spots at k q b h =
       told-held (inRoll at known) q b (h ∙ ap (among a) (kept-list known numbers spots at (k .kept)))
-
-pub ruleset telling = (told-found, told-rolled, kept-within, kept-tags, kept-places, kept-index, needs)
 
 pub rolls-begin :
     (t known numbers spots : List ℕ) (free : ℕ) (at : Rolled) → at .end ≡ 0 → at .many ≡ 0 → free ≡ freeCount t → checked t ≡ Sound
@@ -135,8 +132,6 @@ module _ (t tags : List ℕ) (free : ℕ) (known numbers spots : List ℕ) (at :
 pub meet-none : (t : List ℕ) (free : ℕ) (known numbers spots : List ℕ) → RollsAs t free known numbers spots Full
 unfolding RollsAs
 meet-none t free known numbers spots = tt
-
-pub ruleset meeting = (meet-asks, meet-shared, meet-stays, meet-adds, meet-grown, meet-known, meet-full, meet-added, meet-none, needs)
 
 -- as a caller asks it of an answer m
 module _ (t : List ℕ) (old : List (List ℕ)) (a known : List ℕ) (m : Met) (p : MetAs t old a known m) where

@@ -134,13 +134,6 @@ module _ (t : List ℕ) (free limit : ℕ) (recipients payload : List ℕ) (old 
             clear = heard .readable;
           }
 
--- a ruleset for each kind of need
-pub ruleset counting = (count-begin, count-hears, count-within, count-less, needs)
-
-pub ruleset meeting-gossip = (count-meets, needs)
-
-pub ruleset counted = (count-over, count-full, count-on, needs)
-
 -- the sender first
 pub first-meets :
     (t tags : List ℕ) (limit : ℕ) (sender payload recipients listed places text : List ℕ) → Seeks t tags limit sender payload recipients listed places text
@@ -167,8 +160,6 @@ module _ (t known : List ℕ) (none : Rolled) (e : none .end ≡ 0) (sender out 
       (sym (beside-one t (inRoll none known) sender gossiped))
 
 pub ruleset seating = (first-meets, rolls-begin, needs)
-
-pub ruleset seated = (first-full, first-seated, needs)
 
 -- the sender and no other
 module _ (t sender : List ℕ) (f : Found) (e : f ≡ found t sender) where

@@ -47,9 +47,9 @@ fn meet(
     table: &[u8],
     tags: &[u32; Slot::MOST],
     free: usize,
-    known: &mut [u8],
-    numbers: &mut [u32],
-    spots: &mut [u16],
+    known: &mut [u8; ROLL],
+    numbers: &mut [u32; Slot::MOST],
+    spots: &mut [u16; Slot::MOST],
     at: Rolled,
     address: &[u8],
 ) -> Met
@@ -79,9 +79,9 @@ fn has_room_for(
     listed: &[u32],
     places: &[u16],
     text: &mut [u8],
-    known: &mut [u8],
-    numbers: &mut [u32],
-    spots: &mut [u16],
+    known: &mut [u8; ROLL],
+    numbers: &mut [u32; Slot::MOST],
+    spots: &mut [u16; Slot::MOST],
     from: Rolled,
 ) -> bool
     requires { ⌜ Seats (now table) (now tags) free limit (now payload) (now recipients) (now listed) (now places) (now text)
