@@ -194,8 +194,6 @@ module _ (t tags outer payload text : List ℕ) (s : Open t tags) where
   pub roomy-long : length text ≡ 65536 → Roomy t tags outer payload text
   roomy-long l = record { opened = s; outer-fits = omega (arith, l); payload-fits = omega (arith, l) }
 
-pub ruleset making-room = (roomy-short, roomy-long, needs)
-
 -- `process`
 module _ (t tags : List ℕ) (k : Answer) (h : Opens t tags k) where
   pub opened : k ≡ Done → Open t tags
