@@ -1,7 +1,7 @@
 -- Rows 6 and 7 (R6, R7): whether the message is a report, and whether its payload is searched.
 --     judge-skipped .. judge-searched     the payload
 --     judge-report, judge-on              the message
---     the rulesets                        judging, for `judge_payload`; reporting, for `judge`
+--     the ruleset                         judging, for `judge_payload`
 -- Assumes nothing.
 use Prim.Native.Nat.{ℕ}
 use mathlib.Core.Path.{_≡_, refl, sym, ap, _∙_}
@@ -70,5 +70,3 @@ module _ (reported : Bool) (payload : List ℕ) (g : Gossip) (b : Bool) (e : b �
 
   pub judge-on : b ≡ false → (r : Judged) → JudgedAs false payload g r → JudgedAs reported payload g r
   judge-on y r h = rw (sym e ∙ y) h
-
-pub ruleset reporting = (judge-report, judge-on, needs)

@@ -33,7 +33,7 @@ use Rattle.update.specs.Message.{Gossiped, applied}
 use Rattle.roll.specs.Index.{Indexed}
 use Rattle.roll.specs.declared.Rolled.{Rolled}
 use Rattle.recipients.specs.Answers.{Gathers, GatheredAs}
-use Rattle.recipients.proofs.RecipientRoll.{gathered, gathered-index, gathered-within, gathered-tags, gathered-places}
+use Rattle.recipients.proofs.RecipientRoll.{gathered, gathered-index}
 use Rattle.keys.specs.Answers.{gossipOf}
 use Rattle.message.specs.Message.{messageRows, messageOf}
 use Rattle.message.specs.Answers.{mailOf, heardIn, Brings, AloneAs, CarryingAs, ReadAs}
@@ -87,9 +87,9 @@ module _ (outer roll listed places : List ℕ) (r : Rolled) (h : GatheredAs oute
       → u ≡ delivered t (mailOf sender key b (heardIn 2048 outer payload))
   carried-left u e = e ∙ ap (λ (gs : List Gossiped). delivered t (mailOf sender key b gs)) heard-is
 
-pub ruleset rolling = (gathers, gathered-within, gathered-tags, gathered-places, gathered-index, carries-on, needs)
+pub ruleset rolling = (gathers, gathered-index, carries-on, needs)
 
-pub ruleset carried = (carried-answered, carried-left, needs)
+pub ruleset carried = (carried-answered, carried-left)
 
 -- `process_with`: r is what the message was read as
 module _ (receipt : ℕ) (outer payload : List ℕ) (g : Gossip) (sender key : List ℕ) (r : Reading)
@@ -193,8 +193,6 @@ module _ (t tags outer payload text : List ℕ) (s : Open t tags) where
 
   pub roomy-long : length text ≡ 65536 → Roomy t tags outer payload text
   roomy-long l = record { opened = s; outer-fits = omega (arith, l); payload-fits = omega (arith, l) }
-
-pub ruleset making-room = (roomy-short, roomy-long, needs)
 
 -- `process`
 module _ (t tags : List ℕ) (k : Answer) (h : Opens t tags k) where
