@@ -77,6 +77,20 @@ class Proofs(unittest.TestCase):
         self.assertEqual(short[2], ["Going s i"])
         self.assertEqual(short[3], ["search laws", "(search needs, search laws)", "unfold over in search laws"])
 
+    def test_had_of_a_long_item(self):
+        """A first item that does not fit begins a line."""
+        wide = "Going s i × " + " × ".join(["length s ≡ length s"] * 6)
+        folded = TOOL.folded(LONG.replace("Going s i", wide), False)
+        self.assertIn("(fn.Tie.spec\n", folded)
+        self.assertEqual(TOOL.answers_had(folded)[2], [wide])
+
+    def test_filled(self):
+        """What is offered may have its hole on a line of its own."""
+        offered = ["abbrev Inv-loop : tie.InvT-loop\nInv-loop s i =\n    ?", "-- at\nreturns : tie.Need-returns Inv-loop\nreturns c = ?"]
+        blocks = TOOL.filled(offered, ["Going s i"], ["unfold over in search laws"])
+        self.assertEqual(blocks[0], "abbrev Inv-loop : tie.InvT-loop\nInv-loop s i = Going s i")
+        self.assertEqual(blocks[1], "-- at\nreturns : tie.Need-returns Inv-loop\nunfolding over\nreturns c = search laws")
+
 
 if __name__ == "__main__":
     unittest.main()
