@@ -18,7 +18,7 @@ LISTS = [to for many in range(4) for to in itertools.permutations((ALICE, BOB, C
 MAILS_CRLF = [(with_crlf(outer), with_crlf(payload)) for outer, payload in MAILS]
 MAILS_MIXED = [(outer, with_crlf(payload)) for outer, payload in MAILS]
 
-# Whom each of the mails brings where gossip is taken; Alice alone where it is skipped.
+# Whom each of the mails brings where gossip is taken; Alice alone where it is not.
 BROUGHT = [{ALICE}, {ALICE, BOB, CAROL}, {ALICE}]
 
 # What a table may hold before: nothing, others alone, Alice with dates older than, equal to and newer than those of her
@@ -66,7 +66,7 @@ class EveryWay(unittest.TestCase):
         held = entries(table)
         for place in left:
             number, index, after = BOTH.process(table, receipt, *mails[place], setting)
-            brought = {ALICE} if setting == SKIP else BROUGHT[place]
+            brought = BROUGHT[place] if setting == TAKE else {ALICE}
             new = brought - {entry.address for entry in held if entry}
             self.assertEqual((number, index), (8 if len(new) > held.count(None) else 0, 0))
             self.numbers.add(number)
@@ -98,17 +98,17 @@ class EveryWay(unittest.TestCase):
     def test_receipt_times(self):
         """D2: each date is the receipt time where that is earlier; R3: which has a limit."""
         for receipt in (0, SETUP_DATE, TO_BOB_DATE - 1, TO_BOB_DATE, TO_BOB_DATE + 1, TIME_LIMIT):
-            self.fetch(with_free([], 3), MAILS_MIXED, UNSET, receipt)
+            self.fetch(with_free([], 3), MAILS_MIXED, TAKE, receipt)
         for outer, payload in MAILS:
-            self.assertEqual(BOTH.process(bytes(SLOT), TIME_LIMIT + 1, outer, payload, UNSET), (3, 0, bytes(SLOT)))
+            self.assertEqual(BOTH.process(bytes(SLOT), TIME_LIMIT + 1, outer, payload, TAKE), (3, 0, bytes(SLOT)))
 
     def test_every_octet_as_the_setting(self):
-        """G1: any value but those of take and skip counts as unset, and unset takes."""
+        """G1: any value but those of take and skip counts as unset, and only take takes."""
         taken = table_of([examples.ALICE_SENT, examples.BOB_TOLD, examples.CAROL_TOLD])
         skipped = table_of([examples.ALICE_SENT, None, None])
         for setting in range(256):
             after = BOTH.process(bytes(3 * SLOT), RECEIPT, *MAILS[1], setting)
-            self.assertEqual(after, (0, 0, skipped if setting == 2 else taken))
+            self.assertEqual(after, (0, 0, taken if setting == 1 else skipped))
 
 
 if __name__ == "__main__":

@@ -14,6 +14,7 @@ from scope import base64
 from scope.date import DAY, DAY_NAMES, HOUR, MINUTE, MONTH_NAMES, ZONE_HOURS, days_in_month
 from scope.date import days_in_year
 from scope.header import BLOCK_LIMIT
+from scope.processing import SKIP, TAKE, UNSET
 from scope.recommending import GAP_LIMIT, RECIPIENTS_LIMIT
 from scope.table import (BITS_AT, KEY_LIMIT, NUMBERS, SLOT, SLOTS_LIMIT, TIME_LIMIT, Entry, slot_of, table_of)
 from scope.tokens import ATOM_SIGNS, COMMENT_DEPTH
@@ -784,12 +785,18 @@ class Cases:
             outer = self.mutate(outer)
         elif kind == 5 and self.chance(0.3):
             outer = self.sized(outer)
-        return self.receipt(), outer, self.payload(listed), self.one([0, 0, 1, 1, 2, 3, 255])
+        return self.receipt(), outer, self.payload(listed), self.gossip_setting()
+
+    def gossip_setting(self) -> int:
+        """G1: take in half of the cases; unset, skip, and numbers that are none of the three in the rest."""
+        if self.chance(0.5):
+            return TAKE
+        return self.one([UNSET, SKIP, self.one([3, 255, self.random.randrange(3, 256)])])
 
     def payload(self, listed: list[bytes]) -> bytes:
         """A payload block: none, gossip mostly about the addresses listed, or unreadable."""
         kind = self.random.randrange(12)
-        if kind < 3:
+        if kind < 2:
             return b""
         lines = []
         for _ in range(self.random.randint(0, 4)):
@@ -806,7 +813,7 @@ class Cases:
         payload = self.tail(b"".join(lines))
         if kind == 4:
             payload = self.mutate(payload)
-        elif kind == 5 and self.chance(0.3):
+        elif kind == 5 and self.chance(0.6):
             payload = self.sized(payload)
         elif kind == 6 and self.chance(0.3):
             payload = self.header_block()

@@ -103,14 +103,13 @@ class Processed(Examples):
                          [Entry(ALICE, TO_BOB_DATE - 1, TO_BOB_DATE - 1, ALICE_KEY, True)])
 
     def test_the_gossip_message_G1_G7(self):
-        for taken in (UNSET, TAKE):
-            self.assertEqual(self.after(bytes(4 * SLOT), RECEIPT, TO_BOTH, PAYLOAD, taken),
-                             [ALICE_SENT, BOB_TOLD, CAROL_TOLD, None])
-            self.assertEqual(
-                self.after(bytes(3 * SLOT), RECEIPT, with_crlf(TO_BOTH), with_crlf(PAYLOAD), taken),
-                [ALICE_SENT, BOB_TOLD, CAROL_TOLD])
-        self.assertEqual(self.after(bytes(3 * SLOT), RECEIPT, TO_BOTH, PAYLOAD, SKIP),
-                         [ALICE_SENT, None, None])
+        self.assertEqual(self.after(bytes(4 * SLOT), RECEIPT, TO_BOTH, PAYLOAD, TAKE),
+                         [ALICE_SENT, BOB_TOLD, CAROL_TOLD, None])
+        self.assertEqual(self.after(bytes(3 * SLOT), RECEIPT, with_crlf(TO_BOTH), with_crlf(PAYLOAD), TAKE),
+                         [ALICE_SENT, BOB_TOLD, CAROL_TOLD])
+        for setting in (UNSET, SKIP):
+            self.assertEqual(self.after(bytes(3 * SLOT), RECEIPT, TO_BOTH, PAYLOAD, setting),
+                             [ALICE_SENT, None, None])
 
     def test_too_few_slots_for_the_gossip_message_R8(self):
         self.assertEqual(self.program.process(bytes(2 * SLOT), RECEIPT, TO_BOTH, PAYLOAD, TAKE),
@@ -120,11 +119,11 @@ class Processed(Examples):
         for order in itertools.permutations(MAILS):
             held = bytes(3 * SLOT)
             for outer, payload in order:
-                held = self.table_after(held, RECEIPT, outer, payload, UNSET)
+                held = self.table_after(held, RECEIPT, outer, payload, TAKE)
             self.assertEqual(entries(held), [ALICE_SENT, BOB_TOLD, CAROL_TOLD])
 
     def test_the_recommendation_afterwards_A2_A4(self):
-        held = self.table_after(bytes(3 * SLOT), RECEIPT, TO_BOTH, PAYLOAD, UNSET)
+        held = self.table_after(bytes(3 * SLOT), RECEIPT, TO_BOTH, PAYLOAD, TAKE)
         self.assertEqual(self.advised(held, [ALICE], True, False), 4)
         self.assertEqual(self.advised(held, [ALICE], False, False), 3)
         self.assertEqual(self.advised(held, [BOB, CAROL], True, False), 2)
@@ -172,7 +171,7 @@ class Told(Examples):
     def test_both_reply_to_all_and_the_thread_stays_encrypted_6_3(self):
         # A4, G7: neither knew the other before, nor has to prefer encryption; Alice may have written before or not.
         for before in ([None], [Entry(ALICE, SETUP_DATE)]):
-            held = self.table_after(table_of(before + [None, None]), RECEIPT, TO_BOTH, PAYLOAD, UNSET)
+            held = self.table_after(table_of(before + [None, None]), RECEIPT, TO_BOTH, PAYLOAD, TAKE)
             for other, key in ((CAROL, CAROL_KEY), (BOB, BOB_KEY)):
                 for mutual in self.EITHER:
                     self.assertEqual(self.advised(held, [ALICE, other], mutual, True), ENCRYPT)
@@ -180,7 +179,7 @@ class Told(Examples):
 
     def test_a_new_mail_to_the_other_is_possible_but_discouraged_6_3_3_4_2(self):
         # A2: being introduced is no more than gossip: encryption is possible, and not the default.
-        held = self.table_after(bytes(3 * SLOT), RECEIPT, TO_BOTH, PAYLOAD, UNSET)
+        held = self.table_after(bytes(3 * SLOT), RECEIPT, TO_BOTH, PAYLOAD, TAKE)
         for mutual in self.EITHER:
             for other in (BOB, CAROL):
                 self.assertEqual(self.advised(held, [other], mutual, False), DISCOURAGE)
@@ -189,11 +188,12 @@ class Told(Examples):
     def test_without_gossip_the_reply_to_all_cannot_be_encrypted_6_4(self):
         # A5, G2: the answer is plain, because it is not known yet how to encrypt to one of the others. To Alice it need
         # not be.
-        held = self.table_after(bytes(3 * SLOT), RECEIPT, TO_BOTH, PAYLOAD, SKIP)
-        for mutual in self.EITHER:
-            self.assertEqual(self.advised(held, [ALICE, CAROL], mutual, True), DISABLE)
-            self.assertEqual(self.advised(held, [ALICE], mutual, True), ENCRYPT)
-        self.assertEqual(self.target_keys(held, [ALICE, CAROL]), [ALICE_KEY, b""])
+        for setting in (UNSET, SKIP):
+            held = self.table_after(bytes(3 * SLOT), RECEIPT, TO_BOTH, PAYLOAD, setting)
+            for mutual in self.EITHER:
+                self.assertEqual(self.advised(held, [ALICE, CAROL], mutual, True), DISABLE)
+                self.assertEqual(self.advised(held, [ALICE], mutual, True), ENCRYPT)
+            self.assertEqual(self.target_keys(held, [ALICE, CAROL]), [ALICE_KEY, b""])
 
     def test_the_setup_message_has_no_autocrypt_field_6_7(self):
         # U5: a mail of Alice to herself like any mail without the field: she was seen, and there is no key of hers yet.

@@ -34,9 +34,9 @@ def told(*about: tuple[bytes, bytes]) -> tuple[bytes, bytes]:
 
 
 def telling(sender: bytes, date: int, *about: tuple[bytes, bytes]) -> Call:
-    """A message with gossip about its recipients."""
+    """A message with gossip about its recipients, which is asked for."""
     to, payload = told(*about)
-    return Call(mail(sender, date, to), payload)
+    return Call(mail(sender, date, to), payload, TAKE)
 
 
 def fetch(program, table: bytes, calls: list[Call]) -> tuple[list[int], bytes]:
@@ -119,11 +119,13 @@ class EachPremise:
         self.assertEqual(by_address(other)[A].direct_key, ONE)
 
     def test_the_same_gossip_settings_C11(self):
-        # So it is where one run takes gossip and the other one skips it.
+        # G1: so it is where one run takes gossip and the other one skips it, or says nothing about it.
         call = telling(A, 1000, (B, ONE))
         _, table = fetch(self.program, table_of([None, None]), [call])
-        _, other = fetch(self.program, table_of([None, None]), [Call(call.outer, call.payload, SKIP)])
-        self.assertEqual((set(by_address(table)), set(by_address(other))), ({A, B}, {A}))
+        self.assertEqual(set(by_address(table)), {A, B})
+        for setting in (SKIP, UNSET):
+            _, other = fetch(self.program, table_of([None, None]), [Call(call.outer, call.payload, setting)])
+            self.assertEqual(set(by_address(other)), {A})
 
     def test_a_sound_table_C11(self):
         # Every call refuses any other table and leaves it, so that it has no entries to speak of.
@@ -161,7 +163,8 @@ class Agreeing:
         # The effective date is the Date, the receipt time without one, or the receipt time before it.
         sent, receipt = self.random.choice([(date, RECEIPT), (date, RECEIPT), (None, date), (date + 9, date)])
         outer = mail(sender, sent, to, *self.key_fields(sender, date))
-        call = Call(outer, payload, self.random.choice([UNSET, UNSET, TAKE, SKIP, 3, 255]), receipt)
+        gossip = self.random.choice([UNSET, SKIP, 3, 255]) if self.one_in(6) else TAKE
+        call = Call(outer, payload, gossip, receipt)
         return self.refused(call) if self.one_in(4) else call
 
     def key_fields(self, sender: bytes, date: int) -> list[bytes]:

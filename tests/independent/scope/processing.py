@@ -41,7 +41,7 @@ def process(table: bytes, receipt: int, outer: bytes, payload: bytes,
     # R6: some Content-Type of the outer block is a report; that of the payload is not asked.
     if any(header.is_report(value) for value in header.values_of(outer_fields, b"Content-Type")):
         return 6, 0, table
-    # R7: the payload of gossip that is taken is unreadable. G2: one that is skipped is not
+    # R7: the payload of gossip that is taken is unreadable. G2: one that is not taken is not
     # looked at. G3: without octets it has no fields and gives no 7.
     payload_fields: Fields | None = []
     if is_taken(gossip):
@@ -74,8 +74,8 @@ def process(table: bytes, receipt: int, outer: bytes, payload: bytes,
 
 
 def is_taken(gossip: int) -> bool:
-    # G1: unset takes, and every other number is unset.
-    return gossip != SKIP
+    # G1: take alone takes; skip does not, nor does unset, which every other number is.
+    return gossip == TAKE
 
 
 def sender_of(outer_fields: Fields) -> bytes | None:

@@ -13,6 +13,7 @@ import scope
 from cases import Cases
 from scope import (address, base64, date, header, keyfield, listing, processing, recommending, table,
                    tokens, writing)
+from scope.processing import SKIP, TAKE, UNSET
 from scope.table import SLOT
 
 SEED = 20171107
@@ -205,6 +206,24 @@ class Calls(unittest.TestCase):
                       "gossip new", "gossip replaced", "gossip at an equal date"):
             self.assertGreater(events[event], 3, event)
 
+    def test_gossip_settings(self):
+        """G1, G2: take in about half of the messages, and payloads of every kind with every kind of setting."""
+        cases = Cases(SEED)
+        kinds = Counter()
+        for _ in range(4800):
+            _, _, payload, gossip = cases.message()
+            setting = {UNSET: "unset", TAKE: "take", SKIP: "skip"}.get(gossip, "other")
+            if len(payload) > header.BLOCK_LIMIT:
+                kinds[setting, "too long"] += 1
+            elif header.fields(payload) is None:
+                kinds[setting, "unreadable"] += 1
+            else:
+                kinds[setting, "readable" if payload else "none"] += 1
+        self.assertEqual(len(kinds), 16)
+        self.assertGreater(min(kinds.values()), 3)
+        taken = sum(many for (setting, _), many in kinds.items() if setting == "take")
+        self.assertTrue(0.45 < taken / 4800 < 0.55, taken)
+
     def test_recommending(self):
         cases = Cases(SEED)
         answers = Counter()
@@ -321,7 +340,7 @@ class EveryLine(unittest.TestCase):
             (500, address.is_plain, lambda: (cases.edge_address(),)),
             (200, keyfield.read, lambda: (cases.field_value(),)),
             (300, table.check, lambda: (cases.broken_slot(),)),
-            (200, processing.process, cases.processing),
+            (400, processing.process, cases.processing),
             (200, recommending.target_key, cases.target),
             (60, table.entry_numbers, cases.one_slot),
             (60, writing.write_autocrypt, cases.writing),

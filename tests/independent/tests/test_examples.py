@@ -11,7 +11,7 @@ import examples
 from examples import (ALICE_KEY, BOB, BOB_KEY, CAROL, CAROL_KEY, PAYLOAD, RECEIPT, SETUP, SETUP_DATE, TO_BOB,
                       TO_BOB_DATE, TO_BOTH, TO_BOTH_DATE, first_packet_fingerprint, key_of, with_crlf)
 from scope import address, calls, date, header, listing
-from scope.processing import UNSET
+from scope.processing import TAKE
 from scope.table import SLOT
 
 
@@ -57,7 +57,7 @@ class Processed(examples.Processed, unittest.TestCase):
     program = calls
 
     def test_the_listing_afterwards_W8(self):
-        held = self.table_after(bytes(3 * SLOT), RECEIPT, TO_BOTH, PAYLOAD, UNSET)
+        held = self.table_after(bytes(3 * SLOT), RECEIPT, TO_BOTH, PAYLOAD, TAKE)
         self.assertEqual(listing.listing(held), (
             b"alice@autocrypt.example 1510062985 1510062985 1758 mutual - 0\n"
             b"bob@autocrypt.example - - 0 none 1510062985 1758\n"
