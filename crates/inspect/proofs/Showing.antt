@@ -14,7 +14,7 @@ use borrow.Author.Tests.{le-leb, lt-leb}
 use lib.Dec.{leb}
 use lib.ListN.{length}
 use Rattle.octets.specs.Written.{onto}
-use Rattle.refusals.specs.Rows.{_unless_, answerOf, mentions}
+use Rattle.refusals.specs.Rows.{_unless_, answerOf, someHolds}
 use Rattle.refusals.specs.declared.Refusal.{Refusal}
 use Rattle.refusals.specs.declared.Refusal.the-variants.{BrokenSlot, OutputLength}
 use Rattle.refusals.specs.declared.Answer.the-variants.{Done, Refused}
@@ -47,6 +47,6 @@ module _ (t : List ℕ) (i : ℕ) (d : List ℕ) where
   done-there a = done-is (λ (x : Refusal). d) (onto (shownAt t i) d) refusal (answer-done refusal a)
 
   pub index-lowest : (j : ℕ) → answerOf refusal ≡ Refused (BrokenSlot j) → Broken t j
-  unfolding refusedShowing showingRows mentions
+  unfolding refusedShowing showingRows someHolds
   index-lowest j a =
       lowest-broken t j (front-only (tableRows t) ((OutputLength unless leb shownCount (length d)) ∷ []) (BrokenSlot j) refl (answer-refused refusal (BrokenSlot j) a))

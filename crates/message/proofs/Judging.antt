@@ -57,6 +57,7 @@ module _ (payload : List ℕ) (g : Gossip) (u : Bool) (v : u ≡ taken g) where
       unfolding JudgedAs payloadIn
       judge-searched z =
           record {
+            takes = takes;
             passes = record { no-report = refl; no-row = rw takes (ap not (sym e) ∙ z); fields = rw (payloadIn, takes) };
             readably = sym e ∙ not-false c z;
           }

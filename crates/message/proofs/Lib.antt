@@ -4,3 +4,4 @@ pub mod Bringing
 pub mod WholeReading
 pub mod Good
 pub mod InOrder
+pub mod Skipping

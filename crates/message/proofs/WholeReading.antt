@@ -109,7 +109,13 @@ module _ (most receipt : ℕ) (outer payload : List ℕ) (g : Gossip) (sender ke
   unfolding ReadAs
   front-read (Alone b) h = record { in-order = h .in-order; brings = front-brings n sender key b _ _ l (h .brings) }
   front-read (Carrying b v) h =
-      record { in-order = h .in-order; surveyed = h .surveyed; readably = h .readably; brings = front-brings n sender key b _ _ l (h .brings) }
+      record {
+        takes = h .takes;
+        in-order = h .in-order;
+        surveyed = h .surveyed;
+        readably = h .readably;
+        brings = front-brings n sender key b _ _ l (h .brings);
+      }
   front-read (Refused r) h = h
 
   pub read-sent : (r : Reading) → ReadAs most receipt outer payload g (take (n - 0) (drop 0 sender)) key r → ReadAs most receipt outer payload g sender key r
@@ -172,6 +178,7 @@ module _ (most receipt : ℕ) (outer : List ℕ) (v : Survey) (text₀ sender ke
       read-carrying y =
           let p = rw y at judged in
           record {
+            takes = p .takes;
             in-order = in-order (fieldsIn payload) (p .passes);
             surveyed = h .walked .surveyed;
             readably = p .readably;

@@ -45,8 +45,9 @@ pub record Passes (reported : Bool) (payload : List ℕ) (g : Gossip) (fs : List
   pub no-row : (taken g && not (readable payload)) ≡ false
   pub fields : payloadIn g payload ≡ fs
 
--- neither row holds, and gossip is looked for in the payload, which is readable
+-- neither row holds, and gossip is taken out of the payload, which is readable
 pub record IsSearched (reported : Bool) (payload : List ℕ) (g : Gossip) : Type 0 where
+  pub takes : taken g ≡ true
   pub passes : Passes reported payload g (fieldsIn payload)
   pub readably : readable payload ≡ true
 
@@ -104,8 +105,9 @@ pub record AloneAs (most receipt : ℕ) (outer payload : List ℕ) (g : Gossip) 
   pub in-order : firstOf (messageRows receipt outer payload g) ≡ none
   pub brings : Brings sender key b [] (messageOf most receipt outer payload g)
 
--- no row holds, and the message brings what gossip there is in its payload
+-- no row holds, gossip is taken, and the message brings what there is of it in its payload
 pub record CarryingAs (most receipt : ℕ) (outer payload : List ℕ) (g : Gossip) (sender key : List ℕ) (b : Brought) (survey : Survey) : Type 0 where
+  pub takes : taken g ≡ true
   pub in-order : firstOf (messageRows receipt outer payload g) ≡ none
   pub surveyed : SurveyAs outer survey
   pub readably : readable payload ≡ true

@@ -1,3 +1,4 @@
 pub mod Contracts
 pub mod Outcomes
 pub mod OutcomesInC
+pub mod Skipping

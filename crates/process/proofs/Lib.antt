@@ -1,2 +1,3 @@
 pub mod Outcomes
 pub mod Processing
+pub mod Skipping

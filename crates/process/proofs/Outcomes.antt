@@ -17,7 +17,7 @@ use native.Mathlib.Omega.{arith}
 use borrow.Author.Tests.{not-false}
 use Rattle.octets.specs.Octets.{AllOctets}
 use Rattle.octets.proofs.Tests.{by-test}
-use Rattle.refusals.specs.Rows.{firstOf, answerOf, mentions}
+use Rattle.refusals.specs.Rows.{firstOf, answerOf, someHolds}
 use Rattle.refusals.specs.declared.Refusal.{Refusal}
 use Rattle.refusals.specs.declared.Refusal.the-variants.{BrokenSlot, NoFreeSlot}
 use Rattle.refusals.specs.declared.Answer.the-variants.{Done, Refused}
@@ -105,7 +105,7 @@ module _ (t : List ℕ) (receipt : ℕ) (outer payload : List ℕ) (g : Gossip) 
 
   -- 2 is given by the rows of the table alone
   pub index-lowest : (i : ℕ) → answerOf refusal ≡ Refused (BrokenSlot i) → Broken t i
-  unfolding refusedProcessing processingRows messageRows roomRows mentions
+  unfolding refusedProcessing processingRows messageRows roomRows someHolds
   index-lowest i a = lowest-broken t i (front-only (tableRows t) (messageRows receipt outer payload g ++ roomRows t message) (BrokenSlot i) refl (answer-refused refusal (BrokenSlot i) a))
 
   -- blocks of octets

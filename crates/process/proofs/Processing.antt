@@ -4,12 +4,13 @@
 --     refused-answered, refused-done    `process_with`: the message is refused
 --     alone-sends .. alone-done         `process_with`: it comes alone
 --     carrying-readied .. carrying-done    `process_with`: it carries a payload
---     roomy-short, roomy-long           `process_open`: a text that is as long as the blocks need
+--     short-is                          `is_short`
+--     roomy-short, roomy-long           `process_open`: a text that is as long as the blocks that are read need
 --     opened .. table-left              `process`: rows 1 and 2
 -- Assumes nothing.
 use Prim.Native.Nat.{ℕ, _-_, _≤_}
 use mathlib.Core.Path.{_≡_, refl, sym, ap, _∙_}
-use mathlib.Core.Bool.{true, _&&_}
+use mathlib.Core.Bool.{Bool, true, not, _&&_, _||_}
 use mathlib.Core.List.{List, []}
 use mathlib.Core.Option.{Option, some, none}
 use native.Mathlib.Omega.{arith}
@@ -24,6 +25,7 @@ use Rattle.refusals.specs.declared.Refusal.{Refusal}
 use Rattle.refusals.specs.declared.Answer.{Answer}
 use Rattle.refusals.specs.declared.Answer.the-variants.{Done, Refused}
 use Rattle.refusals.proofs.Rows.{refused-is, front-refuses}
+use Rattle.settings.specs.Settings.{taken}
 use Rattle.settings.specs.declared.Gossip.{Gossip}
 use Rattle.fields.specs.declared.Survey.{Survey}
 use Rattle.fields.proofs.Walking.{survey-readable}
@@ -44,7 +46,7 @@ use Rattle.message.proofs.Bringing.{block-short}
 use Rattle.delivery.specs.Delivery.{roomRows, delivered}
 use Rattle.delivery.specs.Sending.{Sends, Carries}
 use Rattle.process.specs.Processing.{processingRows, refusedProcessing, leftByProcessing}
-use Rattle.process.specs.Stages.{Roomy, Readied}
+use Rattle.process.specs.Stages.{isShort, Roomy, Readied}
 use Rattle.process.proofs.Outcomes.{message-refused, room-first, room-left, refused-left}
 
 -- `deliver_carrying`
@@ -109,7 +111,7 @@ module _ (receipt : ℕ) (outer payload : List ℕ) (g : Gossip) (sender key : L
   carrying-within v q = carrying v q .brings .within
 
 -- and the table is open
-module _ (t tags : List ℕ) (receipt : ℕ) (outer payload : List ℕ) (g : Gossip) (text₀ : List ℕ) (y : Roomy t tags outer payload text₀)
+module _ (t tags : List ℕ) (receipt : ℕ) (outer payload : List ℕ) (g : Gossip) (text₀ : List ℕ) (y : Roomy t tags outer payload g text₀)
     (sender key : List ℕ) (r : Reading) (h : ReadAs 2048 receipt outer payload g sender key r) where
   module _ (x : Refusal) (q : r ≡ Unread x) where
     first : refusedProcessing t receipt outer payload g ≡ some x
@@ -160,7 +162,7 @@ module _ (t tags : List ℕ) (receipt : ℕ) (outer payload : List ℕ) (g : Gos
         record {
           sends = sends b (heardIn 2048 outer payload) (carried-so .brings) (carried-so .in-order);
           reads =
-              record { readably = carried-so .readably; room = omega (arith, y .payload-fits, block-short payload (carried-so .readably), l) };
+              record { readably = carried-so .readably; room = omega (arith, y .payload-fits (carried-so .takes), block-short payload (carried-so .readably), l) };
           surveyed = carried-so .surveyed;
           outer-fits = omega (arith, y .outer-fits, block-short outer (survey-readable outer v (carried-so .surveyed)), l);
         }
@@ -181,18 +183,36 @@ pub ruleset reading-carrying = (carrying-readied, carrying-answered, carrying-do
 
 pub ruleset refusing = (refused-answered, refused-done, needs)
 
--- `process_open`
-module _ (t tags outer payload text : List ℕ) (s : Open t tags) where
-  pub roomy-short : (leb (length outer) 8192 && leb (length payload) 8192) ≡ true → length text ≡ 8192 → Roomy t tags outer payload text
-  roomy-short e l =
-      record {
-        opened = s;
-        outer-fits = omega (arith, leb-true (length outer) 8192 (and-left (leb (length outer) 8192) (leb (length payload) 8192) e), l);
-        payload-fits = omega (arith, leb-true (length payload) 8192 (and-right (leb (length outer) 8192) (leb (length payload) 8192) e), l);
-      }
+-- `is_short`
+pub short-is : (outer payload : List ℕ) (g : Gossip) (b : Bool) → b ≡ taken g
+    → (leb (length outer) 8192 && (not b || leb (length payload) 8192)) ≡ isShort outer payload g
+unfolding isShort
+short-is outer payload g b e = rw e
 
-  pub roomy-long : length text ≡ 65536 → Roomy t tags outer payload text
-  roomy-long l = record { opened = s; outer-fits = omega (arith, l); payload-fits = omega (arith, l) }
+-- `process_open`
+module _ (t tags outer payload : List ℕ) (g : Gossip) (text : List ℕ) (s : Open t tags) where
+  module _ (b : Bool) (yes : b ≡ true) (is : b ≡ isShort outer payload g) where
+    short : isShort outer payload g ≡ true
+    short = sym is ∙ yes
+
+    outer-short : leb (length outer) 8192 ≡ true
+    unfolding isShort
+    outer-short = and-left (leb (length outer) 8192) (not (taken g) || leb (length payload) 8192) short
+
+    payload-short : taken g ≡ true → leb (length payload) 8192 ≡ true
+    unfolding isShort
+    payload-short k = rw k at (and-right (leb (length outer) 8192) (not (taken g) || leb (length payload) 8192) short)
+
+    pub roomy-short : length text ≡ 8192 → Roomy t tags outer payload g text
+    roomy-short l =
+        record {
+          opened = s;
+          outer-fits = omega (arith, leb-true (length outer) 8192 outer-short, l);
+          payload-fits = λ k. omega (arith, leb-true (length payload) 8192 (payload-short k), l);
+        }
+
+  pub roomy-long : length text ≡ 65536 → Roomy t tags outer payload g text
+  roomy-long l = record { opened = s; outer-fits = omega (arith, l); payload-fits = λ k. omega (arith, l) }
 
 -- `process`
 module _ (t tags : List ℕ) (k : Answer) (h : Opens t tags k) where

@@ -7,7 +7,7 @@ ghost use Rattle.table.specs.Tagged.{Open};
 ghost use Rattle.message.specs.Answers.{mailOf, heardIn};
 ghost use Rattle.delivery.specs.Delivery.{roomRows, delivered};
 ghost use Rattle.process.specs.Processing.{refusedProcessing, leftByProcessing};
-ghost use Rattle.process.specs.Stages.{Roomy, Readied};
+ghost use Rattle.process.specs.Stages.{isShort, Roomy, Readied};
 use fields::Survey;
 use message::Brought;
 use message::Reading;
@@ -23,7 +23,7 @@ const SHORT: usize = 8192;
 // The most addresses that a block can have (B1, L6): one takes three octets, and another stands between it and the next.
 const MOST_RECIPIENTS: usize = header::LIMIT / 4;
 
-// Refusal 8 for a message with a payload (R8): gossip counts that is about its recipients.
+// Refusal 8 for a message whose payload is searched (R8): gossip counts that is about its recipients.
 fn deliver_carrying(
     table: &mut [u8],
     tags: &mut [u32; Slot::MOST],
@@ -63,7 +63,7 @@ fn deliver_carrying(
     )
 }
 
-// Refusals 3 to 8, with room for the values of both blocks.
+// Refusals 3 to 8, with room for the values of the blocks that are read.
 fn process_with(
     table: &mut [u8],
     tags: &mut [u32; Slot::MOST],
@@ -73,7 +73,7 @@ fn process_with(
     gossip: Gossip,
     text: &mut [u8],
 ) -> Answer
-    requires { ⌜ Roomy (now table) (now tags) (now outer) (now payload) (now text) ⌝ }
+    requires { ⌜ Roomy (now table) (now tags) (now outer) (now payload) gossip (now text) ⌝ }
     ensures { λ r. ⌜ r ≡ answerOf (refusedProcessing (now (table .entry)) receipt (now (outer .entry)) (now (payload .entry)) gossip) ⌝ }
     ensures { λ _. ⌜ now (table .exit) ≡ leftByProcessing (now (table .entry)) receipt (now (outer .entry)) (now (payload .entry)) gossip ⌝ }
 {
@@ -113,7 +113,15 @@ fn process_with(
     }
 }
 
-// Refusals 3 to 8, with the table open, and as much room for values as the blocks need.
+// Are the blocks that are read short, and so their values? A payload that is not taken is not read (G2).
+fn is_short(outer: &[u8], payload: &[u8], gossip: Gossip) -> bool
+    ensures { λ r. ⌜ r ≡ isShort (now (outer .entry)) (now (payload .entry)) gossip ⌝ }
+{
+    let takes = settings::is_taken(gossip);
+    (outer.len() <= SHORT) & (!takes | (payload.len() <= SHORT))
+}
+
+// Refusals 3 to 8, with the table open, and as much room for values as the blocks that are read need.
 fn process_open(
     table: &mut [u8],
     tags: &mut [u32; Slot::MOST],
@@ -126,7 +134,7 @@ fn process_open(
     ensures { λ r. ⌜ r ≡ answerOf (refusedProcessing (now (table .entry)) receipt (now (outer .entry)) (now (payload .entry)) gossip) ⌝ }
     ensures { λ _. ⌜ now (table .exit) ≡ leftByProcessing (now (table .entry)) receipt (now (outer .entry)) (now (payload .entry)) gossip ⌝ }
 {
-    if (outer.len() <= SHORT) & (payload.len() <= SHORT) {
+    if is_short(outer, payload, gossip) {
         let mut text = [0u8; SHORT];
         return process_with(table, tags, receipt, outer, payload, gossip, &mut text);
     }
@@ -137,8 +145,8 @@ fn process_open(
 // Processes a message: brings the table up to date with one received mail (U1). `receipt` is when the mail came in, in
 // seconds since 1970 (T6). `outer` is the mail's header block as it was received: what stands behind its first empty line
 // is not looked at, but counts for the limit of 65,536 octets (B1, B5). `payload` is the header block of the root part
-// inside the decrypted mail, empty where there is none. `gossip` says whether gossip is taken: unset takes it, and with
-// skip the payload is not looked at (G1, G2).
+// inside the decrypted mail, empty where there is none. `gossip` says whether gossip is taken: only with take is the payload
+// looked at (G1, G2).
 //
 // Where nothing is refused, the answer is `Done`. The sender then has an entry (U5): last seen is raised to the mail's
 // date, and the key and preference of the field that counts, if there is one, are stored with that date, unless a younger

@@ -22,7 +22,7 @@ use lib.ListN.{length, take, drop}
 use mir.Syntax.{w64}
 use mir.Val.{Fits}
 use Rattle.octets.specs.Options.{orElse, isSome}
-use Rattle.refusals.specs.Rows.{Row, _unless_, answeredBy, answerOf, mentions}
+use Rattle.refusals.specs.Rows.{Row, _unless_, answeredBy, answerOf, someHolds}
 use Rattle.refusals.specs.declared.Refusal.{Refusal}
 use Rattle.refusals.specs.declared.Refusal.the-variants.{BrokenSlot, Recipients}
 use Rattle.refusals.specs.declared.Answer.{Answer}
@@ -186,7 +186,7 @@ module _ (t s : List ℕ) (m reply : Bool) where
   done-advised a e = by-answer (refusedRecommending t s) (Done a) e (λ r q z. cc) (λ q z. cc)
 
   pub index-lowest : (i : ℕ) → recommendedOf t s m reply ≡ Refused (BrokenSlot i) → Broken t i
-  unfolding recommendedOf refusedRecommending recommendingRows mentions
+  unfolding recommendedOf refusedRecommending recommendingRows someHolds
   index-lowest i e =
       by-answer (refusedRecommending t s) (Refused (BrokenSlot i)) e
       (λ r q z.

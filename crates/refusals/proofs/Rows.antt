@@ -2,7 +2,8 @@
 --     exactly                    the number is n exactly when the row of n holds and none before it (C3)
 --     first-here, first-behind   the first row holds, or it does not
 --     first-front, first-rest    rows in front of others: one of them holds, or none does
---     front-only                 a refusal of which there is no row among the last is one of the first
+--     never-given                a refusal of which no row holds is not given
+--     front-only                 one of which no row among the last holds is one of the first
 --     none-here, none-rest, none-front, none-behind    what it says of each part of a list that no row of it holds
 --     by-refusal                 a refusal, or none
 --     refused-is, done-is        what is answered or left, by the refusal
@@ -17,7 +18,7 @@
 use Prim.Native.Nat.{ℕ}
 use mathlib.Core.Path.{_≡_, refl, sym, ap, _∙_}
 use mathlib.Core.Logic.{_↔_}
-use mathlib.Core.Bool.{Bool, true, false, not, _||_, false≢true}
+use mathlib.Core.Bool.{Bool, true, false, not, _&&_, _||_, false≢true}
 use mathlib.Core.List.{List, [], _∷_, _++_}
 use mathlib.Core.Option.{Option, some, none}
 use native.Mathlib.Omega.{arith}
@@ -25,7 +26,7 @@ use borrow.Author.Needs.{needs}
 use borrow.Author.Tests.{eq-eqb, not-true, not-false}
 use lib.Dec.{eqb}
 use Rattle.refusals.specs.Refusals.{numberOf}
-use Rattle.refusals.specs.Rows.{Row, _when_, _unless_, firstOf, answeredBy, answerOf, numberIn, Gives, nothing, here, behind, mentions}
+use Rattle.refusals.specs.Rows.{Row, _when_, _unless_, firstOf, answeredBy, answerOf, numberIn, Gives, nothing, here, behind, someHolds}
 use Rattle.refusals.specs.declared.Refusal.{Refusal}
 use Rattle.refusals.specs.declared.Answer.{Answer}
 use Rattle.refusals.specs.declared.Answer.the-variants.{Done, Refused}
@@ -74,25 +75,26 @@ first-rest [] rest e = refl
 first-rest ((q when true) ∷ rows) rest e = cc
 first-rest ((q when false) ∷ rows) rest e = first-rest rows rest e
 
--- a refusal of which there is no row among the last is one of the first
-never-mentioned : (rows : List Row) (r : Refusal) → mentions (numberOf r) rows ≡ false → firstOf rows ≡ some r → ⊥
-unfolding firstOf mentions
-never-mentioned [] r m e = let z : _≡_ {A = ℕ} 0 1 = cc in omega arith
-never-mentioned ((q when true) ∷ rows) r m e =
+-- a refusal of which no row holds is not given
+pub never-given : (rows : List Row) (r : Refusal) → someHolds (numberOf r) rows ≡ false → firstOf rows ≡ some r → ⊥
+unfolding firstOf someHolds
+never-given [] r m e = let z : _≡_ {A = ℕ} 0 1 = cc in omega arith
+never-given ((q when true) ∷ rows) r m e =
     let same : q ≡ r = cc in
     let z : true ≡ false = rw (same, eq-eqb (numberOf r) (numberOf r) refl) at m in
     false≢true (sym z)
-never-mentioned ((q when false) ∷ rows) r m e = never-mentioned rows r (or-right (eqb (numberOf q) (numberOf r)) (mentions (numberOf r) rows) m) e
+never-given ((q when false) ∷ rows) r m e = never-given rows r (or-right (eqb (numberOf q) (numberOf r) && false) (someHolds (numberOf r) rows) m) e
   where
     or-right : (a b : Bool) → (a || b) ≡ false → b ≡ false
     or-right true b n = absurd (false≢true (sym n))
     or-right false b n = n
 
-pub front-only : (rows rest : List Row) (r : Refusal) → mentions (numberOf r) rest ≡ false → firstOf (rows ++ rest) ≡ some r → firstOf rows ≡ some r
+-- a refusal of which no row among the last holds is one of the first
+pub front-only : (rows rest : List Row) (r : Refusal) → someHolds (numberOf r) rest ≡ false → firstOf (rows ++ rest) ≡ some r → firstOf rows ≡ some r
 front-only rows rest r m e =
     by-refusal (firstOf rows)
     (λ q f. let z : some q ≡ some r = sym (first-front rows rest q f) ∙ e in f ∙ z)
-    (λ f. absurd (never-mentioned rest r m (sym (first-rest rows rest f) ∙ e)))
+    (λ f. absurd (never-given rest r m (sym (first-rest rows rest f) ∙ e)))
 
 -- no row holds
 pub none-here : (r : Refusal) (b : Bool) (rest : List Row) → firstOf ((r when b) ∷ rest) ≡ none → b ≡ false

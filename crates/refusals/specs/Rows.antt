@@ -6,10 +6,10 @@
 --     answerOf, unlessRefused  the answer of a call with nothing else to say; what a call leaves that writes nothing where it is refused
 --     numberIn                 the number of a refusal, or 0 where there is none
 --     Gives                    the row of a number holds and none before it; for 0, no row holds
---     mentions                 is there a row with this number, whether or not it holds?
+--     someHolds                is there a row with this number that holds?
 use Prim.Native.Nat.{ℕ}
 use mathlib.Core.Path.{_≡_}
-use mathlib.Core.Bool.{Bool, true, false, not, _||_}
+use mathlib.Core.Bool.{Bool, true, false, not, _&&_, _||_}
 use mathlib.Core.List.{List, [], _∷_}
 use mathlib.Core.Option.{Option, some, none}
 use lib.Dec.{eqb}
@@ -53,7 +53,7 @@ pub data Gives : List Row → ℕ → Type 0 where
   here : {r : Refusal} {b : Bool} {rest : List Row} {n : ℕ} → b ≡ true → numberOf r ≡ n → Gives ((r when b) ∷ rest) n
   behind : {r : Refusal} {b : Bool} {rest : List Row} {n : ℕ} → b ≡ false → Gives rest n → Gives ((r when b) ∷ rest) n
 
--- is there a row with this number?
-unfoldable pub mentions : ℕ → List Row → Bool
-mentions n [] = false
-mentions n ((r when b) ∷ rest) = eqb (numberOf r) n || mentions n rest
+-- R31: is there a row with this number that holds?
+unfoldable pub someHolds : ℕ → List Row → Bool
+someHolds n [] = false
+someHolds n ((r when b) ∷ rest) = (eqb (numberOf r) n && b) || someHolds n rest

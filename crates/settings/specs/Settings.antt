@@ -4,8 +4,8 @@ use mathlib.Core.Bool.{Bool, true, false}
 use Rattle.settings.specs.declared.Gossip.{Gossip}
 use Rattle.settings.specs.declared.Gossip.the-variants.{Take, Skip, Unset}
 
--- G1: unless it is to be skipped, gossip is taken
+-- G1: gossip is taken where it was asked for, and only there
 unfoldable pub taken : Gossip → Bool
 taken Take = true
 taken Skip = false
-taken Unset = true
+taken Unset = false

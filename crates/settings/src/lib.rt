@@ -3,7 +3,8 @@
 ghost use mathlib.Core.Path.{_≡_};
 ghost use Rattle.settings.specs.Settings.{taken};
 
-// Is gossip in encrypted mail taken (G1)? A caller that does not care leaves it unset.
+// Is gossip in encrypted mail taken (G1)? Whoever wants it says take. A caller that says nothing leaves it unset, and gets
+// none.
 pub enum Gossip {
     Take,
     Skip,
@@ -17,13 +18,13 @@ pub struct Settings {
     pub key_limit: usize,
 }
 
-// Is gossip taken? It is also where the setting was left unset (G1).
+// Is gossip taken? Only where it was asked for (G1).
 pub fn is_taken(gossip: Gossip) -> bool
     ensures { λ r. ⌜ r ≡ taken gossip ⌝ }
 {
     match gossip {
         Gossip::Take => true,
         Gossip::Skip => false,
-        Gossip::Unset => true,
+        Gossip::Unset => false,
     }
 }
