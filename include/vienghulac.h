@@ -24,7 +24,7 @@
  *      4   the header block of the mail cannot be read; page B says what can be
  *      5   no single From field with a single address; also where that field is no readable list (R5)
  *      6   the mail is a report, of type multipart/report; by any of its Content-Type fields (B13)
- *      7   gossip is wanted, but the payload block cannot be read
+ *      7   gossip is wanted, but the payload block cannot be read; only with VIENGHULAC_GOSSIP_TAKE (R7)
  *      8   too few free slots for the new addresses
  *      9   the address to write is not a plain one; with nothing around it (L6, L7)
  *     10   the recipients cannot be read, or are not 1 to 100
@@ -71,7 +71,8 @@ extern "C" {
 /* An output of this length has room for every field, so no writer then answers 12 (W6). */
 #define VIENGHULAC_FIELD 3200
 
-/* The gossip setting of vienghulac_process. With unset gossip is taken, and every other number is unset (G1). */
+/* The gossip setting of vienghulac_process. Gossip is taken with VIENGHULAC_GOSSIP_TAKE alone. Any value besides these
+ * three counts as unset, and unset skips (G1). */
 #define VIENGHULAC_GOSSIP_UNSET 0
 #define VIENGHULAC_GOSSIP_TAKE 1
 #define VIENGHULAC_GOSSIP_SKIP 2
@@ -141,13 +142,15 @@ typedef struct {
  * Answers 0, 1 or 2. */
 vienghulac_answer vienghulac_check(const uint8_t *table, size_t table_length);
 
-/* Takes one received mail into the table: the entry of its sender and, by the gossip in its payload, those of other
- * recipients (pages U and G).
+/* Takes one received mail into the table: the entry of its sender and, where gossip is asked for, those of the recipients
+ * whom the gossip in its payload is about (pages U and G).
  *
  * `receipt` is when the mail came in, counted in seconds from the beginning of 1970 in UTC. `outer` is the mail's
  * header block, octet by octet as it came in, up to the first empty line. What stands behind that line is not looked
  * at, but counts for the limit of 65,536 octets (B1). `payload` is the header block of the root part inside the
- * decrypted mail; its length is 0 for a mail that was not encrypted. `gossip` is one of VIENGHULAC_GOSSIP_*.
+ * decrypted mail; its length is 0 for a mail that was not encrypted. `gossip` is one of VIENGHULAC_GOSSIP_*: to take
+ * gossip, pass VIENGHULAC_GOSSIP_TAKE. With every other value the payload is not looked at, and the call is the same as
+ * one without it (G2).
  *
  * Lent: `table`. Borrowed: `outer` and `payload`. A mail is taken in full, or the table stays octet by octet as it was.
  * If the answer is 0, parts that were handed out before mean nothing any more.

@@ -110,8 +110,8 @@ def test_a_class_that_lies_about_its_length(base):
     assert autocrypt_field(Liar(b"a@x"), Liar(b"foo")) == autocrypt_field(b"a@x", b"foo")
     told, plain = Table(Liar(bytes(4_392 * 2))), Table.new(2)
     outer, payload = letter(b"a@x", b"key", more=b"To: b@x\r\n"), gossip_field(b"b@x", b"gossiped")
-    process(told, RECEIPT, Liar(outer), Liar(payload))
-    process(plain, RECEIPT, outer, payload)
+    process(told, RECEIPT, Liar(outer), Liar(payload), Gossip.TAKE)
+    process(plain, RECEIPT, outer, payload, Gossip.TAKE)
     assert bytes(told) == bytes(plain) and len(entries(told)) == 2
     assert recommend(told, Liar(b"a@x, b@x")) == recommend(told, b"a@x, b@x")
     assert target_key(told, Liar(b"a@x")) == b"key"

@@ -86,13 +86,37 @@ def test_entries_of_what_is_no_table_any_more():
     assert answered(entries, table) == (2, 1, None)
 
 
-def test_unset_gossip_is_taken_and_skip_skips_G1_G2():
+def test_gossip_is_taken_only_where_it_is_asked_for_G1_G2():
     key = b"gossiped"
     outer, payload = letter(b"a@x", more=b"To: b@x\r\n"), gossip((b"b@x", key))
-    for setting, expected in ((Gossip.UNSET, key), (Gossip.TAKE, key), (Gossip.SKIP, None)):
+    for setting, expected in (((), None), ((Gossip.UNSET,), None), ((Gossip.TAKE,), key), ((Gossip.SKIP,), None)):
         table = Table.new(2)
-        process(table, RECEIPT, outer, payload, setting)
+        process(table, RECEIPT, outer, payload, *setting)
         assert target_key(table, b"b@x") == expected
+
+
+def test_a_payload_that_is_not_asked_for_is_not_looked_at_G2_R7():
+    outer, without = letter(b"a@x", b"key", more=b"To: b@x\r\n"), Table.new(1)
+    process(without, RECEIPT, outer)
+    for payload, number in ((b"no field", 7), (b"\n" * 65_537, 7), (gossip((b"b@x", b"gossiped")) * 1_000, 8)):
+        for setting in ((), (Gossip.UNSET,), (Gossip.SKIP,)):
+            table = Table.new(1)
+            process(table, RECEIPT, outer, payload, *setting)
+            assert bytes(table) == bytes(without)
+        assert answered(process, Table.new(1), RECEIPT, outer, payload, Gossip.TAKE) == (number, 0, None)
+
+
+def test_group_mail_on_a_telephone_G1_R8():
+    """Forty slots, a hundred mails of five people to others, whose keys the payloads tell."""
+    for setting, stored, answers in (((), 5, {0}), ((Gossip.TAKE,), 40, {0, 8})):
+        table, seen = Table.new(40), set()
+        for place in range(100):
+            others = [b"s%d@x" % ((place + step) % 100) for step in range(3)]
+            outer = letter(b"p%d@x" % (place % 5), b"key", more=b"To: " + b", ".join(others) + b"\r\n")
+            told = gossip(*((other, b"key") for other in others))
+            seen.add(answered(process, table, RECEIPT + place, outer, told, *setting)[0])
+        assert (len(entries(table)), seen) == (stored, answers)
+        assert {b"p%d@x" % place for place in range(5)} <= {entry.address for entry in entries(table)}
 
 
 def test_numbers_beyond_the_width_are_beyond_the_limit_R3_A7():
@@ -118,7 +142,7 @@ def test_a_thread_with_the_stack_that_the_header_names():
     block, payload = letter(b"a@x", bytes(2_048), more=to), gossip((b"0@x", bytes(2_048)), (b"1@x", b"key")) * 20
     table = Table.new(3)
     before = threading.stack_size(size)
-    thread = threading.Thread(target=process, args=(table, RECEIPT, block, payload))
+    thread = threading.Thread(target=process, args=(table, RECEIPT, block, payload, Gossip.TAKE))
     thread.start()
     threading.stack_size(before)
     thread.join()

@@ -14,7 +14,7 @@ import pytest
 from commands import INBOX, answer, failure, mailbox_of, run
 from letters import EXAMPLES, RECEIPT, letter, table_with
 
-from vienghulac import REFUSALS, Table, autocrypt_field, entries, gossip_field, process, target_key
+from vienghulac import REFUSALS, Gossip, Table, _command, autocrypt_field, entries, gossip_field, process, target_key
 
 ALICE, BOB, CAROL, DAVE = "alice@autocrypt.example", "bob@autocrypt.example", "carol@autocrypt.example", "dave@mail.example"
 
@@ -44,6 +44,19 @@ def test_import_in_json_goes_on_where_it_stopped(table_file):
     again = json.loads(answer("import", INBOX, INBOX, "--json", "--table", table_file, "--slots", "3"))
     assert again == {"messages": 18, "answers": {"0": 14, "5": 2, "6": 2}, "slots": 8, "used": 4}
     assert table_file.read_bytes() == before
+
+
+def test_import_asks_for_gossip_G1(table_file, monkeypatch):
+    """Payloads are not read yet; whoever reads them one day need not think of the setting."""
+    settings = []
+
+    def process_told(table, receipt, outer, payload=b"", gossip=Gossip.UNSET):
+        settings.append(gossip)
+        process(table, receipt, outer, payload, gossip)
+
+    monkeypatch.setattr(_command, "process", process_told)
+    assert _command.main(["import", str(INBOX), "--table", str(table_file)]) == 0
+    assert settings == [Gossip.TAKE] * 9
 
 
 def test_import_of_ten_thousand_messages(table_file, tmp_path):

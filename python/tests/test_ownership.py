@@ -18,7 +18,7 @@ from contextlib import contextmanager
 import pytest
 from letters import RECEIPT, gossip, letter, table_with
 
-from vienghulac import Refused, Table, _library, entries, process, recommend, target_key
+from vienghulac import Gossip, Refused, Table, _library, entries, process, recommend, target_key
 
 THREADS = 4
 
@@ -90,7 +90,7 @@ def test_gossip_of_freed_payloads():
     with meanwhile(allocate_over):
         for count in range(2_000):
             keys = {b"b@x": chance.randbytes(300), b"c@x": chance.randbytes(300)}
-            process(table, RECEIPT, letter(b"a@x", more=b"To: b@x, c@x\r\n"), gossip(*keys.items()))
+            process(table, RECEIPT, letter(b"a@x", more=b"To: b@x, c@x\r\n"), gossip(*keys.items()), Gossip.TAKE)
             assert {e.address: e.gossip_key for e in entries(table) if e.gossip_key is not None} == keys
 
 
@@ -324,7 +324,7 @@ def test_two_threads_lose_nothing(eager):
     def sent(thread):
         for sender, *others in sides[thread]:
             outer = letter(sender, keys[sender], more=b"To: " + b", ".join(others) + b"\r\n")
-            process(table, RECEIPT, outer, gossip(*((address, keys[address]) for address in others)))
+            process(table, RECEIPT, outer, gossip(*((address, keys[address]) for address in others)), Gossip.TAKE)
 
     for _ in range(20):
         table = Table.new(256)

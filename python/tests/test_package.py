@@ -12,7 +12,7 @@ from pathlib import Path
 from letters import ROOT
 
 import vienghulac
-from vienghulac import _library
+from vienghulac import Gossip, _library
 
 PACKAGE = Path(vienghulac.__file__).parent
 LIBRARY = PACKAGE / "libvienghulac.so"
@@ -89,6 +89,13 @@ def test_an_entry_is_read_as_the_header_declares_it():
     defined = dict(re.findall(r"^#define VIENGHULAC_(NUMBERS|BIT_\w+) (\d+)$", header, re.MULTILINE))
     assert len(defined) == 5
     assert {name: getattr(_library, name) for name in defined} == {name: int(value) for name, value in defined.items()}
+
+
+def test_the_gossip_setting_has_the_numbers_of_the_header_G1():
+    header = (ROOT / "include" / "vienghulac.h").read_text()
+    defined = dict(re.findall(r"^#define VIENGHULAC_GOSSIP_(\w+) (\d+)$", header, re.MULTILINE))
+    assert {name: int(value) for name, value in defined.items()} == {one.name: one.value for one in Gossip}
+    assert (Gossip.UNSET, Gossip.TAKE, Gossip.SKIP) == (0, 1, 2)
 
 
 def test_a_new_environment_without_compiler_and_network(tmp_path):

@@ -1,4 +1,4 @@
-"""The examples of README.md, run as they stand there; the block behind each says what it prints."""
+"""The examples of README.md, run as they stand there; the block behind each says what it prints. And examples/gossip.py."""
 
 import re
 import subprocess
@@ -53,3 +53,16 @@ def test_command_line_examples(tmp_path):
 def test_every_refusal_is_in_the_table():
     rows = dict(re.findall(r"^\| (\d+) \| (.*?) \|", README, re.MULTILINE))
     assert {int(number): words for number, words in rows.items()} == REFUSALS
+
+
+def test_the_example_of_a_reply_to_all_asks_for_gossip_G1():
+    """Without gossip there would be no key of Carol's to encrypt it to."""
+    done = subprocess.run([sys.executable, EXAMPLES / "gossip.py"], capture_output=True, text=True, check=True)
+    assert [" ".join(line.split()) for line in done.stdout.splitlines()] == [
+        "alice@autocrypt.example a key of her own",
+        "bob@autocrypt.example a key by gossip",
+        "carol@autocrypt.example a key by gossip",
+        "a new mail to Carol: DISCOURAGE",
+        "a reply to this mail: ENCRYPT",
+        "the key to encrypt to: 1758 octets",
+    ]

@@ -84,6 +84,37 @@ static void look_for_nothing(void) {
     expect("the struct is the numbers", sizeof(vienghulac_numbers) == VIENGHULAC_NUMBERS * sizeof(uint64_t));
 }
 
+/* Carol's mail for a new table of two slots, with a payload and a setting: the answer, and the table afterwards. */
+static vienghulac_answer hand_down(uint8_t *table, const char *block, size_t length, int value) {
+    memset(table, 0, 2 * VIENGHULAC_SLOT);
+    return vienghulac_process(table, 2 * VIENGHULAC_SLOT, 2000, octets(from_carol), sizeof from_carol - 1,
+                              block ? octets(block) : NULL, length, (uint8_t)value);
+}
+
+/* G1, G2 and R7: every value of the setting, with gossip in the payload and with a payload that cannot be read. */
+static void ask_for_gossip(void) {
+    static uint8_t table[2 * VIENGHULAC_SLOT], empty[sizeof table], alone[sizeof table], told[sizeof table];
+    expect("the numbers of the setting",
+           VIENGHULAC_GOSSIP_UNSET == 0 && VIENGHULAC_GOSSIP_TAKE == 1 && VIENGHULAC_GOSSIP_SKIP == 2);
+    hand_down(alone, NULL, 0, VIENGHULAC_GOSSIP_UNSET);
+    hand_down(told, payload, sizeof payload - 1, VIENGHULAC_GOSSIP_TAKE);
+    expect("gossip leaves the sender's slot", memcmp(alone, told, VIENGHULAC_SLOT) == 0);
+    expect("gossip has a slot of its own", leads_to(told, VIENGHULAC_SLOT + 2344, 3, "bar"));
+    vienghulac_answer a = hand_down(table, NULL, 0, VIENGHULAC_GOSSIP_TAKE);
+    expect("take, and no payload", a.number == 0 && a.index == 0 && memcmp(table, alone, sizeof table) == 0);
+    bool unread = true, heard = true;
+    for (int value = 0; value < 256; value++) {
+        bool takes = value == VIENGHULAC_GOSSIP_TAKE;
+        a = hand_down(table, "no field", 8, value);
+        unread &= a.number == (takes ? 7u : 0u) && a.index == 0;
+        unread &= memcmp(table, takes ? empty : alone, sizeof table) == 0;
+        a = hand_down(table, payload, sizeof payload - 1, value);
+        heard &= a.number == 0 && a.index == 0 && memcmp(table, takes ? told : alone, sizeof table) == 0;
+    }
+    expect("a payload that cannot be read is refused with take alone", unread);
+    expect("gossip is heard with take alone", heard);
+}
+
 /* Pages U, G and A on a small table, then refusals 3, 4, 5, 8, 10 and 1. */
 static void talk(void) {
     static uint8_t table[3 * VIENGHULAC_SLOT], before[sizeof table];
@@ -102,6 +133,10 @@ static void talk(void) {
     vienghulac_part part = vienghulac_target_key(table, sizeof table, bob, one, false, false, 0);
     expect("Bob's key", part.length == 3 && memcmp(table + part.start, "foo", 3) == 0);
 
+    a = vienghulac_process(table, sizeof table, 2000, octets(from_carol), sizeof from_carol - 1, octets(payload),
+                           sizeof payload - 1, VIENGHULAC_GOSSIP_UNSET);
+    advice = vienghulac_recommend(table, sizeof table, all, both, false, true);
+    expect("Carol's mail, gossip not asked for", a.number == 0 && advice.advice == VIENGHULAC_DISABLE);
     a = vienghulac_process(table, sizeof table, 2000, octets(from_carol), sizeof from_carol - 1, octets(payload),
                            sizeof payload - 1, VIENGHULAC_GOSSIP_TAKE);
     expect("Carol's mail", a.number == 0);
@@ -133,6 +168,7 @@ static void talk(void) {
 
 int main(void) {
     talk();
+    ask_for_gossip();
     look_for_nothing();
     const uint8_t *address = octets("Bob@b.Example"), *key = octets("foo");
     const size_t address_length = 13, length = sizeof field - 1;

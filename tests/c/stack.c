@@ -2,7 +2,8 @@
  * arguments of the other calls, are answered as on the stack of the program.
  *
  * The thread's stack is filled with a pattern first, so that what a call has touched shows how much it needs; below it
- * lies memory that no one may touch. */
+ * lies memory that no one may touch. In such memory a payload is lent, too: it is read only where gossip is asked for
+ * (G2). */
 #define _GNU_SOURCE
 #include <pthread.h>
 #include <stdlib.h>
@@ -241,6 +242,29 @@ static bool ends(answer (*call)(void), size_t size) {
     return child > 0 && waitpid(child, &status, 0) == child && WIFSIGNALED(status);
 }
 
+/* A mail with a payload that no one may touch. */
+static const uint8_t *closed;
+static uint8_t setting;
+
+static answer process_closed(void) {
+    vienghulac_answer a =
+        vienghulac_process(table, sizeof table, 1600000000, outer.octets, outer.length, closed, LONGEST, setting);
+    return (answer){{a.number, a.index, 0}};
+}
+
+static void lend_closed(void) {
+    const uint8_t settings[] = {VIENGHULAC_GOSSIP_UNSET, VIENGHULAC_GOSSIP_TAKE, VIENGHULAC_GOSSIP_SKIP, 3, 255};
+    closed = (const uint8_t *)mmap(NULL, LONGEST, PROT_NONE, MAP_PRIVATE | MAP_ANONYMOUS, -1, 0);
+    if (closed == MAP_FAILED) exit(2);
+    make_outer(&outer, SHORT);
+    memset(table, 0, sizeof table);
+    for (int i = 0; i < 5; i++) {
+        setting = settings[i];
+        bool touched = ends(process_closed, VIENGHULAC_STACK);
+        expect("only a payload that is asked for is read", touched == (setting == VIENGHULAC_GOSSIP_TAKE));
+    }
+}
+
 int main(void) {
     processes("process: both blocks short", SHORT, SHORT, 100, 0);
     processes("process: a long outer block, no payload", LONGEST, 0, 0, 0);
@@ -261,5 +285,6 @@ int main(void) {
     same("entry", entry, 0, OTHERS);
     same("write_autocrypt", write_autocrypt, 0, OTHERS);
     same("write_gossip", write_gossip, 0, OTHERS);
+    lend_closed();
     return counted();
 }

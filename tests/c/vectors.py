@@ -1,5 +1,6 @@
 #!/usr/bin/env python3
-"""vectors.py FILE COUNT: writes a file of cases for vectors.c, COUNT of each call, with what the independent program answers.
+"""vectors.py FILE COUNT: writes a file of cases for vectors.c, COUNT of each call, with what the independent program answers;
+of `process` three times as many, each mail with three settings.
 
 A case is the number of its call, its blocks (each a length and its octets), its numbers and its answer, in the order in which
 vectors.c reads them; every number has eight octets, the lowest first. VIENGHULAC_SEED=n makes other cases.
@@ -42,11 +43,13 @@ def entry(cases: Cases, table: bytes, slot: int, many: int, answer: tuple[int, i
 
 
 def made(cases: Cases) -> bytes:
-    """One case of each call."""
+    """One case of each call; of `process` one mail with three settings."""
     table = cases.table()
     one = case(CHECK, table, *tables.check(table))
     table, receipt, outer, payload, gossip = cases.processing()
-    one += case(PROCESS, table, outer, payload, receipt, gossip, *processing.process(table, receipt, outer, payload, gossip))
+    for setting in (gossip, processing.UNSET, processing.TAKE):  # G1: the same mail, gossip not asked for and asked for
+        after = processing.process(table, receipt, outer, payload, setting)
+        one += case(PROCESS, table, outer, payload, receipt, setting, *after)
     table, recipients, mutual, reply, place = cases.target()
     one += case(RECOMMEND, table, recipients, mutual, reply, *recommending.recommend(table, recipients, mutual, reply))
     part = recommending.target_key(table, recipients, mutual, reply, place)

@@ -20,7 +20,7 @@ SHORT = 4_096  # most seeds are no longer: of short inputs a fuzzer tries many m
 def one_message(cases: Cases) -> bytes:
     """The octet of choices (gossip setting, preference, reply, the moment), the two blocks and a list."""
     _, outer, payload, gossip = cases.message()
-    choices = gossip & 3 | cases.random.randrange(64) << 2
+    choices = min(gossip, 3) | cases.random.randrange(64) << 2
     return bytes([choices]) + END.join([outer, payload, cases.recipients()]) + END
 
 

@@ -104,9 +104,10 @@ class Keys(unittest.TestCase):
         self.assertRaises(NotOpened, DORA.open, reply)
 
     def test_gossip_is_not_taken_unless_wanted(self):
-        table = Table.new(4)
-        process(table, RECEIPT, head(ALICE, BOB, CAROL), gossip_field(CAROL.address, CAROL.key), Gossip.SKIP)
-        self.assertIsNone(target_key(table, CAROL.address))
+        for unwanted in ((), (Gossip.SKIP,)):
+            table = Table.new(4)
+            process(table, RECEIPT, head(ALICE, BOB, CAROL), gossip_field(CAROL.address, CAROL.key), *unwanted)
+            self.assertIsNone(target_key(table, CAROL.address))
 
 
 class TooLong(unittest.TestCase):

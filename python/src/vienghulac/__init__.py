@@ -19,6 +19,11 @@ reading the table to replacing the file:
     with open_table("correspondents.table") as table:      # a new table where there is no file
         process(table, receipt, header_block)
 
+Gossip: the payload of an encrypted mail may tell the keys of its other recipients. They are
+taken only by a call that asks for them, since each new one takes a slot of the table:
+
+    process(table, receipt, header_block, payload, Gossip.TAKE)
+
 Rules: docs/SCOPE.md of the project says what each call does, for every input.
 
 Ownership: a call borrows what it is given and keeps nothing of it. `bytes` are handed down as

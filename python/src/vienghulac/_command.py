@@ -22,7 +22,7 @@ from ._files import read_file, replace_file
 from ._mailbox import Mailbox, NoMailbox, open_mailbox
 from ._refusals import REFUSALS, Refused
 from ._shared import Locked, open_table
-from ._table import Entry, Table, entries, process, recommend, target_key
+from ._table import Entry, Gossip, Table, entries, process, recommend, target_key
 from ._usage import Command, parser
 
 _KEY_LIMIT = 2_048
@@ -110,8 +110,10 @@ def _taken_in(table: Table, name: str, mailbox: Mailbox, receipt: Optional[int])
 
 
 def _answer(table: Table, receipt: int, block: bytes) -> int:
+    """What `process` answers to one message. Gossip is asked for, though no payload is read here yet: whoever adds payloads
+    need not think of it."""
     try:
-        process(table, receipt, block)
+        process(table, receipt, block, gossip=Gossip.TAKE)
     except Refused as refused:
         return refused.number
     return 0

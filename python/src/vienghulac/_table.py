@@ -36,7 +36,7 @@ SLOTS = 256
 
 
 class Gossip(enum.IntEnum):
-    """Whether the gossip in a mail's payload is taken. With UNSET it is."""
+    """Whether the gossip in a mail's payload is taken. It is with TAKE alone: UNSET, which says nothing, skips as SKIP does."""
 
     UNSET = 0
     TAKE = 1
@@ -173,7 +173,9 @@ def process(
 
     `receipt` is when the mail came in, counted in seconds from the beginning of 1970 in UTC. `outer` is the mail's header
     block: its octets as they came in, up to the first empty line. `payload` is the header block of the root part inside a
-    decrypted mail; a mail that was not encrypted has none. Raises `Refused` (3 to 8) and leaves the table as it was, or
+    decrypted mail; a mail that was not encrypted has none. To take the gossip in it, the keys of other recipients, pass
+    `Gossip.TAKE`. With any other setting the payload is not looked at: every new address that gossip is about takes a slot,
+    so it has to be asked for. Raises `Refused` (3 to 8, and 7 only with `Gossip.TAKE`) and leaves the table as it was, or
     releases the views of keys that were handed out before.
     """
     if type(table) is not Table:
