@@ -21,7 +21,7 @@
 #include "gmime.h"
 #endif
 
-enum { FIELD_ROOM = 4096, CASES_LIMIT = 256, TAKE = 1 };
+enum { FIELD_ROOM = 4096, CASES_LIMIT = 256, UNSET = 0, TAKE = 1 };
 
 static const uint64_t receipt = 1700000000; /* also in messages.py */
 static const double window_seconds = 0.003; /* at least so long is one measurement */
@@ -142,6 +142,13 @@ static bool takes(const struct one_case *one, const char *program) {
     }
 }
 
+static bool is_unset(const struct one_case *one) { return strcmp(one->kind, "process-unset") == 0; }
+
+static bool processes(const struct one_case *one) { return strcmp(one->kind, "process") == 0 || is_unset(one); }
+
+/* What the calls of a case say about gossip. */
+static uint8_t setting_of(const struct one_case *one) { return is_unset(one) ? UNSET : TAKE; }
+
 /* One round of a case: all its calls, by one program. What the calls answer goes into `sink`, so that nothing is left out by
  * the compiler. */
 
@@ -151,10 +158,11 @@ static uint8_t *copied;
 typedef void round_of(const struct one_case *, const struct library *, uint8_t *table);
 
 static void round_process(const struct one_case *one, const struct library *library, uint8_t *table) {
+    uint8_t setting = setting_of(one);
     for (uint32_t i = 0; i < one->count; i++) {
         const struct call *call = &one->calls[i];
         sink += library->process(table, one->table.n, receipt, call->first.s, call->first.n, call->second.s, call->second.n,
-                                 TAKE).number;
+                                 setting).number;
     }
 }
 
@@ -229,7 +237,7 @@ static void add_row(const struct one_case *one, const struct library *library, c
 
 /* The round of a call, where the library has it. */
 static round_of *round_by(const struct one_case *one, const struct library *library) {
-    if (strcmp(one->kind, "process") == 0) return library->process ? round_process : NULL;
+    if (processes(one)) return library->process ? round_process : NULL;
     if (strcmp(one->kind, "recommend") == 0) return library->recommend ? round_recommend : NULL;
     if (strcmp(one->kind, "check") == 0) return library->check ? round_check : NULL;
     if (strcmp(one->kind, "write") == 0) return library->write_autocrypt ? round_write : NULL;
@@ -283,9 +291,10 @@ static bool agree(const struct one_case *one, const struct library *a, const str
     memcpy(right.s, left.s, left.n);
     for (uint32_t i = 0; i < one->count && same; i++) {
         const struct text *first = &one->calls[i].first, *second = &one->calls[i].second;
-        if (strcmp(one->kind, "process") == 0) {
-            peer_answer x = a->process(left.s, n, receipt, first->s, first->n, second->s, second->n, TAKE);
-            peer_answer y = b->process(right.s, n, receipt, first->s, first->n, second->s, second->n, TAKE);
+        if (processes(one)) {
+            uint8_t setting = setting_of(one);
+            peer_answer x = a->process(left.s, n, receipt, first->s, first->n, second->s, second->n, setting);
+            peer_answer y = b->process(right.s, n, receipt, first->s, first->n, second->s, second->n, setting);
             same = x.number == y.number && x.index == y.index;
         } else if (strcmp(one->kind, "recommend") == 0) {
             peer_advice x = a->recommend(left.s, n, first->s, first->n, true, false);

@@ -5,7 +5,8 @@
 writes one file for each case, and `cases.tsv`, which names for each file the call, the programs that take it, the group
 of rows that it belongs to, the number that the group grows with, and the used slots of its table. A file holds a table and
 the arguments of calls, each with its length before it (four octets, little-endian): the table; the number of calls; for
-each call two texts (outer block and payload; recipients and nothing; address and key).
+each call two texts (outer block and payload; recipients and nothing; address and key). `process` asks for gossip, and
+`process-unset` says nothing about it.
 
 All messages of a case have the same instant as their Date, in many zones: an equal date replaces, so that a call writes
 the same key again each time and costs the same, however often it is repeated.
@@ -272,6 +273,13 @@ def cases(few: bool):
         yield "hostile-tags", BLOCK_LIMIT // len(field), 256, "process", LIBRARIES, table, [(outer, field * (BLOCK_LIMIT // len(field)))]
         table = table_of([Entry(name) for name in long_names(256)])
         yield "hostile-addresses", 256, 256, "check", CHECKS, table, [(b"", b"")]
+
+    # Gossip that is there and is not asked for, and the same mails without it.
+    alone, among = ([make.gossiping(known, 20) for _ in range(8)] for known in ([make.sender], make.known))
+    for used in SIZES:
+        told = among if used > 1 else alone
+        yield "unasked", used, used, "process-unset", LIBRARIES, make.table(used), told
+        yield "unasked-bare", used, used, "process-unset", LIBRARIES, make.table(used), [(outer, b"") for outer, _ in told]
 
 
 def counted(octets: bytes) -> bytes:

@@ -31,6 +31,8 @@ CALLS = {
     "key": "process, with a key",
     "keyless": "process, without a key",
     "gossip": "process, with a key and 1 to 20 gossip fields",
+    "unasked": "process, with a key; 20 gossip fields, not asked for",
+    "unasked-bare": "process, the same mails without their payload",
     "recommend-1": "recommend, 1 recipient",
     "recommend-20": "recommend, 20 recipients",
     "check": "check of the whole table",
@@ -284,7 +286,7 @@ def python_table(times: Times) -> str:
     return markdown(head, rows)
 
 
-def targets(times: Times) -> str:
+def targets(times: Times, counts: Times) -> str:
     """What is aimed at, beside what was measured."""
     rows: list[list[str]] = []
 
@@ -305,6 +307,9 @@ def targets(times: Times) -> str:
         aim("recommend, 20 recipients: ours / C peer", used, between(f"recommend-20.{used}", "ours", "peer"), 2, True)
     for form, program in (("compat32, its quicker form", "email-compat"), ("its recommended policy", "email")):
         aim(f"process with a key: `email` ({form}) / ours through Python", 16, between("key.16", program, "ours-python"), 20, False)
+    for used in SIZES:
+        aim("gossip not asked for: instructions / those without a payload", used,
+            ratio(counts.get((f"unasked.{used}", "ours")), counts.get((f"unasked-bare.{used}", "ours"))), 1.02, True)
     return markdown(["target", "slots", "wanted", "measured", ""], rows)
 
 
@@ -418,7 +423,7 @@ def report(data: Path, passes: int, record: bool) -> None:
     head = f"Measured: {machine()}; best of {passes} interleaved passes; CPU time."
     missing = [] if ("key.64", "ours") in times else [
         "**To be filled by a run with the finished library: rows of ours with `-` were not there when this was measured.**"]
-    text = "\n\n".join([head] + missing + [main_table(cases, times, counts), python_table(times), targets(times), sentences])
+    text = "\n\n".join([head] + missing + [main_table(cases, times, counts), python_table(times), targets(times, counts), sentences])
     (BUILD / "table.md").write_text(text + "\n")
     print(text)
     if record:

@@ -9,7 +9,7 @@ enum {
     OUTER_FIELDS = 1 << FROM | 1 << RECIPIENTS | 1 << DATE | 1 << CONTENT_TYPE | 1 << AUTOCRYPT,
     PAYLOAD_FIELDS = 1 << AUTOCRYPT_GOSSIP,
     LISTED_LIMIT = BLOCK_LIMIT / 4, /* a@b and a comma */
-    SKIP = 2
+    TAKE = 1
 };
 
 /* The canonical addresses of To, Cc and Reply-To by their hash: 0, or an address's number and one. */
@@ -144,7 +144,7 @@ peer_answer peer_process(uint8_t *table, size_t table_length, uint64_t receipt,
     if (froms != 1 || read_list(outer.text + from->at, from->length, &only, 1) != 1) return (peer_answer){5, 0};
     if (report) return (peer_answer){6, 0};
     payload.count = 0;
-    if (gossip != SKIP && !read_block(payload_block, payload_length, PAYLOAD_FIELDS, &payload)) return (peer_answer){7, 0};
+    if (gossip == TAKE && !read_block(payload_block, payload_length, PAYLOAD_FIELDS, &payload)) return (peer_answer){7, 0};
 
     uint64_t effective = receipt;
     if (dates == 1) {
