@@ -5,6 +5,8 @@
     trace       docs/TRACE.md has a block of the one form for each rule in force, in the order of SCOPE, and no other
     citations   what is cited is a rule in force; of T8.2, that T8 has that many points
     specs       a file of definitions cites a rule, or VOCABULARY says why it has none to cite
+    changes     a line of a rule that ends with "(Change 1.)" or "(Changes 2, 4.)" says which changes brought or altered the rule; TRACE has
+                "(change 1)" or "(changes 2, 4)" behind the title of the same rules, and docs/changes/ one note for each number
     tests       each rule of the pages T to R, and each point, is cited by a test of the independent program, or ELSEWHERE says by
                 which other; and a test of the independent program that TRACE names for a rule cites it
 
@@ -117,6 +119,26 @@ def tracing(trace: str, rules: list) -> list:
     return wrong
 
 
+def changes(text: str, mark: str) -> dict:
+    """The marks of changes on the rules in force of a document, by rule: the numbers as they stand there."""
+    rules = [(rule, said.partition("\nReading:")[0]) for _, rule, said in sections(text) if not is_dropped(said)]
+    return {rule: found[1] for rule, said in rules if (found := re.search(mark, said, re.MULTILINE))}
+
+
+def in_scope(scope: str) -> dict:
+    return changes(scope, r"(?:^|(?<= ))\(Changes? (\d+(?:, \d+)*)\.\)$")
+
+
+def in_trace(trace: str) -> dict:
+    return changes(trace, r"\A.* \(changes? (\d+(?:, \d+)*)\)$")
+
+
+def marks(text: str) -> int:
+    """How many marks there are on rules in force, in their form or not."""
+    rules = "\n".join(said for _, _, said in sections(text) if not is_dropped(said))
+    return len(re.findall(r"\(changes?\s+\d", rules, re.IGNORECASE))
+
+
 def tests_in_trace(trace: str) -> dict:
     """The files that TRACE names as tests of each rule."""
     lines = {rule: re.search(r"^- tests: (.*(?:\n  .*)*)", text, re.MULTILINE) for _, rule, text in sections(trace)}
@@ -201,6 +223,16 @@ class Rules(unittest.TestCase):
     def test_trace(self):
         self.assertEqual(tracing(TRACE, list(self.rules)), [])
 
+    def test_changes(self):
+        marked = in_scope(SCOPE)
+        self.assertLessEqual({"G1", "G2"}, set(marked))
+        self.assertEqual(in_trace(TRACE), marked)
+        self.assertEqual((marks(SCOPE), marks(TRACE)), (len(marked), len(marked)))
+        notes = [int(path.name[:2]) for path in sorted((ROOT / "docs/changes").glob("[0-9][0-9]-*.md"))]
+        self.assertEqual(len(notes), len(set(notes)))
+        numbers = {int(number) for listed in marked.values() for number in listed.split(", ")}
+        self.assertEqual(sorted(numbers - set(notes)), [])
+
     def test_citations(self):
         read = {file: cited_by(file) for file in files()}
         wrong = {file: unknown(ids, self.rules) for file, ids in read.items()}
@@ -258,6 +290,17 @@ class Rules(unittest.TestCase):
             self.assertTrue(tracing(A_TRACE.replace(old, new), list(RULES)), (old, new))
         swapped = A_TRACE.replace("**T1** one", "**T0** one").replace("**T3**", "**T1**").replace("**T0**", "**T3**")
         self.assertEqual(tracing(swapped, list(RULES)), ["the order is another"])
+
+    def test_rule_of_changes(self):
+        for said, listed, many in (
+            ("A. (Change 1.)\nReading: b.", "1", 1), ("A\nb. (Changes 2, 12.)", "2, 12", 1), ("A\nb.\n(Change 1.)", "1", 1),
+            ("A. (Change 1) b.", None, 1), ("A. (Change\n1.)", None, 1), ("A. (Changes 2,4.)", None, 1), ("A.", None, 0),
+            ("A.\nReading: b. (Change 1.)", None, 1), ("Dropped. (Change 3.)", None, 0),
+        ):
+            scope = f"## T. T\n\n**T1** {said}\n\n**T2** A.\n"
+            self.assertEqual((in_scope(scope), marks(scope)), ({"T1": listed} if listed else {}, many), said)
+        trace = "## T. T\n\n**T1** one (change 1)\n- see: T2\n\n**T2** two (changes 2, 12)\n\n**T3** three\n- see: T1 (change 2)\n"
+        self.assertEqual((in_trace(trace), marks(trace)), ({"T1": "1", "T2": "2, 12"}, 3))
 
     def test_rule_of_citations(self):
         self.assertEqual(unknown({"T1", "T1.2", "R31"}, RULES), [])
