@@ -7,6 +7,7 @@ import threading
 import pytest
 from cases import Cases
 from letters import RECEIPT, ROOT, gossip, letter, table_with
+from mails import GROUP, group_mail
 from scope import processing, recommending
 from scope import table as tables
 
@@ -107,16 +108,12 @@ def test_a_payload_that_is_not_asked_for_is_not_looked_at_G2_R7():
 
 
 def test_group_mail_on_a_telephone_G1_R8():
-    """Forty slots, a hundred mails of five people to others, whose keys the payloads tell."""
+    """Forty slots, and a hundred mails of five people that tell of strangers."""
     for setting, stored, answers in (((), 5, {0}), ((Gossip.TAKE,), 40, {0, 8})):
-        table, seen = Table.new(40), set()
-        for place in range(100):
-            others = [b"s%d@x" % ((place + step) % 100) for step in range(3)]
-            outer = letter(b"p%d@x" % (place % 5), b"key", more=b"To: " + b", ".join(others) + b"\r\n")
-            told = gossip(*((other, b"key") for other in others))
-            seen.add(answered(process, table, RECEIPT + place, outer, told, *setting)[0])
+        table = Table.new(40)
+        seen = {answered(process, table, RECEIPT, outer, payload, *setting)[0] for outer, payload in group_mail()}
         assert (len(entries(table)), seen) == (stored, answers)
-        assert {b"p%d@x" % place for place in range(5)} <= {entry.address for entry in entries(table)}
+        assert {*GROUP} <= {entry.address for entry in entries(table)}
 
 
 def test_numbers_beyond_the_width_are_beyond_the_limit_R3_A7():

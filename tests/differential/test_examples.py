@@ -102,14 +102,6 @@ class EveryWay(unittest.TestCase):
         for outer, payload in MAILS:
             self.assertEqual(BOTH.process(bytes(SLOT), TIME_LIMIT + 1, outer, payload, TAKE), (3, 0, bytes(SLOT)))
 
-    def test_every_octet_as_the_setting(self):
-        """G1: any value but those of take and skip counts as unset, and only take takes."""
-        taken = table_of([examples.ALICE_SENT, examples.BOB_TOLD, examples.CAROL_TOLD])
-        skipped = table_of([examples.ALICE_SENT, None, None])
-        for setting in range(256):
-            after = BOTH.process(bytes(3 * SLOT), RECEIPT, *MAILS[1], setting)
-            self.assertEqual(after, (0, 0, taken if setting == 1 else skipped))
-
 
 if __name__ == "__main__":
     unittest.main()

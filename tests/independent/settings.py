@@ -5,7 +5,7 @@ The class is mixed into test cases, which name the `program`: whatever has the c
 
 import itertools
 
-from mails import A, B, C, RECEIPT, gossip_field, key_field, mail
+from mails import A, B, C, GROUP, RECEIPT, gossip_field, group_mail, key_field, mail
 from scope.processing import SKIP, TAKE, UNSET
 from scope.table import SLOT, TIME_LIMIT, Entry, entries, slot_of, table_of
 
@@ -59,17 +59,12 @@ class Settings:
             self.assertEqual(self.program.process(octets, *words, payload, number), (answer, 0, octets))
 
     def test_forty_slots_and_group_mail_G1_R8(self):
-        """A hundred mails of five people to others, who are told of: unless it is asked for, gossip fills no slot."""
-        people = [b"p%d@x" % place for place in range(5)]
-        strangers = [b"s%d@x" % place for place in range(100)]
+        """Unless it is asked for, the gossip of a hundred mails fills no slot: five people wrote them."""
         for setting, stored, answers in ((UNSET, 5, {0}), (TAKE, 40, {0, 8})):
             held, numbers = bytes(40 * SLOT), set()
-            for place in range(100):
-                others = [strangers[(place + step) % 100] for step in range(3)]
-                outer = mail(people[place % 5], 1000 + place, b"To: " + b", ".join(others) + b"\r\n")
-                payload = b"".join(gossip_field(other, b"k") for other in others)
+            for outer, payload in group_mail():
                 number, _, held = self.program.process(held, RECEIPT, outer, payload, setting)
                 numbers.add(number)
             addresses = [entry.address for entry in entries(held) if entry is not None]
             self.assertEqual((len(addresses), numbers), (stored, answers))
-            self.assertLessEqual(set(people), set(addresses))
+            self.assertLessEqual(set(GROUP), set(addresses))

@@ -21,9 +21,8 @@ use Rattle.outcomes.specs.OutcomesInC.{VienghulacProcess}
 -- G2: whatever the payload is, the same answer and table meet the contract as for the call without one
 abbrev pub SkippedPayload : Type 0
 SkippedPayload =
-    (table : List ℕ) (receipt : ℕ) (outer payload : List ℕ) (gossip : Gossip) (r : Answer) (left : List ℕ)
-    → taken gossip ≡ false → AllOf (Process table receipt outer payload gossip r left)
-    ↔ AllOf (Process table receipt outer [] gossip r left)
+    (table : List ℕ) (receipt : ℕ) (outer payload : List ℕ) (gossip : Gossip) (r : Answer) (left : List ℕ) → taken gossip ≡ false
+    → (AllOf (Process table receipt outer payload gossip r left) ↔ AllOf (Process table receipt outer [] gossip r left))
 
 -- G2, R7: 7 is given only where gossip is taken
 abbrev pub NeverSeven : Type 0
@@ -34,6 +33,5 @@ NeverSeven =
 -- G1, G2: in C the payload counts with the number 1 alone
 abbrev pub SkippedInC : Type 0
 SkippedInC =
-    (table : List ℕ) (receipt : ℕ) (outer payload : List ℕ) (gossip : ℕ) (r : AnswerInC) (left : List ℕ)
-    → (gossip ≡ 1 → ⊥) → AllOf (VienghulacProcess table receipt outer payload gossip r left)
-    ↔ AllOf (VienghulacProcess table receipt outer [] gossip r left)
+    (table : List ℕ) (receipt : ℕ) (outer payload : List ℕ) (gossip : ℕ) (r : AnswerInC) (left : List ℕ) → (gossip ≡ 1 → ⊥)
+    → (AllOf (VienghulacProcess table receipt outer payload gossip r left) ↔ AllOf (VienghulacProcess table receipt outer [] gossip r left))
