@@ -10,7 +10,8 @@ same cases in the same order; nothing is stored.
 
 import random
 
-from scope import base64
+from scope import base64, utf8
+from scope.address import is_canonical
 from scope.date import DAY, DAY_NAMES, HOUR, MINUTE, MONTH_NAMES, ZONE_HOURS, days_in_month
 from scope.date import days_in_year
 from scope.header import BLOCK_LIMIT
@@ -22,8 +23,33 @@ from scope.writing import write_autocrypt, write_gossip
 
 # The people who write to one another in the cases. They are few, so that tables,
 # messages and recipient lists meet.
-PEERS = [b"alice@a.example", b"bob@b.example", b"carol@c.example", b"dave@d.example",
-         b"erin@e.example", b"\xc3\xa9va@f.example", b"p=q+r@g.example", b"x@y"]
+ASCII_PEERS = [b"alice@a.example", b"bob@b.example", b"carol@c.example", b"p=q+r@g.example", b"x@y"]
+
+# L8: letters of each range of L21, letters that only look as though they had a capital there, and one whose name is not
+# well formed, so that its capital letter stays.
+ACCENTED_PEERS = ["éva@f.example".encode(), "ёжик@h.example".encode(), "σοφία.÷ÿß@i.example".encode(),
+                  b"\xc3\x89v\xff@k.example"]
+
+PEERS = ASCII_PEERS + ACCENTED_PEERS
+
+# L21: the capital of each letter that has one.
+CAPITALS = {utf8.small(point): point for point in range(0x500) if utf8.small(point) != point}
+
+# What other programs may take for a letter and its capital, or for the same letter, and L21 does not.
+NEAR_MISSES = {ord(letter): ord(other) for letter, other in
+               ["÷×", "ς\u03a2", "άΆ", "ίΊ", "ÿŸ", "ßẞ", "ѡѠ", "āĀ", "k\u212a", "i\u0130", "x×", "eе", "aа", "oо", "pр",
+                "éê", "ёе", "жѫ", "σς"]}
+
+# L20, L21: code points at the ends of what takes one to four octets, of the surrogates and of the ranges; beside the
+# ends; and those that the ranges leave out.
+EDGES = [0x80, 0x7FF, 0x800, 0xD7FF, 0xE000, 0xFFFF, 0x1_0000, 0x10_FFFF, 0xD7, 0x3A2, 0x386, 0x178, 0x1E9E, 0x460]
+EDGES += [point + beside for first, last, _ in utf8.CAPITALS[1:] for point in (first, last) for beside in (-1, 0, 1)]
+
+# L20: octets that make a text ill formed: none of a text, cut short, more than are needed, surrogates, too large.
+FAULTS = [b"\x80", b"\xbf", b"\xfe", b"\xff", b"\xf8\x88\x80\x80\x80", b"\xc3", b"\xe1\x80", b"\xf0\x90\x80",
+          b"\xc3.\x89", b"\xc0\x80", b"\xc1\x81", b"\xe0\x83\x89", b"\xe0\x9f\xbf", b"\xf0\x80\x83\x89",
+          b"\xf0\x8f\xbf\xbf",
+          b"\xed\xa0\x80", b"\xed\xbf\xbf", b"\xf4\x90\x80\x80", b"\xf5\x80\x80\x80"]
 
 # Times that messages and tables share, so that dates are equal, older and newer, and
 # gaps fall on both sides of 35 days (A3).
@@ -382,13 +408,66 @@ class Cases:
     # Addresses and lists.
 
     def peer(self) -> bytes:
-        """One of the few, in any spelling."""
+        """One of the few, in any spelling; seldom someone else with nearly the same name."""
         address = self.one(PEERS)
-        return address if self.chance(0.7) else self.any_case(address)
+        if self.chance(0.65):
+            return address
+        return self.near_miss(address) if self.chance(0.2) else self.spelled(address)
+
+    def respelled(self, address: bytes) -> bytes:
+        """An address that stands elsewhere: mostly as it is there, else in another spelling or nearly the same."""
+        if self.chance(0.6) or address.count(b"@") != 1:
+            return address
+        return self.near_miss(address) if self.chance(0.06) else self.spelled(address)
+
+    def spelled(self, address: bytes) -> bytes:
+        """The address with letters in their other case, wherever they have one by L21; so it stays the same."""
+        local, at, domain = address.partition(b"@")
+        points = utf8.points(local)
+        if points is None:
+            return self.any_case(address)
+        return utf8.encoded([self.other_case(point) for point in points]) + at + self.any_case(domain)
+
+    def other_case(self, point: int) -> int:
+        return self.one([point, CAPITALS.get(point, utf8.small(point))])
+
+    def near_miss(self, address: bytes) -> bytes:
+        """Another address that looks much like the given one: by a letter of NEAR_MISSES, or by a fault."""
+        local, at, domain = address.partition(b"@")
+        points = utf8.points(local)
+        if points is None:
+            # L21: the capitals beyond ASCII stay here, and what the longer map would make of them is another address.
+            return local.replace(b"\xc3\x89", b"\xc3\xa9") + at + domain
+        places = [place for place, point in enumerate(points) if point in NEAR_MISSES]
+        if places and self.chance(0.75):
+            place = self.one(places)
+            points[place] = NEAR_MISSES[points[place]]
+            return utf8.encoded(points) + at + domain
+        return self.faulty(self.spelled(address))
+
+    def faulty(self, address: bytes) -> bytes:
+        """The address with a fault somewhere in its local part, which is no more well formed, but still plain."""
+        local, at, domain = address.partition(b"@")
+        points = utf8.points(local) or []
+        cut = len(utf8.encoded(points[:self.random.randint(0, len(points))]))
+        return local[:cut] + self.one(FAULTS) + local[cut:] + at + domain
+
+    def accented(self) -> bytes:
+        """A plain address of code points at the edges of L20 and L21, sometimes with a fault."""
+        atoms = []
+        for _ in range(self.random.randint(1, 2)):
+            atoms.append([self.one([self.one(EDGES), self.one(EDGES), self.one(list(CAPITALS)), self.one(LETTERS),
+                                    self.one(list(CAPITALS.values())), self.one(list(NEAR_MISSES.values()))])
+                          for _ in range(self.random.randint(1, 6))])
+        address = b".".join(utf8.encoded(points) for points in atoms) + b"@" + self.any_case(self.one([b"b", b"x.y"]))
+        return self.faulty(address) if self.chance(0.3) else address
 
     def edge_address(self) -> bytes:
         """An address at or beside one of its limits."""
-        kind = self.random.randrange(4)
+        kind = self.random.randrange(5)
+        if kind == 4:
+            # As many letters of two octets as there is room for, and one octet less or more.
+            return "ЯÉЀ".encode() * 10 + self.one([b"", b"x", "é".encode(), "Éx".encode(), "éЯ".encode()]) + b"@b"
         if kind == 0:
             return b"a" * self.near(64) + b"@b.example"
         if kind == 1:
@@ -403,9 +482,11 @@ class Cases:
 
     def address(self) -> bytes:
         """An address argument: one of the few, any plain one, at a limit, or mutated."""
-        kind = self.random.randrange(10)
+        kind = self.random.randrange(12)
         if kind < 4:
             return self.peer()
+        if kind >= 10:
+            return self.accented()
         if kind < 6:
             local = b".".join(self.some(LETTERS + DIGITS + ATOM_SIGNS + HIGH, 1, 6)
                               for _ in range(self.random.randint(1, 3)))
@@ -539,7 +620,7 @@ class Cases:
         """The values of all Autocrypt fields of a message."""
         values = []
         for _ in range(self.one([0, 1, 1, 1, 1, 2])):
-            values.append(self.field_value(sender if self.chance(0.9) else None))
+            values.append(self.field_value(self.respelled(sender) if self.chance(0.9) else None))
         if values and self.chance(0.05):
             values.append(values[0])
         return values
@@ -650,19 +731,18 @@ class Cases:
                     entry.autocrypt_timestamp = max(0, entry.last_seen - gap)
                 entry.direct_key = self.good_key()
                 entry.mutual = self.chance(0.6)
-        if self.chance(0.5):
+        if self.chance(0.6):
             entry.gossip_timestamp = self.close_moment()
             entry.gossip_key = self.good_key()
         return entry
 
     def held(self) -> list[Entry | None]:
         """The entries of a sound table, some of its slots free."""
-        addresses = list(PEERS)
-        self.random.shuffle(addresses)
+        addresses = self.known()
         if self.chance(0.01):
             size = self.one([SLOTS_LIMIT - 1, SLOTS_LIMIT])
         else:
-            size = self.one([1, 1, 2, 2, 3, 4, 5, 6, 8, 10, 14])
+            size = self.one([1, 1, 2, 2, 3, 4, 6, 8, 10, 12, 14])
         full = self.chance(0.3)
         held: list[Entry | None] = []
         for place in range(size):
@@ -674,15 +754,103 @@ class Cases:
                 held.append(None)
         return held
 
+    def known(self) -> list[bytes]:
+        """Canonical addresses for the slots of a table, in any order: the few, sometimes with a near miss of one."""
+        near = self.near_miss(self.one(ACCENTED_PEERS))
+        addresses = PEERS + [near] if self.chance(0.3) and is_canonical(near) else list(PEERS)
+        self.random.shuffle(addresses)
+        return addresses
+
     def sound_table(self) -> bytes:
         return table_of(self.held())
+
+    # Tables of the old canonical form (T16).
+
+    def old_spellings(self, form: bytes, many: int) -> list[bytes]:
+        """Spellings of one canonical form without an ASCII capital, so many or as many as there are, in any order."""
+        local, at, domain = form.partition(b"@")
+        points = utf8.points(local)
+        spellings = [[]]
+        for point in points or []:
+            cases = {point, CAPITALS.get(point, point)} if point >= 0x80 else {point}
+            spellings = [spelling + [case] for spelling in spellings for case in sorted(cases)]
+            self.random.shuffle(spellings)
+            del spellings[many:]
+        return [form] if points is None else [utf8.encoded(spelling) + at + domain for spelling in spellings]
+
+    def old_entry(self, address: bytes, moment: int) -> Entry:
+        """An entry with times at the given moment or a second later, so that many are equal; each may be absent."""
+        entry = Entry(address)
+        if self.chance(0.1):
+            return entry
+        if self.chance(0.75):
+            entry.last_seen = moment + self.one([0, 0, 1])
+            if self.chance(0.75):
+                entry.autocrypt_timestamp = min(moment + self.one([0, 0, 1]), entry.last_seen)
+                entry.direct_key, entry.mutual = self.good_key(), self.chance(0.5)
+        if self.chance(0.6):
+            entry.gossip_timestamp, entry.gossip_key = moment + self.one([0, 0, 1]), self.good_key()
+        return entry
+
+    def old_held(self) -> list[Entry | None]:
+        """The entries of a table that is sound by the old rule: spellings of a few forms, others between, and gaps."""
+        moment = self.one([0, 0, 1000, TIME_LIMIT - 1])
+        if self.chance(0.004):
+            # All slots of the longest table: one group, or some.
+            forms = self.one([["àáâãäåæç@x".encode()], ["éв%dа@x".encode() % place for place in range(32)]])
+            addresses = [one for form in forms for one in self.old_spellings(form, SLOTS_LIMIT // len(forms))]
+        else:
+            forms = self.random.sample(ACCENTED_PEERS, self.one([1, 1, 2, 3]))
+            addresses = [one for form in forms for one in self.old_spellings(form, self.one([1, 2, 2, 3, 3, 4, 5]))]
+            addresses += self.random.sample(ASCII_PEERS, self.one([0, 1, 2]))
+        self.random.shuffle(addresses)
+        tied = self.chance(0.7)
+        held: list[Entry | None] = []
+        for address in addresses:
+            held.append(self.old_entry(address, moment) if tied else self.entry(address))
+        for _ in range(self.one([0, 0, 1, 2, 4])):
+            if len(held) < SLOTS_LIMIT:
+                held.insert(self.random.randint(0, len(held)), None)
+        return held
+
+    def old_table(self) -> bytes:
+        return table_of(self.old_held())
+
+    def conversion(self) -> bytes:
+        """A table for `convert`: mostly one that is sound by the old rule, with groups in it."""
+        octets = self.old_table()
+        kind = self.random.randrange(20)
+        if kind == 0:
+            # Of a wrong length.
+            return self.one([b"", b"\0", octets[:-1], octets + b"\0", octets[:self.random.randrange(len(octets))],
+                             octets.ljust((SLOTS_LIMIT + 1) * SLOT, b"\0")])
+        at = self.random.randrange(len(octets) // SLOT) * SLOT
+        if kind in (1, 2):
+            # Broken, as a rule by either rule.
+            return octets[:at] + self.broken_slot() + octets[at + SLOT:]
+        if kind == 3:
+            # An ASCII capital, which neither rule has; here and there beside one that is broken.
+            capital = self.entry(self.one([b"Alice@a.example", b"x@Y", "éVa@f.example".encode(),
+                                           "ÉVA@f.example".encode(), b"\xc3\x89V\xff@k.example"]))
+            octets = octets[:at] + slot_of(capital) + octets[at + SLOT:]
+            return octets + self.broken_slot() if self.chance(0.3) else octets
+        if kind == 4:
+            # One slot twice: one spelling, whether it is canonical or not.
+            return (octets + octets[at:at + SLOT])[-SLOTS_LIMIT * SLOT:]
+        if kind in (5, 6):
+            # T19: sound already.
+            return self.sound_table()
+        return octets
 
     def broken_slot(self) -> bytes:
         """A slot that breaks one condition of soundness (T8), as a rule exactly one."""
         entry = self.entry(self.one(PEERS))
-        kind = self.random.randrange(15)
+        kind = self.random.randrange(16)
         if kind == 0:
             entry.address = self.address()[:256]
+        elif kind == 15:
+            # T20: a spelling of the old form; in one of a few cases it is the canonical one.
+            entry.address = self.one(self.old_spellings(self.one(ACCENTED_PEERS), 8))
         elif kind == 12:
             # Mutual without a direct key.
             entry = Entry(entry.address, entry.last_seen, mutual=True)
@@ -738,6 +906,9 @@ class Cases:
             # One slot stands twice, or a slot of an equal address.
             at = self.random.randrange(len(octets) // SLOT) * SLOT
             return octets + octets[at:at + SLOT]
+        if kind == 4 and self.chance(0.8):
+            # T20: one that was not converted.
+            return self.old_table()
         return octets
 
     def listing_input(self) -> bytes:
@@ -800,7 +971,7 @@ class Cases:
             return b""
         lines = []
         for _ in range(self.random.randint(0, 4)):
-            address = self.one(listed) if self.chance(0.8) else None
+            address = self.respelled(self.one(listed)) if self.chance(0.8) else None
             lines.append(self.field(b"Autocrypt-Gossip", self.field_value(address)))
         if self.chance(0.2):
             # B12: fields of the payload that are not looked at.
@@ -829,8 +1000,7 @@ class Cases:
         """Table, recipients, own preference and whether the mail is a reply."""
         if self.chance(0.5):
             # Every peer known, so that long lists are not always disable.
-            addresses = list(PEERS)
-            self.random.shuffle(addresses)
+            addresses = self.known()
             fresh = self.chance(0.5)
             held = []
             for address in addresses:

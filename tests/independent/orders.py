@@ -13,6 +13,14 @@ from scope.table import TIME_LIMIT, Entry, entries, table_of
 
 ONE, TWO = b"one", b"two"
 
+# Someone whose name has accents, and two spellings from before change 2 (L8, T16).
+ZOE, OLD_ZOE, OTHER_ZOE = [text.encode() for text in ("zoëя@x.example", "zoËя@x.example", "zoëЯ@x.example")]
+
+
+def loud(address: bytes) -> bytes:
+    """The address in capitals, those beyond ASCII included."""
+    return address.decode().upper().encode()
+
 
 @dataclass
 class Call:
@@ -130,13 +138,25 @@ class EachPremise:
     def test_a_sound_table_C11(self):
         # Every call refuses any other table and leaves it, so that it has no entries to speak of.
         calls = [keyed(A, 1000, ONE), keyed(A, 2000, TWO)]
-        for table, number in [(b"", 1), (table_of([Entry(B, 1, 2, ONE)]), 2)]:
+        for table, number in [(b"", 1), (table_of([Entry(B, 1, 2, ONE)]), 2), (table_of([Entry(OLD_ZOE, 1), None]), 2)]:
             self.assertEqual(self.program.check(table)[0], number)
             for order in itertools.permutations(calls):
                 self.assertEqual(fetch(self.program, table, list(order)), ([number, number], table))
 
+    def test_a_converted_table_C11(self):
+        # T20: one from before change 2 is converted first; then the order does not matter.
+        old = table_of([Entry(OLD_ZOE, 500, 500, ONE), Entry(ZOE, 900, gossip_timestamp=700, gossip_key=TWO), None])
+        number, _, table = self.program.convert(old)
+        self.assertEqual(number, 0)
+        calls = [keyed(loud(ZOE), 1000, TWO), keyed(A, 2000, ONE), telling(A, 600, (OTHER_ZOE, ONE))]
+        for order in itertools.permutations(calls):
+            numbers, after = fetch(self.program, table, list(order))
+            self.assertEqual(numbers, [0, 0, 0])
+            self.assertEqual(by_address(after), {ZOE: Entry(ZOE, 1000, 1000, TWO, False, 700, TWO),
+                                                 A: Entry(A, 2000, 2000, ONE)})
 
-PEOPLE = (A, B, C, D)
+
+PEOPLE = (A, B, C, ZOE)
 STRANGER = b"e@x.example"
 
 
@@ -154,7 +174,7 @@ class Agreeing:
         date = self.random.randrange(1, 6)
         sender = self.random.choice(PEOPLE)
         about = self.random.sample(PEOPLE, self.random.randrange(4))
-        to, payload = told(*((address.upper(), b"told %d " % date + address) for address in about))
+        to, payload = told(*((loud(address), b"told %d " % date + address) for address in about))
         # Its last field counts, and a field about someone else is not accepted.
         if about and self.one_in(3):
             payload = gossip_field(about[0], b"unlike the next") + payload
@@ -162,7 +182,7 @@ class Agreeing:
             payload += gossip_field(STRANGER, b"never heard")
         # The effective date is the Date, the receipt time without one, or the receipt time before it.
         sent, receipt = self.random.choice([(date, RECEIPT), (date, RECEIPT), (None, date), (date + 9, date)])
-        outer = mail(sender, sent, to, *self.key_fields(sender, date))
+        outer = mail(self.random.choice([sender, loud(sender)]), sent, to, *self.key_fields(sender, date))
         gossip = self.random.choice([UNSET, SKIP, 3, 255]) if self.one_in(6) else TAKE
         call = Call(outer, payload, gossip, receipt)
         return self.refused(call) if self.one_in(4) else call

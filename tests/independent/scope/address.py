@@ -1,5 +1,6 @@
 """Plain addresses, their canonical form, and lists of them."""
 
+from scope import utf8
 from scope.tokens import (QUOTE, atom_end, is_atom_octet, is_digit, is_letter, quoted, skip)
 
 # L6, L7: no more octets than these in an address, its local part and a label.
@@ -50,8 +51,35 @@ def is_label(octets: bytes) -> bool:
 
 def canonical(octets: bytes) -> bytes:
     """The canonical form of a plain address."""
-    # L8: small letters for ASCII capitals, before and behind the `@`; no other change.
+    # L8: the local part by L20 and L21; of the domain the ASCII capitals alone.
+    local, at, domain = octets.partition(b"@")
+    return small_local_part(local) + at + small_ascii(domain)
+
+
+def small_local_part(octets: bytes) -> bytes:
+    # L20: the local part is judged as a whole, with its dots.
+    points = utf8.points(octets)
+    # L21: where it is not well formed, the ASCII capitals alone, on both sides of the fault.
+    if points is None:
+        return small_ascii(octets)
+    # L21: else code point by code point.
+    return utf8.encoded([utf8.small(point) for point in points])
+
+
+def small_ascii(octets: bytes) -> bytes:
+    """Small letters for ASCII capitals; no other change."""
     return bytes(octet + 32 if ord("A") <= octet <= ord("Z") else octet for octet in octets)
+
+
+def is_canonical(octets: bytes) -> bool:
+    # L8: a plain address that is its own canonical form.
+    return is_plain(octets) and canonical(octets) == octets
+
+
+def is_old_canonical(octets: bytes) -> bool:
+    """Whether the octets were a canonical address while only ASCII capitals were made small."""
+    # T16: a plain address without an ASCII capital; whatever becomes of L6 to L8, this stays.
+    return is_plain(octets) and small_ascii(octets) == octets
 
 
 def addresses(value: bytes) -> list[bytes] | None:

@@ -1,8 +1,9 @@
 """The table: its slots, their soundness, and the entries they hold."""
 
+from collections.abc import Callable
 from dataclasses import dataclass
 
-from scope.address import canonical, is_plain
+from scope.address import canonical, is_canonical, is_old_canonical
 
 # T1: the octets of a slot, and the slots that a table may have.
 SLOT = 4_392
@@ -39,6 +40,7 @@ DIRECT_KEY_AT = (296, 2344)
 GOSSIP_KEY_AT = (2344, 4392)
 
 Place = tuple[int, int]
+AddressTest = Callable[[bytes], bool]
 
 # T14: a slot is told in so many numbers: whether it is used, its bits, last seen, the
 # Autocrypt and the gossip timestamp, and start and length of address, direct key and gossip
@@ -78,6 +80,18 @@ def slots(table: bytes) -> list[bytes]:
 
 def check(table: bytes) -> tuple[int, int]:
     """The refusal number a table gives, 0 for none, and the index that 2 carries."""
+    # T8.2: addresses are canonical. T20: so an old spelling gives 2 in every call but `convert`.
+    return refusal_by(is_canonical, table)
+
+
+def check_by_old_rule(table: bytes) -> tuple[int, int]:
+    """The same, where a table of the old canonical form is sound."""
+    # T16, R2: another test of the address, and no other difference.
+    return refusal_by(is_old_canonical, table)
+
+
+def refusal_by(is_address: AddressTest, table: bytes) -> tuple[int, int]:
+    """What a table gives where the addresses of sound slots pass the test."""
     # R1, T1: whole slots, at least 1 and at most 256.
     if len(table) % SLOT != 0 or not 1 <= len(table) // SLOT <= SLOTS_LIMIT:
         return 1, 0
@@ -88,7 +102,7 @@ def check(table: bytes) -> tuple[int, int]:
             continue
         # T8.3: no lower slot has the address. T12: they are compared as they stand, and a
         # lower slot that is broken was answered before this one.
-        if not is_sound_alone(slot) or address_of(slot) in lower:
+        if not is_sound_alone(slot, is_address) or address_of(slot) in lower:
             return 2, index
         lower.append(address_of(slot))
     return 0, 0
@@ -103,15 +117,15 @@ def address_of(slot: bytes) -> bytes:
     return octets(slot, ADDRESS_AT)[:number(slot, ADDRESS_LENGTH_AT)]
 
 
-def is_sound_alone(slot: bytes) -> bool:
+def is_sound_alone(slot: bytes, is_address: AddressTest = is_canonical) -> bool:
     """Every condition of a sound used slot but that on the lower slots."""
     # T8.1: it opens with the mark.
     if octets(slot, MARK_AT) != USED:
         return False
-    # T8.2: the address is canonical. T9: so it ends at 254 octets, though the room has 256; a
-    # length beyond the room gives all of the room, which is no plain address.
-    address = address_of(slot)
-    if not is_plain(address) or canonical(address) != address:
+    # T8.2: the address passes the test, that of a canonical one or the old one (T16). T9: both
+    # ask for a plain address, so it ends at 254 octets, though the room has 256; a length beyond
+    # the room gives all of the room, which is no plain address.
+    if not is_address(address_of(slot)):
         return False
     # T8.4: no other bit is set, and the unused octets are zero.
     bits = slot[BITS_AT]

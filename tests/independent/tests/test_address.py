@@ -1,8 +1,9 @@
-"""L2 to L19: plain addresses, their canonical form, and lists."""
+"""L2 to L21: plain addresses, their canonical form, and lists."""
 
 import unittest
 
-from scope.address import addresses, canonical, is_plain
+from cases import Cases
+from scope.address import addresses, canonical, is_canonical, is_old_canonical, is_plain
 
 CONTROLS = [octet for octet in list(range(32)) + [127] if octet != 9]
 ATOM_SIGNS = b"!#$%&'*+-/=?^_`{|}~"
@@ -73,12 +74,91 @@ class Canonical(unittest.TestCase):
     def test_ascii_letters_on_both_sides_L8(self):
         self.assertEqual(canonical(b"Alice.B@EXAMPLE.Org"), b"alice.b@example.org")
 
-    def test_all_else_stays_L8(self):
+    def test_single_octets_L8(self):
+        # L21: one octet from 128 on is not well formed, and stays.
         for octet in range(256):
             one = bytes([octet])
             expected = bytes([octet + 32]) if 65 <= octet <= 90 else one
-            self.assertEqual(canonical(one), expected, octet)
-        self.assertEqual(canonical(b"\xc3\x89@b"), b"\xc3\x89@b")
+            self.assertEqual(canonical(one + b"@b"), expected + b"@b", octet)
+            self.assertEqual(canonical(b"a@b" + one), b"a@b" + expected, octet)
+
+    def test_the_table_of_L8(self):
+        for given, form in [(b"Bob.B@X.Example", b"bob.b@x.example"),
+                            ("ÀÞ×ß@X".encode(), "àþ×ß@x".encode()),
+                            ("ΑΩΫ@x".encode(), "αωϋ@x".encode()),
+                            ("АЯЀЏ@x".encode(), "аяѐџ@x".encode()),
+                            ("Ā@x".encode(), "Ā@x".encode()),
+                            ("Ö.".encode() + b"\xffA@x", "Ö.".encode() + b"\xffa@x")]:
+            self.assertTrue(is_plain(given), given)
+            self.assertEqual(canonical(given), form, given)
+            self.assertTrue(is_canonical(form), form)
+            self.assertFalse(is_canonical(given) and given != form, given)
+
+    def test_every_letter_of_the_ranges_L8_L21(self):
+        for capitals, letters in [("ÀÁÂÃÄÅÆÇÈÉÊËÌÍÎÏÐÑÒÓÔÕÖØÙÚÛÜÝÞ", "àáâãäåæçèéêëìíîïðñòóôõöøùúûüýþ"),
+                                  ("ΑΒΓΔΕΖΗΘΙΚΛΜΝΞΟΠΡΣΤΥΦΧΨΩΪΫ", "αβγδεζηθικλμνξοπρστυφχψωϊϋ"),
+                                  ("АБВГДЕЖЗИЙКЛМНОПРСТУФХЦЧШЩЪЫЬЭЮЯ", "абвгдежзийклмнопрстуфхцчшщъыьэюя"),
+                                  ("ЀЁЂЃЄЅІЇЈЉЊЋЌЍЎЏ", "ѐёђѓєѕіїјљњћќѝўџ")]:
+            self.assertEqual(len(capitals), len(letters))
+            for capital, letter in zip(capitals, letters):
+                self.assertEqual(canonical(f"x{capital}Y@z".encode()), f"x{letter}y@z".encode(), capital)
+            # L6: 32 of two octets each are as many as there may be.
+            self.assertEqual(canonical(f"{capitals}@z".encode()), f"{letters}@z".encode())
+
+    def test_near_misses_are_other_addresses_L8_L21(self):
+        for one, other in ["×÷", "\u03a2\u03c2", "Άά", "Ÿÿ", "ẞß", "Ѡѡ", "Āā", "Σς", "ΈE", "Ёе", "Éê", "\u212ak",
+                           "\u212bå", "\u0130i", "Ω\u2126", "Аa"]:
+            self.assertNotEqual(canonical(f"{one}@b".encode()), canonical(f"{other}@b".encode()), (one, other))
+        # A letter and an accent of its own are two code points, and stay two.
+        self.assertEqual(canonical("E\u0301@b".encode()), "e\u0301@b".encode())
+
+    def test_one_fault_anywhere_L20_L21(self):
+        for fault in [b"\xff", b"\x80", b"\xc3", b"\xc1\x81", b"\xe0\x83\x89", b"\xed\xa0\x80", b"\xf4\x90\x80\x80",
+                      b"\xf0\x90\x80", b"\xc3.\x89"]:
+            for given, form in [(fault + "ÉA.ΩБ@X".encode(), fault + "Éa.ΩБ@x".encode()),
+                                ("ÉA.ΩБ".encode() + fault + b"@X", "Éa.ΩБ".encode() + fault + b"@x"),
+                                ("ÉA".encode() + fault + "A.ΩБ@X".encode(), "Éa".encode() + fault + "a.ΩБ@x".encode()),
+                                ("ÉA.".encode() + fault + ".ΩБ@X".encode(), "Éa.".encode() + fault + ".ΩБ@x".encode())]:
+                self.assertTrue(is_plain(given), given)
+                self.assertEqual(canonical(given), form, given)
+        # Without the fault all of it becomes small.
+        self.assertEqual(canonical("ÉA.ΩБ@X".encode()), "éa.ωб@x".encode())
+
+    def test_ascii_addresses_are_as_ever_L8(self):
+        cases = Cases(8)
+        drawn = [address for address in (cases.address() for _ in range(3000)) if address.isascii()]
+        self.assertGreater(len(drawn), 1000)
+        for address in drawn:
+            self.assertEqual(canonical(address), address.lower(), address)
+
+    def test_beside_the_codec_of_python_L8_L20_L21(self):
+        """The local part decoded, letter by letter as `str.lower` has it inside the ranges, and encoded."""
+        cases = Cases(8)
+        ranges = [range(0x41, 0x5B), range(0xC0, 0xDF), range(0x391, 0x3AC), range(0x400, 0x430)]
+        letters = {point: chr(point).lower() for one in ranges for point in one}
+        answers = set()
+        for _ in range(6000):
+            address = cases.accented() if cases.chance(0.7) else cases.peer()
+            local, _, domain = address.partition(b"@")
+            try:
+                form = local.decode("utf-8").translate(letters).encode("utf-8") + b"@" + domain.lower()
+            except UnicodeDecodeError:
+                form = address.lower()
+            self.assertEqual(canonical(address), form, address)
+            self.assertEqual(len(form), len(address))
+            # L8: its own canonical form.
+            self.assertEqual(canonical(form), form, address)
+            self.assertEqual(is_canonical(address), is_plain(address) and form == address, address)
+            answers.add((is_canonical(address), is_old_canonical(address)))
+        # T19: what is canonical was so by the old rule, too.
+        self.assertEqual(answers, {(False, False), (False, True), (True, True)})
+
+    def test_the_old_rule_T16(self):
+        for text in [b"a@b", "é@b".encode(), "É@b".encode(), "ΑЯ.ß@b".encode(), b"\xff@b", b"a" * 64 + b"@b"]:
+            self.assertTrue(is_old_canonical(text), text)
+        for text in [b"A@b", b"a@B", "Éa.Z@b".encode(), b"\xffA@b", b"", b"a", b"a@b.", b"a" * 65 + b"@b",
+                     "a@é".encode()]:
+            self.assertFalse(is_old_canonical(text), text)
 
 
 class Single(unittest.TestCase):

@@ -10,9 +10,9 @@ import unittest
 from collections import Counter
 
 import scope
-from cases import Cases
-from scope import (address, base64, date, header, keyfield, listing, processing, recommending, table,
-                   tokens, writing)
+from cases import CAPITALS, NEAR_MISSES, PEERS, Cases
+from scope import (address, base64, conversion, date, header, keyfield, listing, processing, recommending, table,
+                   tokens, utf8, writing)
 from scope.processing import SKIP, TAKE, UNSET
 from scope.table import SLOT
 
@@ -21,9 +21,9 @@ SEED = 20171107
 
 class Determinism(unittest.TestCase):
     METHODS = ["base64_text", "comment_text", "quoted_text", "runs", "date_value", "dates",
-               "header_block", "content_type", "address", "address_list", "recipients", "field_value",
-               "key", "table", "broken_slot", "listing_input", "message", "processing", "recommending",
-               "target", "one_slot", "writing", "writing_gossip"]
+               "header_block", "content_type", "address", "accented", "address_list", "recipients", "field_value",
+               "key", "table", "broken_slot", "old_table", "listing_input", "message", "processing", "recommending",
+               "target", "one_slot", "writing", "writing_gossip", "conversion"]
 
     def drawn(self, seed: int) -> list:
         cases = Cases(seed)
@@ -168,7 +168,7 @@ class Calls(unittest.TestCase):
     def test_processing(self):
         cases = Cases(SEED)
         numbers, events = Counter(), Counter()
-        for _ in range(1200):
+        for _ in range(2000):
             octets, receipt, outer, payload, gossip = cases.processing()
             number, index, after = processing.process(octets, receipt, outer, payload, gossip)
             numbers[number] += 1
@@ -295,6 +295,200 @@ class Calls(unittest.TestCase):
         self.assertLessEqual({b"mutual", b"none", b"-", b"0", b"2048"}, words)
 
 
+def sort_of(octets: bytes) -> str:
+    """Which sort of spelling an address is, as the rules of names with accents tell them apart (L8, L20, L21)."""
+    local = octets.split(b"@")[0]
+    points = utf8.points(local)
+    if points is None:
+        return "ill formed"
+    if set(points) & set(NEAR_MISSES.values()) - set(CAPITALS) and address.canonical(octets) not in PEERS:
+        return "near miss"
+    if address.small_ascii(octets) != address.canonical(octets):
+        return "equal by the longer map"
+    return "ASCII" if octets.isascii() else "accents"
+
+
+SORTS = {"ill formed", "near miss", "equal by the longer map", "ASCII", "accents"}
+
+
+class Spellings(unittest.TestCase):
+    """L8, L20, L21: each sort of spelling stands wherever an address may stand, and ASCII mail is still the most."""
+
+    def drawn(self, sorts: Counter, least: int) -> None:
+        self.assertEqual(set(sorts), SORTS)
+        self.assertGreater(min(sorts.values()), least, sorts)
+        self.assertGreater(sorts["ASCII"] / sum(sorts.values()), 0.4, sorts)
+
+    def messages(self, many: int) -> list[tuple[list, list]]:
+        """The fields of readable messages, of the outer block and of the payload."""
+        cases = Cases(SEED)
+        found = []
+        for _ in range(many):
+            _, outer, payload, _ = cases.message()
+            outer_fields, payload_fields = header.fields(outer), header.fields(payload)
+            if outer_fields is not None and payload_fields is not None:
+                found.append((outer_fields, payload_fields))
+        return found
+
+    def test_peers_L8(self):
+        for peer in PEERS:
+            self.assertTrue(address.is_canonical(peer), peer)
+
+    def test_peers_are_near_but_not_the_same_L8(self):
+        cases = Cases(SEED)
+        for _ in range(2000):
+            peer = cases.one(PEERS)
+            spelling, near, faulty = cases.spelled(peer), cases.near_miss(peer), cases.faulty(peer)
+            self.assertEqual(address.canonical(spelling), peer)
+            self.assertNotEqual(address.canonical(near), peer)
+            self.assertTrue(address.is_plain(near), near)
+            self.assertIsNone(utf8.points(faulty.split(b"@")[0]), faulty)
+            self.assertTrue(address.is_plain(faulty), faulty)
+
+    def test_from_and_lists(self):
+        senders, listed = Counter(), Counter()
+        for outer, _ in self.messages(3000):
+            for name, value in outer:
+                found = address.addresses(value) or []
+                if header.same_name(name, b"From"):
+                    senders.update(map(sort_of, found))
+                elif any(header.same_name(name, other) for other in (b"To", b"Cc", b"Reply-To")):
+                    listed.update(map(sort_of, found))
+        self.drawn(senders, 40)
+        self.drawn(listed, 60)
+
+    def test_recipients(self):
+        cases = Cases(SEED)
+        sorts = Counter()
+        for _ in range(1500):
+            sorts.update(map(sort_of, address.addresses(cases.recipients()) or []))
+        self.drawn(sorts, 60)
+
+    def test_addr_and_gossip(self):
+        own, told = Counter(), Counter()
+        for outer, payload in self.messages(3000):
+            for fields, name, sorts in ((outer, b"Autocrypt", own), (payload, b"Autocrypt-Gossip", told)):
+                for value in header.values_of(fields, name):
+                    pieces = [piece.split(b"=", 1) for piece in value.split(b";") if b"=" in piece]
+                    sorts.update(sort_of(addr.strip()) for word, addr in pieces
+                                 if word.strip() == b"addr" and address.is_plain(addr.strip()))
+        self.drawn(own, 40)
+        self.drawn(told, 40)
+
+    def test_two_spellings_in_one_message(self):
+        """Fields that count, and gossip that is accepted, by the longer map alone; and such as are nearly so."""
+        met = Counter()
+        for outer, payload in self.messages(3000):
+            sender = processing.sender_of(outer)
+            if sender is None:
+                continue
+            spelled = address.addresses(header.values_of(outer, b"From")[0])[0]
+            for value in header.values_of(outer, b"Autocrypt"):
+                addr = self.addr(value)
+                if addr is not None and address.small_ascii(addr) != address.small_ascii(spelled):
+                    met["addr", address.canonical(addr) == sender] += 1
+            listed = [one for name in (b"To", b"Cc", b"Reply-To") for value in header.values_of(outer, name)
+                      for one in address.addresses(value) or []]
+            for value in header.values_of(payload, b"Autocrypt-Gossip"):
+                addr = self.addr(value)
+                if addr is not None and address.small_ascii(addr) not in map(address.small_ascii, listed):
+                    met["gossip", address.canonical(addr) in map(address.canonical, listed)] += 1
+        self.assertEqual(set(met), {("addr", True), ("addr", False), ("gossip", True), ("gossip", False)})
+        self.assertGreater(min(met.values()), 40, met)
+
+    def addr(self, value: bytes) -> bytes | None:
+        """The address of a field that is valid in form, as it is spelled there."""
+        if keyfield.read(value) is None:
+            return None
+        return next(addr.strip() for word, _, addr in (piece.partition(b"=") for piece in value.split(b";"))
+                    if word.strip() == b"addr")
+
+    def test_slots(self):
+        """The slots of sound tables are canonical, and those of tables that were not converted need not be."""
+        cases = Cases(SEED)
+        sound, old, broken = Counter(), Counter(), Counter()
+        for _ in range(1500):
+            for sorts, octets in ((sound, cases.sound_table()), (old, cases.old_table())):
+                sorts.update(sort_of(entry.address) for entry in table.entries(octets) if entry is not None)
+            octets = cases.table()
+            if table.check(octets)[0] == 2:
+                slot = table.slots(octets)[table.check(octets)[1]]
+                broken[address.is_old_canonical(table.address_of(slot)), table.check_by_old_rule(octets)[0]] += 1
+        self.assertEqual(set(sound), SORTS - {"equal by the longer map"})
+        self.assertEqual(set(old), SORTS - {"near miss"})
+        self.assertGreater(min(sound.values()), 40, sound)
+        self.assertGreater(min(old.values()), 40, old)
+        # T20: tables that the old rule alone has for sound.
+        self.assertGreater(broken[True, 0], 20, broken)
+
+    def test_arguments(self):
+        cases = Cases(SEED)
+        drawn = [cases.address() for _ in range(3000)]
+        sorts = Counter(sort_of(octets) for octets in drawn if address.is_plain(octets))
+        self.assertEqual(set(sorts), SORTS)
+        self.assertGreater(min(sorts.values()), 60, sorts)
+        accented = [cases.accented() for _ in range(1500)]
+        self.assertTrue(all(address.is_plain(octets) for octets in accented))
+        points = {point for octets in accented for point in utf8.points(octets.split(b"@")[0]) or []}
+        self.assertLessEqual({0xC0, 0xD7, 0xDE, 0xDF, 0x390, 0x391, 0x3A2, 0x3AB, 0x3AC, 0x3FF, 0x400, 0x40F, 0x410,
+                              0x42F, 0x430, 0x178, 0x386, 0x460, 0x1E9E, 0xD7FF, 0xE000, 0x10FFFF}, points)
+
+
+class Conversions(unittest.TestCase):
+    """T16 to T19: what `convert` is given."""
+
+    def test_tables(self):
+        cases = Cases(SEED)
+        answers, indexes, sizes, events = Counter(), set(), set(), Counter()
+        for _ in range(3000):
+            octets = cases.conversion()
+            number, index, after = conversion.convert(octets)
+            answers[number if number or after != octets else "as it was"] += 1
+            if number != 0:
+                indexes.add(index)
+                continue
+            held = table.entries(octets)
+            sizes.add(len(held))
+            forms = [None if entry is None else address.canonical(entry.address) for entry in held]
+            for form in set(forms) - {None}:
+                group = [entry for entry, other in zip(held, forms) if other == form]
+                if len(group) > 1:
+                    self.group(events, form, group)
+                events["gap inside a group"] += None in forms[forms.index(form):len(forms) - forms[::-1].index(form)]
+        self.assertEqual(set(answers), {0, 1, 2, "as it was"})
+        self.assertGreater(min(answers.values()), 100, answers)
+        self.assertGreater(answers[0], 1500, answers)
+        self.assertLessEqual({0, 1, 2, 3, 4}, indexes)
+        self.assertLessEqual({1, 2, 3, 4, 5, 6, 256}, sizes)
+        for event in ("of 2", "of 3", "of 4", "of 5", "direct tie", "gossip tie", "seen tie", "direct absent in one",
+                      "gossip absent in one", "seen absent in one", "nothing at all", "direct at 0 against absent",
+                      "gossip at 0 against absent", "seen at 0 against absent", "lowest is canonical",
+                      "canonical is higher", "no member is canonical", "gap inside a group",
+                      "last seen from another slot"):
+            self.assertGreater(events[event], 10, event)
+
+    def group(self, events: Counter, form: bytes, group: list) -> None:
+        """Counts what is special about a group."""
+        events[f"of {len(group)}"] += 1
+        times = {"seen": [entry.last_seen for entry in group], "direct": [entry.autocrypt_timestamp for entry in group],
+                 "gossip": [entry.gossip_timestamp for entry in group]}
+        for part, told in times.items():
+            there = [time for time in told if time is not None]
+            events[f"{part} tie"] += there.count(max(there, default=None)) > 1
+            events[f"{part} absent in one"] += 0 < len(there) < len(told)
+            events[f"{part} at 0 against absent"] += 0 < len(there) < len(told) and max(there) == 0
+        events["nothing at all"] += all(time is None for told in times.values() for time in told)
+        spellings = [entry.address for entry in group]
+        events["lowest is canonical"] += spellings[0] == form
+        events["canonical is higher"] += form in spellings[1:]
+        events["no member is canonical"] += form not in spellings
+        there = [(entry.autocrypt_timestamp, entry) for entry in group if entry.direct_key is not None]
+        if there:
+            youngest = max(there, key=lambda one: one[0])[1]
+            largest = max(time for time in times["seen"] if time is not None)
+            events["last seen from another slot"] += largest > youngest.last_seen
+
+
 def function_lines(path: pathlib.Path) -> set[int]:
     """The lines of all function bodies of a source file that can be executed."""
     found: set[int] = set()
@@ -343,6 +537,8 @@ class EveryLine(unittest.TestCase):
             (400, processing.process, cases.processing),
             (200, recommending.target_key, cases.target),
             (60, table.entry_numbers, cases.one_slot),
+            (100, address.is_canonical, lambda: (cases.accented(),)),
+            (100, conversion.convert, lambda: (cases.conversion(),)),
             (60, writing.write_autocrypt, cases.writing),
             (60, writing.write_gossip, cases.writing_gossip),
             (60, listing.listing, lambda: (cases.listing_input(),)),

@@ -132,7 +132,8 @@ class Values(unittest.TestCase):
                          Field(b"a" * 64 + b"@b", False, b"foo"))
 
     def test_addr_is_canonical_F11(self):
-        self.assertEqual(read(b"addr=A.\xc3\x89@B.C; keydata=Zm9v").address, b"a.\xc3\x89@b.c")
+        self.assertEqual(read(b"addr=A.\xc3\x89@B.C; keydata=Zm9v").address, b"a.\xc3\xa9@b.c")
+        self.assertEqual(read(b"addr=A.\xc3\x89.\xff@B.C; keydata=Zm9v").address, b"a.\xc3\x89.\xff@b.c")
 
     def test_prefer_encrypt_F7(self):
         for value, mutual in [(b"mutual", True), (b"Mutual", False), (b"MUTUAL", False), (b"", False),
@@ -179,7 +180,13 @@ class Counting(unittest.TestCase):
         self.assertEqual(counted([b"addr=A@b.EXAMPLE; keydata=Zm9v"], b"a@B.example"),
                          Field(b"a@b.example", False, b"foo"))
         self.assertIsNone(counted([GOOD], b"a@b.example.org"))
-        self.assertIsNone(counted([b"addr=\xc3\x89@b; keydata=Zm9v"], b"\xc3\xa9@b"))
+        # L8: beyond ASCII too, but not for code points that L21 leaves as they are.
+        for addr, sender in [("É@b", "é@b"), ("é@b", "É@b"), ("ЁΣ@b", "ёσ@B"), ("×@b", "×@b")]:
+            field = counted([f"addr={addr}; keydata=Zm9v".encode()], sender.encode())
+            self.assertEqual(field, Field(sender.lower().encode(), False, b"foo"))
+        for addr, sender in [("×@b", "÷@b"), ("Ÿ@b", "ÿ@b"), ("ẞ@b", "ß@b"), ("Σ@b", "ς@b"), ("Ά@b", "ά@b")]:
+            self.assertIsNone(counted([f"addr={addr}; keydata=Zm9v".encode()], sender.encode()), addr)
+        self.assertIsNone(counted([b"addr=\xc3\x89\xff@b; keydata=Zm9v"], b"\xc3\xa9\xff@b"))
 
 
 if __name__ == "__main__":

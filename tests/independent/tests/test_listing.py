@@ -2,6 +2,7 @@
 
 import unittest
 
+from scope.conversion import convert
 from scope.listing import listing
 from scope.table import SLOT, TIME_LIMIT, Entry, slot_of, table_of
 
@@ -19,7 +20,8 @@ class Lines(unittest.TestCase):
             Entry(b"e@f", 7, 0, b"k" * 2048),
             Entry(b"g@h", gossip_timestamp=0, gossip_key=b"g"),
             Entry(b"i@j", TIME_LIMIT, TIME_LIMIT, b"kk", True, TIME_LIMIT, b"g" * 2048),
-            Entry(b"\xc3\x89@k", 5, gossip_timestamp=6, gossip_key=b"gg"),
+            Entry(b"\xc3\xa9@k", 5, gossip_timestamp=6, gossip_key=b"gg"),
+            Entry(b"\xc3\x89\xff@k"),
         ]
         self.assertEqual(listing(table_of(held)), (
             b"a@b - - 0 none - 0\n"
@@ -27,7 +29,8 @@ class Lines(unittest.TestCase):
             b"e@f 7 0 2048 none - 0\n"
             b"g@h - - 0 none 0 1\n"
             b"i@j 253402300799 253402300799 2 mutual 253402300799 2048\n"
-            b"\xc3\x89@k 5 - 0 none 6 2\n"))
+            b"\xc3\xa9@k 5 - 0 none 6 2\n"
+            b"\xc3\x89\xff@k - - 0 none - 0\n"))
 
     def test_free_slots_print_nothing_W8(self):
         self.assertEqual(listing(bytes(SLOT)), b"")
@@ -52,6 +55,14 @@ class Refusals(unittest.TestCase):
         bad = slot_of(Entry(b"A@b"))
         self.assertEqual(listing(bad), b"refused 2\n")
         self.assertEqual(listing(bytes(13 * SLOT) + bad), b"refused 2\n")
+
+    def test_an_old_spelling_T20_W7(self):
+        good, old = Entry(b"a@b"), Entry("zoË@x".encode(), 1000, 1000, b"k")
+        self.assertEqual(listing(slot_of(old)), b"refused 2\n")
+        self.assertEqual(listing(table_of([good, None, old])), b"refused 2\n")
+        # Once it is converted it is listed.
+        self.assertEqual(listing(convert(table_of([good, None, old]))[2]),
+                         b"a@b - - 0 none - 0\n" + "zoë@x 1000 1000 1 none - 0\n".encode())
 
     def test_nothing_is_printed_before_a_refusal_W10(self):
         good, bad = slot_of(Entry(b"a@b")), slot_of(Entry(b"A@b"))

@@ -48,6 +48,11 @@ class Refusals(Case):
         self.refused(2, bad, RECEIPT, self.GOOD)
         self.refused(2, bytes(3 * SLOT) + bad + bad, RECEIPT, self.GOOD, index=3)
 
+    def test_an_old_spelling_T20(self):
+        old = slot_of(Entry("zoË@x".encode(), 1))
+        self.refused(2, old, RECEIPT, self.GOOD)
+        self.refused(2, slot_of(Entry(A)) + bytes(SLOT) + old, RECEIPT, mail("zoË@x".encode(), 1000), index=2)
+
     def test_3_R3(self):
         self.refused(3, bytes(SLOT), TIME_LIMIT + 1, self.GOOD)
         self.refused(3, bytes(SLOT), (1 << 64) - 1, self.GOOD)
@@ -523,6 +528,52 @@ class Orders(Case):
                 number, _, octets = process(octets, RECEIPT, outer, payload, TAKE)
                 self.assertEqual(number, 0)
             self.assertEqual(entries(octets), expected)
+
+
+class Accents(Case):
+    """L8, L20 and L21 in whole messages: one person, however a mail spells the name."""
+
+    FORM = "zoë.ё@x".encode()
+    SPELLINGS = [text.encode() for text in ("zoë.ё@x", "Zoë.Ё@X", "ZOË.ё@x", "zOË.Ё@x")]
+    # A near miss, and what is not well formed, though all else is alike.
+    OTHERS = ["zoê.ё@x".encode(), "zoë.е@x".encode(), "zoÿ.ё@x".encode(), FORM.replace(b"@", b"\xff@"), b"zo\xeb@x"]
+
+    def test_from_and_addr_L8_F12_U3(self):
+        for sender, addr in itertools.product(self.SPELLINGS, repeat=2):
+            expected = [Entry(self.FORM, 1000, 1000, b"k")]
+            self.assertEqual(self.after([None], mail(sender, 1000, key_field(addr, b"k"))), expected)
+            # T15: the entry that is there is the one that is updated.
+            self.assertEqual(self.after([Entry(self.FORM, 9, 9, b"old", True)],
+                                        mail(sender, 1000, key_field(addr, b"k"))), expected)
+        for sender, addr in itertools.product(self.SPELLINGS, self.OTHERS):
+            self.assertEqual(self.after([None], mail(sender, 1000, key_field(addr, b"k"))), [Entry(self.FORM, 1000)])
+
+    def test_two_valid_fields_in_two_spellings_F13(self):
+        fields = [key_field(addr, b"k") for addr in self.SPELLINGS[:2]]
+        self.assertEqual(self.after([None], mail(self.FORM, 1000, *fields)), [Entry(self.FORM, 1000)])
+
+    def test_gossip_and_recipients_L8_G5(self):
+        told = Entry(self.FORM, gossip_timestamp=1000, gossip_key=b"g")
+        for listed, addr in itertools.product(self.SPELLINGS, repeat=2):
+            outer = mail(A, 1000, b"To: Zoe <" + listed + b">\r\n")
+            self.assertEqual(self.after([None, None], outer, gossip_field(addr, b"g")), [Entry(A, 1000), told])
+        for listed, addr in itertools.product(self.SPELLINGS, self.OTHERS):
+            outer = mail(A, 1000, b"To: " + listed + b"\r\n")
+            self.assertEqual(self.after([None, None], outer, gossip_field(addr, b"g")), [Entry(A, 1000), None])
+
+    def test_each_person_needs_one_slot_L8_R8(self):
+        to = b"To: " + b", ".join(self.SPELLINGS) + b"\r\n"
+        payload = b"".join(gossip_field(addr, b"g%d" % place) for place, addr in enumerate(self.SPELLINGS))
+        told = Entry(self.FORM, gossip_timestamp=1000, gossip_key=b"g3")
+        self.assertEqual(self.after([None, None], mail(A, 1000, to), payload), [Entry(A, 1000), told])
+        self.assertEqual(self.after([None], mail(self.SPELLINGS[1], 1000, to), payload),
+                         [Entry(self.FORM, 1000, gossip_timestamp=1000, gossip_key=b"g3")])
+        # Those that are not the same need slots of their own.
+        to = b"To: " + b", ".join(self.OTHERS) + b"\r\n"
+        payload = b"".join(gossip_field(addr, b"g") for addr in self.OTHERS)
+        self.refused(8, bytes(len(self.OTHERS) * SLOT), RECEIPT, mail(self.FORM, 1000, to), payload)
+        held = self.after([None] * (1 + len(self.OTHERS)), mail(self.FORM, 1000, to), payload)
+        self.assertEqual([entry.address for entry in held], [self.FORM] + self.OTHERS)
 
 
 if __name__ == "__main__":

@@ -115,7 +115,19 @@ class Advice(unittest.TestCase):
         self.assertEqual(self.advice(b"FRESH@X"), AVAILABLE)
         octets = slot_of(Entry(b"\xc3\xa9@x", 1, 1, b"k"))
         self.assertEqual(self.advice(b"\xc3\xa9@X", octets=octets), AVAILABLE)
-        self.assertEqual(self.advice(b"\xc3\x89@x", octets=octets), DISABLE)
+        self.assertEqual(self.advice(b"\xc3\x89@x", octets=octets), AVAILABLE)
+        self.assertEqual(self.advice("ê@x".encode(), octets=octets), DISABLE)
+        self.assertEqual(self.advice(b"\xc3\x89\xff@x", octets=octets), DISABLE)
+        # L21: code points that it leaves as they are.
+        octets = slot_of(Entry("÷ÿς@x".encode(), 1, 1, b"k"))
+        self.assertEqual(self.advice("÷ÿς@X".encode(), octets=octets), AVAILABLE)
+        for other in ("×ÿς@x", "÷Ÿς@x", "÷ÿσ@x", "÷ÿΣ@x", "÷ÿ\u03a2@x"):
+            self.assertEqual(self.advice(other.encode(), octets=octets), DISABLE, other)
+
+    def test_an_old_spelling_T20(self):
+        octets = slot_of(Entry("É@x".encode(), 1, 1, b"k"))
+        self.assertEqual(recommend(octets, "É@x".encode(), False, False), (2, 0, 0))
+        self.assertEqual(target_key(octets, "É@x".encode(), False, False, 0), (0, 0))
 
 
 class Refusals(unittest.TestCase):

@@ -4,16 +4,24 @@ import datetime
 import random
 import unittest
 
+from cases import Cases
 from scope import table
 from scope.table import (ADDRESS_AT, BITS_AT, DIRECT_KEY_AT, GOSSIP_KEY_AT, NUMBERS, SLOT, TIME_LIMIT, Entry,
-                         check, entries, entry_numbers, entry_of, find, free_slots, is_sound_alone, slot_of,
-                         table_of)
+                         address_of, check, check_by_old_rule, entries, entry_numbers, entry_of, find, free_slots,
+                         is_sound_alone, slot_of, table_of)
 
 FULL = Entry(b"a@b.example", 2000, 1000, b"direct", True, 3000, b"gossip key")
 SENDER = Entry(b"a@b.example", 2000, 1000, b"direct")
 SEEN = Entry(b"a@b.example", 2000)
 HEARD = Entry(b"a@b.example", gossip_timestamp=3000, gossip_key=b"gossip key")
 BARE = Entry(b"a@b.example")
+
+
+# L8: spellings that were canonical while only ASCII capitals were made small, and are not any more; and some that still
+# are, since L21 does not change them.
+OLD = ["É@b".encode(), "Þ@b".encode(), "zoË@b".encode(), "Ω@b".encode(), "ж.Я@b".encode(), "Ђ@b".encode()]
+NEAR = ["×@b".encode(), "÷@b".encode(), "ß@b".encode(), "ẞ@b".encode(), "Ÿ@b".encode(), "\u03a2@b".encode(),
+        "Ά@b".encode(), "Ѡ@b".encode(), "Ā@b".encode(), "É".encode() + b"\xff@b", b"\xed\xa0\x80" + "Я@b".encode()]
 
 
 def changed(slot: bytes, at: int, content: bytes) -> bytes:
@@ -147,9 +155,9 @@ class Soundness(unittest.TestCase):
     def test_the_address_is_canonical_T8_T12(self):
         # T8.2
         for text in [b"", b"a", b"A@b", b"a@B", b"a@b.", b"a @b", b"<a@b>", b"a@b@c",
-                     b"a" * 65 + b"@b", b"a@" + b"b" * 64, b"a@\xc3\xa9", b"\x00@b", b"a@b\x00"]:
+                     b"a" * 65 + b"@b", b"a@" + b"b" * 64, b"a@\xc3\xa9", b"\x00@b", b"a@b\x00"] + OLD:
             self.broken(slot_of(Entry(text)))
-        for text in [b"a@b", b"a" * 64 + b"@b", b"a@" + b"b" * 63, b"\xc3\x89@b", b"\xff@b"]:
+        for text in [b"a@b", b"a" * 64 + b"@b", b"a@" + b"b" * 63, b"\xc3\xa9@b", b"\xff@b"] + NEAR:
             self.sound(slot_of(Entry(text)))
 
     def test_the_address_length_T9(self):
@@ -306,6 +314,40 @@ class Tables(unittest.TestCase):
         last = bytes(255 * SLOT) + bad
         self.assertEqual(check(last), (2, 255))
 
+    def test_an_old_spelling_is_refused_R2_T20(self):
+        for old in OLD:
+            self.assertEqual(check(table_of([SENDER, None, Entry(old, 7), Entry(b"c@d")])), (2, 2))
+            self.assertEqual(check(table_of([Entry(b"e@b"), Entry(old)])), (2, 1))
+            self.assertEqual(entry_numbers(table_of([None, Entry(old, 7)]), 0, NUMBERS), (2, 1, None))
+
+    def test_near_misses_stand_beside_one_another_T12(self):
+        self.assertEqual(check(table_of([Entry(text) for text in NEAR])), (0, 0))
+
+    def test_the_old_rule_T16_R2(self):
+        """Another test of the address, and no other difference."""
+        for text in OLD + NEAR + [b"a@b", "é@b".encode()]:
+            self.assertEqual(check_by_old_rule(slot_of(Entry(text))), (0, 0), text)
+        # T8.3: two spellings are two addresses, and one spelling twice is not sound.
+        self.assertEqual(check_by_old_rule(table_of([Entry(text) for text in OLD + NEAR])), (0, 0))
+        self.assertEqual(check_by_old_rule(table_of([Entry("é@b".encode()), None, Entry("É@b".encode())])), (0, 0))
+        self.assertEqual(check_by_old_rule(table_of([Entry("É@b".encode()), None, Entry("É@b".encode())])), (2, 2))
+        for text in [b"A@b", "É@B".encode(), "ÉA@b".encode(), b"a", b"a@b.", b"\xffA@b", "a@é".encode()]:
+            self.assertEqual(check_by_old_rule(table_of([SENDER, Entry(text)])), (2, 1), text)
+        # R1
+        for length in (0, 1, SLOT - 1, SLOT + 1, 257 * SLOT):
+            self.assertEqual(check_by_old_rule(bytes(length)), (1, 0))
+
+    def test_the_other_conditions_hold_by_the_old_rule_too_T16(self):
+        cases = Cases(16)
+        broken = 0
+        for _ in range(2000):
+            slot = cases.broken_slot()
+            plain_small = address_of(slot).isascii()
+            if plain_small:
+                self.assertEqual(check_by_old_rule(slot), check(slot))
+                broken += check(slot) == (2, 0)
+        self.assertGreater(broken, 300)
+
     def test_zeros_T13(self):
         for slots in (1, 2, 256):
             self.assertEqual(check(bytes(slots * SLOT)), (0, 0))
@@ -328,10 +370,16 @@ class Tables(unittest.TestCase):
         self.assertEqual(find(held, b"A255@B"), 255)
 
     def test_finding_T15(self):
-        held = [None, Entry(b"a@b"), None, Entry(b"c@d")]
+        held = [None, Entry(b"a@b"), None, Entry(b"c@d"), Entry("жé@b".encode()), Entry("É".encode() + b"\xff@b")]
         self.assertEqual(find(held, b"a@b"), 1)
         self.assertEqual(find(held, b"C@D"), 3)
         self.assertIsNone(find(held, b"e@f"))
+        # L8: in every spelling, but not where only one of them is well formed.
+        for spelling in ("жé@b", "Жé@b", "жÉ@b", "ЖÉ@B"):
+            self.assertEqual(find(held, spelling.encode()), 4)
+        self.assertEqual(find(held, "É".encode() + b"\xff@B"), 5)
+        self.assertIsNone(find(held, "é".encode() + b"\xff@b"))
+        self.assertIsNone(find(held, "Жê@b".encode()))
         self.assertEqual(free_slots(held), [0, 2])
 
     def test_there_and_back_T3(self):

@@ -26,8 +26,13 @@ class Fields(unittest.TestCase):
     def test_the_address_is_written_canonical_W5(self):
         self.assertEqual(write_autocrypt(b"BOB@B.Example", b"foo", True, 1000), (0, EXAMPLE))
         self.assertEqual(write_gossip(b"BOB@B.Example", b"foo", 1000), (0, GOSSIP))
-        self.assertEqual(write_gossip(b"\xc3\x89@b", b"foo", 1000),
-                         (0, b"Autocrypt-Gossip: addr=\xc3\x89@b; keydata=\r\n Zm9v\r\n"))
+        # L8: letters beyond ASCII too, where the local part is well formed.
+        for given, form in [(b"\xc3\x89@B", b"\xc3\xa9@b"), ("ЖΣ×Ÿ@b".encode(), "жσ×Ÿ@b".encode()),
+                            (b"\xc3\x89\xffA@B", b"\xc3\x89\xffa@b")]:
+            self.assertEqual(write_gossip(given, b"foo", 1000),
+                             (0, b"Autocrypt-Gossip: addr=" + form + b"; keydata=\r\n Zm9v\r\n"))
+            self.assertEqual(write_autocrypt(given, b"foo", False, 1000),
+                             (0, b"Autocrypt: addr=" + form + b"; keydata=\r\n Zm9v\r\n"))
 
     def test_lines_of_76_characters_W4(self):
         for length, tail in [(57, b" " + b"A" * 76 + b"\r\n"),
