@@ -1,29 +1,44 @@
--- The canonical form: what a loop knows that looks for capitals, and the answers of the code.
---     small-is                           an octet that is no capital is its own lower case
---     Small s all i                      what the loop knows; small-begin .. small-end are its steps
---     canonical-whole, canonical-part    the answer on a plain address, and on another text
---     same-length                        the form is as long as the text
---     none-written .. room-kept          what is answered and left where the form is written
---     same-address                       two texts in canonical form
+-- Whether a text is its own canonical form: what the loops know that look for capitals, and the answers of the code.
+--     small-is                             an octet that is no capital is its own lower case
+--     Small s all i                        what a loop knows that looks for one; small-begin .. small-end are its steps
+--     ascii-is                             an octet that is ASCII, besides
+--     small-steady .. small-broken         whether a local part is in lower case
+--     at-within, left-part, right-part     the two sides, by the place of the "@"
+--     tail-is                              what goes up to the end
+--     own-ascii, own-sides                 whether a text is its own form
+--     canonical-whole, canonical-part      the answer on a plain address, and on another text
+--     was-whole, was-part                  the same by the old rule (T16)
 -- Assumes nothing.
-use Prim.Native.Nat.{ℕ, _+_, _<_, _≤_}
+use Prim.Native.Nat.{ℕ, _+_, _-_, _<_, _≤_}
 use mathlib.Core.Path.{_≡_, refl, sym, ap, _∙_}
 use mathlib.Core.Bool.{Bool, true, false, _&&_, _||_, and-true, and-assoc, or-true}
-use mathlib.Core.List.{List}
+use mathlib.Core.List.{List, [], _∷_, _++_}
 use native.Mathlib.Omega.{arith}
-use native.Mathlib.Nat.{zero-add}
+use native.Mathlib.Nat.{zero-add, sub-zero}
 use borrow.Author.Needs.{needs}
-use borrow.Author.Tests.{eq-eqb, ne-eqb, lt-ltb, le-ltb}
+use borrow.Author.Tests.{eq-eqb, ne-eqb, lt-ltb, le-ltb, ltb-true}
 use lib.Dec.{eqb, ltb}
-use lib.ListN.{length, getD, drop}
-use Rattle.octets.specs.Octets.{sameOctets, sameName, lower, lowered}
-use Rattle.octets.specs.Written.{putAt, onto}
+use lib.ListN.{length, getD, take, drop, length-drop}
+use lib.Seq.{take-all}
+use Rattle.octets.specs.Octets.{sameOctets, lower, lowered}
+use Rattle.octets.specs.Finding.{lengthBefore}
+use Rattle.octets.specs.Tests.{every}
 use Rattle.octets.proofs.Lists.{drop-one, drop-done}
-use Rattle.octets.proofs.Letters.{by-case, length-lowered}
-use Rattle.address.specs.Address.{plain, canonical, isCanonical}
-use Rattle.address.specs.Answers.{writtenOf, ontoIfFits}
-use Rattle.address.specs.declared.Fitted.the-variants.{Length, NoRoom}
-use Rattle.address.proofs.Room.{written-fits, written-none, onto-fits, onto-none}
+use Rattle.octets.proofs.Letters.{by-case, lower-below, lower-above}
+use Rattle.octets.proofs.Tests.{by-test, and-left, and-right}
+use Rattle.octets.proofs.Comparing.{same-refl}
+use Rattle.octets.proofs.Finding.{by, before-short}
+use Rattle.utf8.specs.Utf8.{wellFormed}
+use Rattle.utf8.specs.Lowering.{lowerText}
+use Rattle.utf8.specs.Steps.{allAscii, octetwise}
+use Rattle.utf8.proofs.Octetwise.{steady-small}
+use Rattle.utf8.proofs.Alike.{alike-length}
+use Rattle.utf8.proofs.Lowering.{alike-text, text-formed, text-broken}
+use Rattle.address.specs.Pieces.{before, from}
+use Rattle.address.specs.Address.{plain, canonical, isCanonical, asciiForm, wasCanonical}
+use Rattle.address.specs.Answers.{smallAscii}
+use Rattle.address.proofs.Pieces.{before-from, place-before, place-from}
+use Rattle.address.proofs.Spelling.{canonical-ascii}
 
 pub small-is : (x : ℕ) → (ltb x 65 || ltb 90 x) ≡ eqb (lower x) x
 small-is x =
@@ -51,45 +66,108 @@ module _ (s : List ℕ) where
 
 pub ruleset staying-small = (small-is, small-begin, small-next, small-end, needs)
 
+pub ascii-is : (x : ℕ) → (ltb x 65 || (ltb 90 x && ltb x 128)) ≡ smallAscii x
+unfolding smallAscii
+ascii-is x = refl
+
+-- such an octet is ASCII, and its own lower case
+ascii-octet : (x : ℕ) → smallAscii x ≡ true → (x < 128) × (lower x ≡ x)
+unfolding smallAscii
+ascii-octet x e =
+    by-test (ltb x 65)
+    (λ t. let l : x < 65 = ltb-true x 65 t in (omega arith, sym (lower-below x l)))
+    (λ t.
+    let m : (ltb 90 x && ltb x 128) ≡ true = rw t at e in
+    (ltb-true x 128 (and-right (ltb 90 x) (ltb x 128) m), sym (lower-above x (ltb-true 90 x (and-left (ltb 90 x) (ltb x 128) m)))))
+
+ascii-own : (s : List ℕ) → every smallAscii s ≡ true → (allAscii s ≡ true) × (lowered s ≡ s)
+unfolding every lowered
+ascii-own [] e = (refl, refl)
+ascii-own (x ∷ s) e =
+    let h = ascii-octet x (and-left (smallAscii x) (every smallAscii s) e) in
+    let k = ascii-own s (and-right (smallAscii x) (every smallAscii s) e) in
+    (rw (lt-ltb x 128 (h .0)) (k .0), rw (h .1, k .1))
+
+-- a local part
+module _ (s : List ℕ) (b : Bool) (e : b ≡ sameOctets (octetwise 0 s) s) where
+  pub small-steady : b ≡ true → true ≡ sameOctets (lowerText s) s
+  small-steady t =
+      by-test (wellFormed s)
+      (λ f. rw (text-formed s f) (sym (sym e ∙ t)))
+      (λ f. rw (text-broken s f) (sym (steady-small 0 s (sym e ∙ t))))
+
+  module _ (f : Bool) (g : f ≡ wellFormed s) where
+    pub small-formed : b ≡ false → f ≡ true → false ≡ sameOctets (lowerText s) s
+    small-formed t u = rw (text-formed s (sym g ∙ u)) (sym (sym e ∙ t))
+
+    pub small-broken : (c : Bool) → f ≡ false → c ≡ sameOctets (lowered s) s → c ≡ sameOctets (lowerText s) s
+    small-broken c u q = q ∙ rw (text-broken s (sym g ∙ u))
+
+pub ruleset local-small = (small-steady, small-formed, small-broken, needs)
+
+-- the two sides, by the place of the "@"
+module _ (s : List ℕ) (at : ℕ) (e : at ≡ 0 + lengthBefore 64 s) where
+  is-place : at ≡ lengthBefore 64 s
+  is-place = e ∙ zero-add _
+
+  pub left-part : take (at - 0) s ≡ before 64 s
+  left-part = rw (sub-zero, is-place) (place-before 64 s)
+
+  pub right-part : drop at s ≡ from 64 s
+  right-part = rw is-place (place-from 64 s)
+
+  pub at-within : at ≤ length s
+  at-within = rw is-place (before-short (by 64 s))
+
+pub tail-is : (s : List ℕ) (at : ℕ) → take (length s - at) (drop at s) ≡ drop at s
+tail-is s at = take-all (length s - at) (drop at s) (simp length-drop (omega arith))
+
+-- two joined texts, compared side by side
+same-append : (a b c d : List ℕ) → length a ≡ length c → sameOctets (a ++ b) (c ++ d) ≡ (sameOctets a c && sameOctets b d)
+unfolding sameOctets
+same-append [] b [] d l = refl
+same-append [] b (y ∷ c) d l = absurd (omega arith)
+same-append (x ∷ a) b [] d l = absurd (omega arith)
+same-append (x ∷ a) b (y ∷ c) d l = rw (same-append a b c d (omega arith)) (sym (and-assoc (eqb x y) _ _))
+
+module _ (s : List ℕ) where
+  pub own-ascii : (b : Bool) → b ≡ true → b ≡ every smallAscii s → true ≡ sameOctets (canonical s) s
+  own-ascii b t e =
+      let k = ascii-own s (sym e ∙ t) in
+      sym (ap (λ w. sameOctets w s) (canonical-ascii s (k .0) ∙ k .1) ∙ same-refl s)
+
+  whole : (sameOctets (lowerText (before 64 s)) (before 64 s) && sameOctets (lowered (from 64 s)) (from 64 s)) ≡ sameOctets (canonical s) s
+  unfolding canonical
+  whole =
+      sym (same-append (lowerText (before 64 s)) (lowered (from 64 s)) (before 64 s) (from 64 s) (alike-length (alike-text (before 64 s))))
+      ∙ ap (sameOctets (lowerText (before 64 s) ++ lowered (from 64 s))) (before-from 64 s)
+
+  module _ (at : ℕ) (e : at ≡ 0 + lengthBefore 64 s) (b c : Bool) where
+    pub own-sides :
+        b ≡ sameOctets (lowerText (take (at - 0) s)) (take (at - 0) s)
+        → c ≡ sameOctets (lowered (take (length s - at) (drop at s))) (take (length s - at) (drop at s))
+        → (b && c) ≡ sameOctets (canonical s) s
+    own-sides p q = rw (p, q, tail-is s at, left-part s at e, right-part s at e) whole
+
+pub ruleset being-own = (own-ascii, own-sides, at-within, needs)
+
 module _ (s : List ℕ) (p : Bool) (e : p ≡ plain s) where
-  pub canonical-whole : (b : Bool) → p ≡ true → b ≡ sameOctets (lowered s) s → b ≡ isCanonical s
-  unfolding isCanonical canonical
+  pub canonical-whole : (b : Bool) → p ≡ true → b ≡ sameOctets (canonical s) s → b ≡ isCanonical s
+  unfolding isCanonical
   canonical-whole b t q = rw (sym e ∙ t) q
 
   pub canonical-part : p ≡ false → false ≡ isCanonical s
   unfolding isCanonical
   canonical-part f = rw (sym e ∙ f)
 
+  pub was-whole : (b : Bool) → p ≡ true → b ≡ sameOctets (lowered s) s → b ≡ wasCanonical s
+  unfolding wasCanonical asciiForm
+  was-whole b t q = rw (sym e ∙ t) q
+
+  pub was-part : p ≡ false → false ≡ wasCanonical s
+  unfolding wasCanonical
+  was-part f = rw (sym e ∙ f)
+
 pub ruleset being-canonical = (canonical-whole, canonical-part, needs)
 
--- the form is as long as the text, and the code counts on it
-same-length : (s : List ℕ) → length (canonical s) ≡ length s
-unfolding canonical
-same-length s = length-lowered s
-
-module _ (s d : List ℕ) where
-  module _ (l : length d < length s) where
-    pub none-written : NoRoom ≡ writtenOf (canonical s) (length d)
-    none-written = sym (written-none (canonical s) (length d) (rw same-length l))
-
-    pub none-kept : d ≡ ontoIfFits (canonical s) d
-    none-kept = sym (onto-none (canonical s) d (rw same-length l))
-
-  module _ (l : length s ≤ length d) where
-    pub room-asked : 0 + length s ≤ length d
-    room-asked = omega arith
-
-    pub room-written : Length (length s) ≡ writtenOf (canonical s) (length d)
-    room-written = ap Length (sym (same-length s)) ∙ sym (written-fits (canonical s) (length d) (rw same-length l))
-
-    pub room-kept : (out : List ℕ) → out ≡ putAt d 0 (lowered s) → out ≡ ontoIfFits (canonical s) d
-    unfolding canonical putAt onto
-    room-kept out e = e ∙ rw zero-add (sym (onto-fits (lowered s) d (rw length-lowered l)))
-
-pub ruleset writing-canonical = (none-written, none-kept, room-asked, room-written, room-kept, needs)
-
-pub same-address : (s t : List ℕ) (b : Bool) → b ≡ sameName s t → b ≡ sameOctets (canonical s) (canonical t)
-unfolding canonical sameName
-same-address s t b e = e
-
-pub ruleset being-same = (same-address, needs)
+pub ruleset having-been-canonical = (was-whole, was-part, needs)

@@ -5,7 +5,10 @@ pub mod Labels
 pub mod Plain
 pub mod Sides
 pub mod Room
-pub mod Forms
+pub mod Alike
 pub mod Spelling
-pub mod Worked
+pub mod Before
+pub mod Forms
 pub mod Forming
+pub mod Making
+pub mod Worked

@@ -2,23 +2,25 @@
 --     others, pieces-first          the pieces are what stands before the first such octet, and the others
 --     behind-drop                   what stands behind it, as a part of the text
 --     pieces-sides, sides-join      a text with such an octet: its pieces, and its two sides put together
---     before-map .. pieces-map      a text whose octets are changed one by one
+--     before-from .. from-opens     what stands before it and from it on
+--     place-before, place-from      the same as parts of the text
 --     pieces-octets, sides-octets   the octets of a text, from those of its pieces, or of its two sides
 --     before-into .. pieces-whole   a text that opens with other octets, or has only those
 -- Assumes nothing.
 use Prim.Native.Nat.{ℕ, suc, _+_, _<_}
 use mathlib.Core.Path.{_≡_, refl, sym, ap, _∙_}
-use mathlib.Core.Bool.{Bool, true, false, _&&_, _||_, false≢true, and-assoc, or-true}
-use mathlib.Core.List.{List, [], _∷_, _++_, map, append-nil}
+use mathlib.Core.Bool.{Bool, true, false, not, _&&_, _||_, false≢true, and-assoc, or-true}
+use mathlib.Core.List.{List, [], _∷_, _++_, append-nil}
 use native.Mathlib.Omega.{arith}
 use native.Mathlib.Numerals.{add-one}
 use borrow.Author.Tests.{ne-eqb, eqb-true}
 use lib.Dec.{eqb}
-use lib.ListN.{length, drop}
+use lib.ListN.{length, take, drop}
+use Rattle.octets.specs.Finding.{lengthBefore}
 use Rattle.octets.specs.Tests.{every}
 use Rattle.octets.proofs.Tests.{and-left, and-right, by-test}
 use Rattle.octets.proofs.Every.{every-weaker}
-use Rattle.address.specs.Pieces.{onFirst, pieces, before, behind}
+use Rattle.address.specs.Pieces.{onFirst, pieces, before, behind, from}
 
 -- the pieces are what stands before the first such octet, and the others
 unfoldable pub others : ℕ → List ℕ → List (List ℕ)
@@ -57,27 +59,36 @@ sides-join d (x ∷ s) l =
     (λ e. rw (before, behind, e, eqb-true x d e))
     (λ e. rw (before, behind, e) (let k : suc (length (before d s)) < suc (length s) = rw (before, e) at l in ap (_∷_ x) (sides-join d s (omega arith))))
 
--- A text whose octets are changed one by one, none into or from the octet at which it is cut.
-module _ (f : ℕ → ℕ) (d : ℕ) (keeps : (x : ℕ) → eqb (f x) d ≡ eqb x d) where
-  pub before-map : (s : List ℕ) → before d (map f s) ≡ map f (before d s)
-  unfolding before
-  before-map [] = refl
-  before-map (x ∷ s) =
-      by-test (eqb x d) (λ e. rw (before, before, keeps x, e)) (λ e. rw (before, before, keeps x, e, before-map s))
+-- what stands before the first such octet, and from it on
+pub before-from : (d : ℕ) (s : List ℕ) → before d s ++ from d s ≡ s
+unfolding before from
+before-from d [] = refl
+before-from d (x ∷ s) =
+    by-test (eqb x d) (λ e. rw (before, from, e)) (λ e. rw (before, from, e, before-from d s))
 
-  pub behind-map : (s : List ℕ) → behind d (map f s) ≡ map f (behind d s)
-  unfolding behind
-  behind-map [] = refl
-  behind-map (x ∷ s) =
-      by-test (eqb x d) (λ e. rw (behind, behind, keeps x, e)) (λ e. rw (behind, behind, keeps x, e, behind-map s))
+pub before-free : (d : ℕ) (s : List ℕ) → every (λ x. not (eqb x d)) (before d s) ≡ true
+unfolding before every
+before-free d [] = refl
+before-free d (x ∷ s) = by-test (eqb x d) (λ e. rw (before, e)) (λ e. rw (before, e) (rw e (before-free d s)))
 
-  pub pieces-map : (s : List ℕ) → pieces d (map f s) ≡ map (map f) (pieces d s)
-  unfolding pieces onFirst
-  pieces-map [] = refl
-  pieces-map (x ∷ s) =
-      by-test (eqb x d)
-      (λ e. rw (pieces, pieces, keeps x, e, pieces-map s))
-      (λ e. rw (pieces, pieces, keeps x, e, pieces-map s, pieces-first d s))
+pub from-opens : (d : ℕ) (s : List ℕ) → before d (from d s) ≡ []
+unfolding before from
+from-opens d [] = refl
+from-opens d (x ∷ s) =
+    by-test (eqb x d) (λ e. rw (from, e) (rw (before, e))) (λ e. rw (from, e) (from-opens d s))
+
+-- as parts of the text, by the place of that octet
+pub place-before : (d : ℕ) (s : List ℕ) → take (lengthBefore d s) s ≡ before d s
+unfolding lengthBefore before
+place-before d [] = refl
+place-before d (x ∷ s) =
+    by-test (eqb x d) (λ e. rw (lengthBefore, before, e)) (λ e. rw (lengthBefore, before, e, place-before d s))
+
+pub place-from : (d : ℕ) (s : List ℕ) → drop (lengthBefore d s) s ≡ from d s
+unfolding lengthBefore from
+place-from d [] = refl
+place-from d (x ∷ s) =
+    by-test (eqb x d) (λ e. rw (lengthBefore, from, e)) (λ e. rw (lengthBefore, from, e, place-from d s))
 
 -- What the octets of a text are, from those of its pieces, and from those on both sides of the first cut.
 module _ (q : ℕ → Bool) (d : ℕ) where
@@ -117,6 +128,12 @@ module _ (q : ℕ → Bool) (d : ℕ) (out : q d ≡ false) where
   behind-into [] b e = refl
   behind-into (x ∷ a) b e =
       rw (behind, apart x (and-left (q x) (every q a) e), behind-into a b (and-right (q x) (every q a) e))
+
+  pub from-into : (a b : List ℕ) → every q a ≡ true → from d (a ++ b) ≡ from d b
+  unfolding every from
+  from-into [] b e = refl
+  from-into (x ∷ a) b e =
+      rw (from, apart x (and-left (q x) (every q a) e), from-into a b (and-right (q x) (every q a) e))
 
   others-into : (a b : List ℕ) → every q a ≡ true → others d (a ++ b) ≡ others d b
   unfolding every others

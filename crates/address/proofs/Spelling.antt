@@ -1,118 +1,101 @@
 -- The canonical form, as callers ask for it.
---     canonical-twice                    it is its own canonical form
---     canonical-octets                   octets stay octets
---     plain-canonical                    that of a plain address is a plain address
---     plain-is-canonical                 and is canonical
---     canonical-same                     what is canonical is its own canonical form
---     canonical-most                     that of a plain address is within the limit of L6, too
+--     canonical-length                     it is as long as the text
+--     canonical-octets                     octets stay octets
+--     before-canonical, from-canonical     its two sides
+--     canonical-twice                      it is its own canonical form
+--     lowered-sides                        ASCII capitals made small on both sides
+--     canonical-ascii                      that of a text in ASCII
+--     plain-canonical                      that of a plain address is a plain address
+--     plain-is-canonical                   and is canonical
+--     canonical-same                       what is canonical is its own canonical form
+--     canonical-most                       that of a plain address is within the limit of L6, too
 -- Assumes nothing.
-use Prim.Native.Nat.{ℕ, _+_, _-_, _<_, _≤_}
-use mathlib.Core.Path.{_≡_, refl, sym, _∙_}
-use mathlib.Core.Bool.{Bool, true}
-use mathlib.Core.List.{List}
+use Prim.Native.Nat.{ℕ, _≤_}
+use mathlib.Core.Path.{_≡_, refl, sym, ap, _∙_}
+use mathlib.Core.Bool.{true, not}
+use mathlib.Core.List.{List, [], _∷_, _++_, append-nil}
 use native.Mathlib.Omega.{arith}
-use borrow.Author.Tests.{le-leb, lt-leb, ne-eqb}
-use lib.Dec.{eqb}
-use lib.ListN.{length, getD}
-use Rattle.octets.specs.Octets.{AllOctets, sameOctets, lower, lowered}
-use Rattle.octets.proofs.Letters.{by-case, lowered-twice, lowered-octets, length-lowered, getD-lowered}
-use Rattle.octets.proofs.Comparing.{same-refl, same-true}
+use lib.Dec.{ltb, eqb}
+use lib.ListN.{length}
+use Rattle.octets.specs.Octets.{AllOctets, sameOctets, lowered}
 use Rattle.octets.specs.Tests.{every}
-use Rattle.octets.proofs.Tests.{and-right}
-use Rattle.octets.proofs.Every.{every-map}
-use Rattle.runs.specs.Runs.{letter, belongs}
-use Rattle.runs.specs.declared.Class.{Class}
-use Rattle.runs.specs.declared.Class.the-variants.{Atom, Label}
-use Rattle.address.specs.Pieces.{pieces, before, behind}
-use Rattle.address.specs.Address.{atom, localPart, freeEnds, label, domain, plain, canonical, isCanonical}
-use Rattle.address.proofs.Pieces.{before-map, behind-map, pieces-map}
+use Rattle.octets.proofs.Tests.{and-left, and-right}
+use Rattle.octets.proofs.Every.{every-append}
+use Rattle.octets.proofs.Letters.{lowered-twice}
+use Rattle.octets.proofs.Comparing.{same-refl, same-true}
+use Rattle.utf8.specs.Lowering.{lowerText}
+use Rattle.utf8.specs.Steps.{allAscii}
+use Rattle.utf8.proofs.Alike.{Alike, nothing, alike-lowered, alike-length, alike-at, alike-every, alike-append, near-sign, near-octet}
+use Rattle.utf8.proofs.Lowering.{alike-text, text-twice, text-ascii}
+use Rattle.address.specs.Pieces.{before, from}
+use Rattle.address.specs.Address.{plain, canonical, isCanonical}
+use Rattle.address.proofs.Pieces.{before-from, before-free, from-opens, before-into, from-into}
+use Rattle.address.proofs.Alike.{alike-before, plain-alike}
 use Rattle.address.proofs.Sides.{plain-most}
 
-pub canonical-twice : (s : List ℕ) → canonical (canonical s) ≡ canonical s
+pub alike-canonical : (s : List ℕ) → Alike s (canonical s)
 unfolding canonical
-canonical-twice s = lowered-twice s
+alike-canonical s = rw (before-from 64 s) at (alike-append (alike-text (before 64 s)) (alike-lowered (from 64 s)))
+
+pub canonical-length : (s : List ℕ) → length (canonical s) ≡ length s
+canonical-length s = alike-length (alike-canonical s)
 
 pub canonical-octets : (s : List ℕ) → AllOctets s → AllOctets (canonical s)
+canonical-octets s h i = near-octet (alike-at (alike-canonical s) i) (h i)
+
+alike-empty : {t : List ℕ} → Alike [] t → t ≡ []
+alike-empty nothing = refl
+
+module _ (s : List ℕ) where
+  -- the lower case of a local part has no "@", and what stands from the "@" on begins with it, or is nothing
+  local-free : every (λ x. not (eqb x 64)) (lowerText (before 64 s)) ≡ true
+  local-free =
+      alike-every (λ x. not (eqb x 64)) (λ x y n. ap not (near-sign 64 (omega arith) n)) (alike-text (before 64 s))
+      ∙ before-free 64 s
+
+  none-before : before 64 (lowered (from 64 s)) ≡ []
+  none-before = alike-empty (rw (from-opens 64 s) at (alike-before 64 (omega arith) (alike-lowered (from 64 s))))
+
+  pub before-canonical : before 64 (canonical s) ≡ lowerText (before 64 s)
+  unfolding canonical
+  before-canonical =
+      before-into (λ x. not (eqb x 64)) 64 refl (lowerText (before 64 s)) (lowered (from 64 s)) local-free
+      ∙ rw none-before (append-nil _)
+
+  pub from-canonical : from 64 (canonical s) ≡ lowered (from 64 s)
+  unfolding canonical
+  from-canonical =
+      from-into (λ x. not (eqb x 64)) 64 refl (lowerText (before 64 s)) (lowered (from 64 s)) local-free
+      ∙ ap (λ w. w ++ from 64 (lowered (from 64 s))) (sym none-before)
+      ∙ before-from 64 (lowered (from 64 s))
+
+  pub canonical-twice : canonical (canonical s) ≡ canonical s
+  unfolding canonical
+  canonical-twice =
+      ap (λ w. lowerText w ++ lowered (from 64 (canonical s))) before-canonical
+      ∙ ap (λ w. lowerText (lowerText (before 64 s)) ++ lowered w) from-canonical
+      ∙ rw (text-twice (before 64 s), lowered-twice (from 64 s))
+
+lowered-append : (a b : List ℕ) → lowered (a ++ b) ≡ lowered a ++ lowered b
+unfolding lowered
+lowered-append [] b = refl
+lowered-append (x ∷ a) b = rw (lowered-append a b)
+
+-- ASCII capitals on both sides are those of the whole
+pub lowered-sides : (s : List ℕ) → lowered (before 64 s) ++ lowered (from 64 s) ≡ lowered s
+lowered-sides s = sym (lowered-append (before 64 s) (from 64 s)) ∙ ap lowered (before-from 64 s)
+
+ascii-front : (a b : List ℕ) → allAscii (a ++ b) ≡ true → allAscii a ≡ true
+ascii-front a b e = and-left (allAscii a) (allAscii b) (rw (every-append (λ x. ltb x 0x80) a b) at e)
+
+pub canonical-ascii : (s : List ℕ) → allAscii s ≡ true → canonical s ≡ lowered s
 unfolding canonical
-canonical-octets s h = lowered-octets s h
-
--- what holds of an octet, and of a capital made small, holds of the octet in lower case
-by-capital : (P : ℕ → Type 0) (x : ℕ) → P x → (65 ≤ x → x ≤ 90 → P (x + 32)) → P (lower x)
-by-capital P x same capital = by-case P x (λ _. same) (λ _. same) capital
-
--- "." and "@" and "-" stay what they are, and nothing becomes one of them
-lower-sign : (d : ℕ) → d < 65 → (x : ℕ) → eqb (lower x) d ≡ eqb x d
-lower-sign d l x =
-    by-capital (λ y. eqb y d ≡ eqb x d) x refl
-    (λ h k. ne-eqb (x + 32) d (λ e. omega arith) ∙ sym (ne-eqb x d (λ e. omega arith)))
-
--- a capital and its small letter are both letters
-module _ (x : ℕ) (h : 65 ≤ x) (k : x ≤ 90) where
-  capital-letter : letter x ≡ true
-  capital-letter = rw (le-leb 65 x h, le-leb x 90 k)
-
-  small-letter : letter (x + 32) ≡ true
-  small-letter =
-      rw (le-leb 65 (x + 32) (omega arith), lt-leb (x + 32) 90 (omega arith), le-leb 97 (x + 32) (omega arith), le-leb (x + 32) 122 (omega arith))
-
--- an octet stays in a class to which letters belong
-lower-class : (class : Class) → ((x : ℕ) → letter x ≡ true → belongs class x ≡ true) → (x : ℕ) → belongs class (lower x) ≡ belongs class x
-lower-class class letters x =
-    by-capital (λ y. belongs class y ≡ belongs class x) x refl
-    (λ h k. letters (x + 32) (small-letter x h k) ∙ sym (letters x (capital-letter x h k)))
-
-lower-atom : (x : ℕ) → belongs Atom (lower x) ≡ belongs Atom x
-unfolding belongs
-lower-atom = lower-class Atom (λ x e. rw e)
-
-lower-label : (x : ℕ) → belongs Label (lower x) ≡ belongs Label x
-unfolding belongs
-lower-label = lower-class Label (λ x e. rw e)
-
--- so each test of a part answers as before
-every-lowered : (q : ℕ → Bool) → ((x : ℕ) → q (lower x) ≡ q x) → (p : List ℕ) → every q (lowered p) ≡ every q p
-unfolding lowered
-every-lowered q keeps p = every-map q lower keeps p
-
-atom-lowered : (p : List ℕ) → atom (lowered p) ≡ atom p
-unfolding atom
-atom-lowered p = rw (length-lowered p, every-lowered (belongs Atom) lower-atom p)
-
-label-lowered : (p : List ℕ) → label (lowered p) ≡ label p
-unfolding label freeEnds
-label-lowered p =
-    rw (
-      length-lowered p,
-      every-lowered (belongs Label) lower-label p,
-      getD-lowered p 0,
-      getD-lowered p (length p - 1),
-      lower-sign 45 (omega arith) (getD p 0 0),
-      lower-sign 45 (omega arith) (getD p (length p - 1) 0),
-    )
-
-all-lowered : (test : List ℕ → Bool) → ((p : List ℕ) → test (lowered p) ≡ test p) → (s : List ℕ) → every test (pieces 46 (lowered s)) ≡ every test (pieces 46 s)
-unfolding lowered
-all-lowered test keeps s =
-    rw (pieces-map lower 46 (lower-sign 46 (omega arith)) s) (every-map test lowered keeps (pieces 46 s))
-
-local-lowered : (s : List ℕ) → localPart (lowered s) ≡ localPart s
-unfolding localPart
-local-lowered s = rw (length-lowered s, all-lowered atom atom-lowered s)
-
-domain-lowered : (s : List ℕ) → domain (lowered s) ≡ domain s
-unfolding domain
-domain-lowered s = all-lowered label label-lowered s
-
-plain-lowered : (s : List ℕ) → plain (lowered s) ≡ plain s
-unfolding plain lowered
-plain-lowered s =
-    let keeps : (x : ℕ) → eqb (lower x) 64 ≡ eqb x 64 = lower-sign 64 (omega arith) in
-    rw (length-lowered s, before-map lower 64 keeps s, behind-map lower 64 keeps s, local-lowered (before 64 s), domain-lowered (behind 64 s))
+canonical-ascii s e =
+    rw (text-ascii (before 64 s) (ascii-front (before 64 s) (from 64 s) (rw before-from e))) (lowered-sides s)
 
 module _ (s : List ℕ) (p : plain s ≡ true) where
   pub plain-canonical : plain (canonical s) ≡ true
-  unfolding canonical
-  plain-canonical = plain-lowered s ∙ p
+  plain-canonical = plain-alike (alike-canonical s) ∙ p
 
   pub plain-is-canonical : isCanonical (canonical s) ≡ true
   unfolding isCanonical

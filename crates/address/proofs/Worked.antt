@@ -3,14 +3,17 @@
 -- Assumes nothing.
 use Prim.Native.Nat.{ℕ}
 use mathlib.Core.Path.{_≡_, refl}
-use mathlib.Core.Bool.{true, false, not}
-use mathlib.Core.List.{List, [], _∷_, _++_}
+use mathlib.Core.Bool.{true, not}
+use mathlib.Core.List.{List, [], _∷_, _++_, map}
 use lib.ListN.{length, replicate}
 use Rattle.octets.specs.Octets.{ascii, octet, lower, lowered, sameOctets}
 use Rattle.octets.specs.Tests.{every}
+use Rattle.octets.specs.Options.{inFront}
+use Rattle.utf8.specs.Utf8.{leadOf, tails, points, encodedOne, encoded}
+use Rattle.utf8.specs.Lowering.{lowerPoint, lowerPoints, lowerText}
 use Rattle.runs.specs.Runs.{belongs}
-use Rattle.address.specs.Pieces.{onFirst, pieces, before, behind}
-use Rattle.address.specs.Address.{atom, localPart, freeEnds, label, domain, plain, canonical, isCanonical, addressOctet}
+use Rattle.address.specs.Pieces.{onFirst, pieces, before, behind, from}
+use Rattle.address.specs.Address.{atom, localPart, freeEnds, label, domain, plain, canonical, isCanonical, asciiForm, wasCanonical, addressOctet}
 
 -- an address with a local part of so many octets, one with a label of so many, and one with a last label of so many after 193 octets
 localPartOf : ℕ → List ℕ
@@ -80,22 +83,56 @@ long-254 : length (addressOf 61) ≡ 254
 unfolding addressOf
 long-254 = refl
 
--- L8: capitals on both sides become small; octets of 128 and above stay as they are
-form : canonical (ascii "A@B.Example") ≡ ascii "a@b.example"
-unfolding canonical lowered lower
-form = refl
+-- L8: the rows of its table
+abbrev written : List (List ℕ)
+written =
+    ascii "Bob.B@X.Example"
+    ∷ (0xC3 ∷ 0x80 ∷ 0xC3 ∷ 0x9E ∷ 0xC3 ∷ 0x97 ∷ 0xC3 ∷ 0x9F ∷ ascii "@X")
+    ∷ (0xCE ∷ 0x91 ∷ 0xCE ∷ 0xA9 ∷ 0xCE ∷ 0xAB ∷ ascii "@x")
+    ∷ (0xD0 ∷ 0x90 ∷ 0xD0 ∷ 0xAF ∷ 0xD0 ∷ 0x80 ∷ 0xD0 ∷ 0x8F ∷ ascii "@x")
+    ∷ (0xC4 ∷ 0x80 ∷ ascii "@x")
+    ∷ (0xC3 ∷ 0x96 ∷ 0x2E ∷ 0xFF ∷ ascii "A@x")
+    ∷ []
 
-form-kept : canonical (195 ∷ 132 ∷ ascii "Z-9[@B") ≡ 195 ∷ 132 ∷ ascii "z-9[@b"
-unfolding canonical lowered lower
-form-kept = refl
+forms : map canonical written
+    ≡ ascii "bob.b@x.example"
+    ∷ (0xC3 ∷ 0xA0 ∷ 0xC3 ∷ 0xBE ∷ 0xC3 ∷ 0x97 ∷ 0xC3 ∷ 0x9F ∷ ascii "@x")
+    ∷ (0xCE ∷ 0xB1 ∷ 0xCF ∷ 0x89 ∷ 0xCF ∷ 0x8B ∷ ascii "@x")
+    ∷ (0xD0 ∷ 0xB0 ∷ 0xD1 ∷ 0x8F ∷ 0xD1 ∷ 0x90 ∷ 0xD1 ∷ 0x9F ∷ ascii "@x")
+    ∷ (0xC4 ∷ 0x80 ∷ ascii "@x")
+    ∷ (0xC3 ∷ 0x96 ∷ 0x2E ∷ 0xFF ∷ ascii "a@x")
+    ∷ []
+unfolding canonical lowerText lowerPoints lowerPoint points tails leadOf inFront encoded encodedOne lowered lower before from
+forms = refl
 
-capital : isCanonical (ascii "a@B.example") ≡ false
-unfolding isCanonical canonical lowered lower sameOctets plain localPart atom domain label belongs freeEnds every onFirst pieces before behind
+-- L8: a domain never has another rule, and a text without an "@" is all local part
+form-domain : canonical (ascii "A@" ++ 0xC3 ∷ 0x84 ∷ ascii "B") ≡ ascii "a@" ++ 0xC3 ∷ 0x84 ∷ ascii "b"
+unfolding canonical lowerText lowerPoints lowerPoint points tails leadOf inFront encoded encodedOne lowered lower before from
+form-domain = refl
+
+form-local : canonical (0xC3 ∷ 0x84 ∷ ascii "B") ≡ 0xC3 ∷ 0xA4 ∷ ascii "b"
+unfolding canonical lowerText lowerPoints lowerPoint points tails leadOf inFront encoded encodedOne lowered lower before from
+form-local = refl
+
+-- L8: what is canonical, and what is not
+abbrev canonicals : List (List ℕ)
+canonicals = ascii "a@b.example" ∷ (0xC3 ∷ 0xA4 ∷ ascii "@b") ∷ (0xC3 ∷ 0x84 ∷ 0xFF ∷ ascii "@b") ∷ []
+
+abbrev no-canonicals : List (List ℕ)
+no-canonicals = ascii "a@B.example" ∷ (0xC3 ∷ 0x84 ∷ ascii "@b") ∷ (0xC3 ∷ 0x84 ∷ 0xFF ∷ ascii "A@b") ∷ []
+
+small : every isCanonical canonicals ≡ true
+unfolding isCanonical canonical lowerText lowerPoints lowerPoint points tails leadOf inFront encoded encodedOne lowered lower sameOctets plain localPart atom domain label belongs freeEnds every onFirst pieces before behind from
+small = refl
+
+capital : every (λ s. not (isCanonical s)) no-canonicals ≡ true
+unfolding isCanonical canonical lowerText lowerPoints lowerPoint points tails leadOf inFront encoded encodedOne lowered lower sameOctets plain localPart atom domain label belongs freeEnds every onFirst pieces before behind from
 capital = refl
 
-small : isCanonical (ascii "a@b.example") ≡ true
-unfolding isCanonical canonical lowered lower sameOctets plain localPart atom domain label belongs freeEnds every onFirst pieces before behind
-small = refl
+-- T16: by the old rule a capital with an accent stays, too
+once : wasCanonical (0xC3 ∷ 0x84 ∷ ascii "@b") ≡ true
+unfolding wasCanonical asciiForm lowered lower sameOctets plain localPart atom domain label belongs freeEnds every onFirst pieces before behind
+once = refl
 
 -- what else stands in no plain address, beside all below 33: what lists and fields put between addresses
 apart : every (λ x. not (addressOctet x)) (127 ∷ ascii ",:;<>\"()[]\\") ≡ true

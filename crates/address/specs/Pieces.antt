@@ -2,6 +2,7 @@
 --     pieces    the text split at each such octet; without one it is a single piece
 --     before    what stands before the first such octet; the whole text where there is none
 --     behind    what stands behind the first such octet; nothing where there is none
+--     from      what stands from the first such octet on; nothing where there is none
 use Prim.Native.Nat.{ℕ}
 use mathlib.Core.Bool.{true, false}
 use mathlib.Core.List.{List, [], _∷_}
@@ -26,3 +27,8 @@ before d (x ∷ s) = elim (eqb x d) [ true ↦ [] | false ↦ x ∷ before d s ]
 unfoldable pub behind : ℕ → List ℕ → List ℕ
 behind d [] = []
 behind d (x ∷ s) = elim (eqb x d) [ true ↦ s | false ↦ behind d s ]
+
+-- L8: a domain with the `@` before it
+unfoldable pub from : ℕ → List ℕ → List ℕ
+from d [] = []
+from d (x ∷ s) = elim (eqb x d) [ true ↦ x ∷ s | false ↦ from d s ]

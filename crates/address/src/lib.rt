@@ -1,11 +1,17 @@
-// Plain addresses and their canonical form (SCOPE, L6 to L8). A test of an address passes over it once, atom by atom and
-// label by label.
+// Plain addresses and their canonical form (SCOPE, L6 to L8), also by the old rule (T16). A test of a plain address passes
+// over it once, atom by atom and label by label.
+ghost use Prim.Native.Nat.{_≤_};
 ghost use mathlib.Core.Path.{_≡_};
+ghost use mathlib.Core.Bool.{true};
 ghost use lib.Dec.{eqb};
 ghost use lib.ListN.{length, drop};
 ghost use Rattle.octets.specs.Octets.{sameOctets, lower as lowerOf, lowered};
-ghost use Rattle.address.specs.Address.{domain, plain, canonical as canonicalOf, isCanonical};
-ghost use Rattle.address.specs.Answers.{localOf, labelShape, writtenOf, ontoIfFits};
+ghost use Rattle.octets.specs.Tests.{every};
+ghost use Rattle.octets.specs.Written.{onto};
+ghost use Rattle.utf8.specs.Lowering.{lowerText};
+ghost use Rattle.utf8.specs.Steps.{allAscii};
+ghost use Rattle.address.specs.Address.{domain, plain, canonical as canonicalOf, isCanonical, wasCanonical};
+ghost use Rattle.address.specs.Answers.{localOf, labelShape, smallAscii, writtenOf, ontoIfFits};
 use runs::Class;
 
 // How many octets a plain address may have (L6).
@@ -110,8 +116,7 @@ fn small(x: u8) -> bool
     (x < b'A') | (b'Z' < x)
 }
 
-// Is there no ASCII capital? No way leads out of the loop early, so that it compiles to vector instructions: every address
-// of a table is tested so at each call.
+// Is there no ASCII capital? No way leads out of the loop early, so that it compiles to vector instructions.
 fn is_small(s: &[u8]) -> bool
     ensures { λ r. ⌜ r ≡ sameOctets (lowered (now (s .entry))) (now (s .entry)) ⌝ }
 {
@@ -124,11 +129,76 @@ fn is_small(s: &[u8]) -> bool
     all
 }
 
+fn small_ascii(x: u8) -> bool
+    ensures { λ r. ⌜ r ≡ smallAscii x ⌝ }
+{
+    (x < b'A') | ((b'Z' < x) & (x < 128))
+}
+
+// Is there nothing but ASCII, and no capital? Vector instructions as well: every address of a table is tested so at each
+// call, and nearly all go no further.
+fn is_small_ascii(s: &[u8]) -> bool
+    ensures { λ r. ⌜ r ≡ every smallAscii (now (s .entry)) ⌝ }
+{
+    let mut all = true;
+    let mut i = 0;
+    while i < s.len() {
+        all = all & small_ascii(s[i]);
+        i += 1;
+    }
+    all
+}
+
+// Is a local part in lower case? Nearly all that come here are well formed and are, which the first test tells without
+// asking whether they are well formed.
+fn is_small_text(s: &[u8]) -> bool
+    ensures { λ r. ⌜ r ≡ sameOctets (lowerText (now (s .entry))) (now (s .entry)) ⌝ }
+{
+    if utf8::is_steady(s) {
+        return true;
+    }
+    if utf8::is_text(s) {
+        return false;
+    }
+    is_small(s)
+}
+
+// Is it its own canonical form (L8)?
+fn is_own_form(s: &[u8]) -> bool
+    ensures { λ r. ⌜ r ≡ sameOctets (canonicalOf (now (s .entry))) (now (s .entry)) ⌝ }
+{
+    if is_small_ascii(s) {
+        return true;
+    }
+    let at = octets::find(s, 0, b'@');
+    is_small_text(&s[0..at]) & is_small(&s[at..])
+}
+
 // Is it a plain address that is its own canonical form (L8)?
 pub fn is_canonical(s: &[u8]) -> bool
     ensures { λ r. ⌜ r ≡ isCanonical (now (s .entry)) ⌝ }
 {
+    if is_plain(s) { is_own_form(s) } else { false }
+}
+
+// Is it one by the old rule (T16)?
+pub fn was_canonical(s: &[u8]) -> bool
+    ensures { λ r. ⌜ r ≡ wasCanonical (now (s .entry)) ⌝ }
+{
     if is_plain(s) { is_small(s) } else { false }
+}
+
+// Writes the canonical form over the front of `out`: all of the text by the rule for domains, and then, where that is not
+// enough, the local part once more.
+fn put_form(out: &mut [u8], s: &[u8])
+    requires { ⌜ length (now s) ≤ length (now out) ⌝ }
+    ensures { λ _. ⌜ now (out .exit) ≡ onto (canonicalOf (now (s .entry))) (now (out .entry)) ⌝ }
+{
+    if utf8::put_ascii(&mut *out, 0, s) {
+        return;
+    }
+    let at = octets::find(s, 0, b'@');
+    utf8::put_lower(&mut *out, 0, &s[0..at]);
 }
 
 // Writes the canonical form to the front of `out`, where it fits.
@@ -139,13 +209,34 @@ pub fn canonical(s: &[u8], out: &mut [u8]) -> Fitted
     if out.len() < s.len() {
         return Fitted::NoRoom;
     }
-    octets::put_lower(out, 0, s);
+    put_form(&mut *out, s);
     Fitted::Length(s.len())
 }
 
-// Are the canonical forms equal? Addresses are compared in no other way (L8).
-pub fn same_address(a: &[u8], b: &[u8]) -> bool
-    ensures { λ r. ⌜ r ≡ sameOctets (canonicalOf (now (a .entry))) (canonicalOf (now (b .entry))) ⌝ }
+// Is `form` the canonical form of `s`? Addresses are compared in no other way (L8). Where the form is ASCII, which a caller
+// who asks often finds out once, only an ASCII address has it, and that need not be brought into form. The lengths then come
+// first: a form is as long as its address, and most addresses differ there.
+pub fn has_known_form(s: &[u8], form: &[u8], ascii: bool) -> bool
+    requires { ⌜ (isCanonical (now form) ≡ true) × (ascii ≡ allAscii (now form)) ⌝ }
+    ensures { λ r. ⌜ r ≡ sameOctets (canonicalOf (now (s .entry))) (now (form .entry)) ⌝ }
 {
-    octets::same_name(a, b)
+    if ascii {
+        return octets::same_name(s, form);
+    }
+    if s.len() != form.len() {
+        return false;
+    }
+    let mut own = [0u8; 256];
+    match canonical(s, &mut own) {
+        Fitted::Length(n) => octets::same(&own[0..n], form),
+        Fitted::NoRoom => false,
+    }
+}
+
+// The same, for a form that is asked about once.
+pub fn has_form(s: &[u8], form: &[u8]) -> bool
+    requires { ⌜ isCanonical (now form) ≡ true ⌝ }
+    ensures { λ r. ⌜ r ≡ sameOctets (canonicalOf (now (s .entry))) (now (form .entry)) ⌝ }
+{
+    has_known_form(s, form, utf8::is_ascii(form))
 }

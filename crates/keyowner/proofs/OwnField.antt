@@ -3,7 +3,7 @@
 --     own-at, own-nothing                  what a caller asks of it
 -- Assumes nothing.
 use Prim.Native.Nat.{ℕ, _-_}
-use mathlib.Core.Path.{_≡_, refl, sym, ap, _∙_}
+use mathlib.Core.Path.{_≡_, refl, sym, _∙_}
 use mathlib.Core.Bool.{Bool, true, false}
 use mathlib.Core.List.{List}
 use mathlib.Core.Option.{Option, none}
@@ -11,8 +11,7 @@ use borrow.Author.Needs.{needs}
 use lib.ListN.{take, drop}
 use Rattle.octets.specs.Octets.{sameOctets}
 use Rattle.octets.proofs.Comparing.{same-true}
-use Rattle.address.specs.Address.{canonical, isCanonical}
-use Rattle.address.proofs.Spelling.{canonical-same}
+use Rattle.address.specs.Address.{canonical}
 use Rattle.keyfield.specs.Field.{Field, validFor}
 use Rattle.keyfield.specs.Answers.{ReadAt, ReadAs}
 use Rattle.keyfield.specs.declared.Read.{Read}
@@ -33,25 +32,22 @@ module _ (limit : ℕ) (sender s key : List ℕ) (r : Read) where
     abbrev named : List ℕ
     named = canonical (take (to - from) (drop from s))
 
-    alike : b ≡ sameOctets named (canonical sender) → isCanonical sender ≡ true → b ≡ sameOctets named sender
-    alike u c = u ∙ ap (sameOctets named) (canonical-same sender c)
-
     pub own-other :
-        b ≡ false → b ≡ sameOctets (canonical (take (to - from) (drop from s))) (canonical sender) → isCanonical sender ≡ true
+        b ≡ false → b ≡ sameOctets (canonical (take (to - from) (drop from s))) sender
         → (m : Bool) (l : ℕ) → r ≡ Valid from to m l → ReadAs limit s key r → OwnAs limit sender (validFor limit sender s) key NoKey
     unfolding OwnAs
-    own-other z u c m l q a =
+    own-other z u m l q a =
         naming-other limit sender s (record { address = named; isMutual = m; key = take l key })
         (told-field limit s key r a from to m l q .is)
-        (sym (alike u c) ∙ z)
+        (sym u ∙ z)
 
     pub own-key :
-        b ≡ true → b ≡ sameOctets (canonical (take (to - from) (drop from s))) (canonical sender) → isCanonical sender ≡ true
+        b ≡ true → b ≡ sameOctets (canonical (take (to - from) (drop from s))) sender
         → (m : Bool) (l : ℕ) → r ≡ Valid from to m l → ReadAs limit s key r → OwnAs limit sender (validFor limit sender s) key (Key m l)
     unfolding OwnAs
-    own-key z u c m l q a =
+    own-key z u m l q a =
         let read : ReadAt limit s key from to m l = told-field limit s key r a from to m l q in
-        let same : named ≡ sender = same-true named sender (sym (alike u c) ∙ z) in
+        let same : named ≡ sender = same-true named sender (sym u ∙ z) in
         let f : Field = record { address = sender; isMutual = m; key = take l key } in
         record { is = naming-sender limit sender s f (rw same at (read .is)) refl; opens = read .opens }
 

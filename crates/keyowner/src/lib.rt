@@ -38,7 +38,7 @@ pub fn valid_for(value: &[u8], limit: usize, sender: &[u8], key: &mut [u8]) -> O
             mutual,
             key: length,
         } => {
-            if address::same_address(&value[from..to], sender) {
+            if address::has_form(&value[from..to], sender) {
                 return Own::Key { mutual, length };
             }
             Own::NoKey

@@ -13,7 +13,9 @@ use Rattle.octets.specs.Tests.{every}
 use Rattle.runs.specs.Runs.{belongs, run}
 use Rattle.header.specs.Header as header
 use Rattle.tokens.specs.Tokens.{control, kindOf, past, afterQuote}
-use Rattle.address.specs.Pieces.{onFirst, pieces, before, behind}
+use Rattle.utf8.specs.Utf8 as utf8
+use Rattle.utf8.specs.Lowering as lowering
+use Rattle.address.specs.Pieces.{onFirst, pieces, before, behind, from}
 use Rattle.address.specs.Address.{atom, localPart, freeEnds, label, domain, plain, canonical}
 use Rattle.grammar.specs.Grammar.{afterAddress, after}
 use Rattle.addresslist.specs.List.{openingOf, runToken, quotedToken, tokenAt, firstToken, listedBy, listed, addresses}
@@ -39,7 +41,7 @@ senders :
     ∷ "From: a@b\nX"
     ∷ [])
     ≡ some (ascii "alice@b.org") ∷ some (ascii "a@b") ∷ none ∷ none ∷ none ∷ none ∷ none ∷ []
-unfolding header.fieldsOf header.fields header.fieldsWithin inFront header.unfolded header.over header.ofEnding header.opensField run header.rawLength belongs header.closes sameName sameOctets lowered lower openingOf holds runToken quotedToken tokenAt firstToken afterAddress after listedBy listed addresses atom localPart freeEnds label domain plain every onFirst pieces before behind control blank kindOf past afterQuote canonical onlyOne orElse fieldsIn isKind valuesOf canonicalOf senderBy senderIn
+unfolding header.fieldsOf header.fields header.fieldsWithin inFront header.unfolded header.over header.ofEnding header.opensField run header.rawLength belongs header.closes sameName sameOctets lowered lower openingOf holds runToken quotedToken tokenAt firstToken afterAddress after listedBy listed addresses atom localPart freeEnds label domain plain every onFirst pieces before behind control blank kindOf past afterQuote canonical from lowering.lowerText lowering.lowerPoints lowering.lowerPoint utf8.points utf8.tails utf8.leadOf utf8.encoded utf8.encodedOne onlyOne orElse fieldsIn isKind valuesOf canonicalOf senderBy senderIn
 senders = refl
 
 abbrev isReport : String → Bool

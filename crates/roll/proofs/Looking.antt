@@ -72,8 +72,8 @@ module _ (roll : List ℕ) (place to : ℕ) (e : to ≡ place + lengthBefore 0 (
   at-upto l = omega (arith, before-short (by 0 (drop place roll)), length-drop place roll)
 
   pub at-same :
-      (wanted : List ℕ) (b : Bool) → b ≡ sameOctets (canonical (take (to - place) (drop place roll))) (canonical wanted)
-      → b ≡ sameOctets (canonical (addressAt roll place)) (canonical wanted)
+      (wanted : List ℕ) (b : Bool) → b ≡ sameOctets (canonical (take (to - place) (drop place roll))) wanted
+      → b ≡ sameOctets (canonical (addressAt roll place)) wanted
   unfolding addressAt
   at-same wanted b q = let n : to - place ≡ lengthBefore 0 (drop place roll) = omega arith in rw n at q
 
@@ -81,6 +81,7 @@ pub ruleset standing = (at-from, at-upto, at-same, needs)
 
 pub record Looking (roll tags places a : List ℕ) (tag i : ℕ) : Type 0 where
   pub index : Indexed roll tags places
+  pub own : canonical a ≡ a
   pub number : tag ≡ tagOf (canonical a)
   pub upto : i ≤ length tags
   pub so-far : among a (unrolled roll) ≡ among a (drop i (unrolled roll))
@@ -88,7 +89,8 @@ pub record Looking (roll tags places a : List ℕ) (tag i : ℕ) : Type 0 where
 pub look-begin :
     (roll tags places a : List ℕ) (tag : ℕ) → Indexed roll tags places → isCanonical a ≡ true → tag ≡ tagOf a → Looking roll tags places a tag 0
 look-begin roll tags places a tag x c e =
-    record { index = x; number = e ∙ ap tagOf (sym (canonical-same a c)); upto = omega arith; so-far = refl }
+    let own : canonical a ≡ a = canonical-same a c in
+    record { index = x; own = own; number = e ∙ ap tagOf (sym own); upto = omega arith; so-far = refl }
 
 module _ (roll tags places a : List ℕ) (tag i : ℕ) (h : Looking roll tags places a tag i) where
   pub look-upto : i ≤ length tags
@@ -129,17 +131,17 @@ module _ (roll tags places a : List ℕ) (tag i : ℕ) (h : Looking roll tags pl
       look-less = omega arith
 
       module _ (b : Bool) where
-        step : b ≡ sameOctets (canonical (addressAt roll (getD places r 0))) (canonical a) → among a (unrolled roll) ≡ (b || among a (drop (r + 1) (unrolled roll)))
+        step : b ≡ sameOctets (canonical (addressAt roll (getD places r 0))) a → among a (unrolled roll) ≡ (b || among a (drop (r + 1) (unrolled roll)))
         unfolding addressAt among
         step q =
             let n : addressAt roll (getD places r 0) ≡ getD (unrolled roll) r [] = rw (opened .ends) (opened .text) in
             passed
-            ∙ rw (drop-cons (unrolled roll) r [] (omega (arith, many)), add-one, q, n)
+            ∙ rw (drop-cons (unrolled roll) r [] (omega (arith, many)), add-one, h .own, q, n)
 
-        pub look-found : b ≡ true → b ≡ sameOctets (canonical (addressAt roll (getD places r 0))) (canonical a) → true ≡ among a (unrolled roll)
+        pub look-found : b ≡ true → b ≡ sameOctets (canonical (addressAt roll (getD places r 0))) a → true ≡ among a (unrolled roll)
         look-found p q = sym (step q ∙ rw p)
 
-        pub look-on : b ≡ false → b ≡ sameOctets (canonical (addressAt roll (getD places r 0))) (canonical a) → Looking roll tags places a tag (r + 1)
-        look-on p q = record { index = h .index; number = h .number; upto = omega arith; so-far = step q ∙ rw p }
+        pub look-on : b ≡ false → b ≡ sameOctets (canonical (addressAt roll (getD places r 0))) a → Looking roll tags places a tag (r + 1)
+        look-on p q = record { index = h .index; own = h .own; number = h .number; upto = omega arith; so-far = step q ∙ rw p }
 
 pub ruleset looking = (look-begin, look-upto, look-end, look-place, look-within, look-less, look-found, look-on, needs)

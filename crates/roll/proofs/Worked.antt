@@ -11,7 +11,9 @@ use Rattle.octets.specs.Tests.{every}
 use Rattle.runs.specs.Runs.{belongs, run}
 use Rattle.tokens.specs.Tokens.{control, kindOf, past, afterQuote}
 use Rattle.tags.specs.Tags.{tagAfter, tagOf}
-use Rattle.address.specs.Pieces.{onFirst, pieces, before, behind}
+use Rattle.utf8.specs.Utf8 as utf8
+use Rattle.utf8.specs.Lowering as lowering
+use Rattle.address.specs.Pieces.{onFirst, pieces, before, behind, from}
 use Rattle.address.specs.Address.{atom, localPart, freeEnds, label, domain, plain, canonical}
 use Rattle.grammar.specs.Grammar.{afterAddress, after}
 use Rattle.addresslist.specs.List.{openingOf, runToken, quotedToken, tokenAt, firstToken, listedBy, listed, addresses, among}
@@ -43,5 +45,5 @@ pub worked :
     × Lists "A <a@b>, c@de" ("a@b" ∷ "c@de" ∷ [])
     × Lists "g:;" []
     × Lists "a@b," []
-unfolding entry rolled lengthened unrolled listedIn tagsOf placesFrom addressAt tagAfter tagOf lengthBefore among orElse canonical sameOctets lower lowered openingOf holds runToken quotedToken tokenAt firstToken afterAddress after inFront listedBy listed addresses belongs atom localPart freeEnds label domain plain every onFirst pieces before behind run control blank kindOf past afterQuote
+unfolding entry rolled lengthened unrolled listedIn tagsOf placesFrom addressAt tagAfter tagOf lengthBefore among orElse canonical from lowering.lowerText lowering.lowerPoints lowering.lowerPoint utf8.points utf8.tails utf8.leadOf utf8.encoded utf8.encodedOne sameOctets lower lowered openingOf holds runToken quotedToken tokenAt firstToken afterAddress after inFront listedBy listed addresses belongs atom localPart freeEnds label domain plain every onFirst pieces before behind run control blank kindOf past afterQuote
 worked = (refl, refl, refl, refl, refl, refl, refl, refl, refl, refl, refl, refl, refl, refl, refl)

@@ -10,6 +10,7 @@ ghost use Rattle.octets.specs.Octets.{sameOctets};
 ghost use Rattle.octets.specs.Options.{isSome};
 ghost use Rattle.octets.specs.Finding.{lengthBefore, Skipped};
 ghost use Rattle.tags.specs.Tags.{tagOf};
+ghost use Rattle.utf8.specs.Steps.{allAscii};
 ghost use Rattle.address.specs.Address.{plain, canonical, isCanonical};
 ghost use Rattle.addresslist.specs.List.{addresses, among};
 ghost use Rattle.roll.specs.Roll.{unrolled, listedIn};
@@ -136,28 +137,30 @@ fn next_tag(tags: &[u32], from: usize, tag: u32) -> usize
 }
 
 // Is the address that begins at a place the one that is wanted?
-fn is_at(roll: &[u8], place: u16, wanted: &[u8]) -> bool
-    requires { ⌜ place ≤ length (now roll) ⌝ }
-    ensures { λ r. ⌜ r ≡ sameOctets (canonical (addressAt (now (roll .entry)) place)) (canonical (now (wanted .entry))) ⌝ }
+fn is_at(roll: &[u8], place: u16, wanted: &[u8], ascii: bool) -> bool
+    requires { ⌜ (place ≤ length (now roll)) × (isCanonical (now wanted) ≡ true) × (ascii ≡ allAscii (now wanted)) ⌝ }
+    ensures { λ r. ⌜ r ≡ sameOctets (canonical (addressAt (now (roll .entry)) place)) (now (wanted .entry)) ⌝ }
 {
     let from = place as usize;
     let to = octets::find(roll, from, ENDER);
-    address::same_address(&roll[from..to], wanted)
+    address::has_known_form(&roll[from..to], wanted, ascii)
 }
 
-// Is one of the roll's addresses the one that is wanted? Addresses are compared only where their tags agree.
+// Is one of the roll's addresses the one that is wanted? Addresses are compared only where their tags agree. Whether the one
+// that is wanted is ASCII is found out once, since a stranger can send many with one tag.
 pub fn holds(roll: &[u8], tags: &[u32], places: &[u16], wanted: &[u8]) -> bool
     requires { ⌜ Indexed (now roll) (now tags) (now places) × (isCanonical (now wanted) ≡ true) ⌝ }
     ensures { λ r. ⌜ r ≡ among (now (wanted .entry)) (unrolled (now (roll .entry))) ⌝ }
 {
     let tag = tags::tag_of(wanted);
+    let ascii = utf8::is_ascii(wanted);
     let mut i = 0;
     loop {
         i = next_tag(tags, i, tag);
         if tags.len() <= i {
             return false;
         }
-        if is_at(roll, places[i], wanted) {
+        if is_at(roll, places[i], wanted, ascii) {
             return true;
         }
         i += 1;

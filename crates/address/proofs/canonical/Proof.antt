@@ -1,5 +1,5 @@
--- `address::canonical` meets its contract: the laws of `Forms` answer every need. Assumes nothing.
-use Rattle.address.proofs.Forms.{writing-canonical}
+-- `address::canonical` meets its contract: the laws of `Making` answer every need. Assumes nothing.
+use Rattle.address.proofs.Making.{writing-canonical}
 use Rattle.address.proofs.canonical as fn
 
 pub canonical-spec : {M : Type 1} → fn.Statement.statement M

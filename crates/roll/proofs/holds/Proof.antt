@@ -6,7 +6,7 @@ use Rattle.roll.proofs.holds as fn
 
 pub holds-spec : {M : Type 1} → fn.Statement.statement M
 holds-spec =
-    fn.Tie.close (fn.Tie.spec (λ roll tags places wanted tag i₀ i. Looking roll tags places wanted tag i)
-    (λ roll tags places wanted tag i₀ i. length tags - i) (λ c. search looking) (λ c. search looking)
+    fn.Tie.close (fn.Tie.spec (λ roll tags places wanted tag ascii i₀ i. Looking roll tags places wanted tag i)
+    (λ roll tags places wanted tag ascii i₀ i. length tags - i) (λ c. search looking) (λ c. search looking)
     (λ c. search looking) (λ c. search looking) (λ c. search looking) (λ c. search looking) (λ c. search looking)
-    (λ c. search looking) (λ c. search looking) (λ c. search looking) (λ c. search looking))
+    (λ c. search looking) (λ c. search looking) (λ c. search looking) (λ c. search looking) (λ c. search looking))

@@ -1,0 +1,13 @@
+pub mod Leading
+pub mod RoundTrip
+pub mod Scalars
+pub mod Back
+pub mod Mapping
+pub mod Octetwise
+pub mod Alike
+pub mod Lowering
+pub mod Around
+pub mod Staying
+pub mod Walking
+pub mod Telling
+pub mod Worked
