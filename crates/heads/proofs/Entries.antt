@@ -1,7 +1,7 @@
 -- Entries and their heads.
 --     canonical-most           a canonical address is within the limit of L6
 --     present-is .. half-holds    what may be absent, beside what stands for it
---     changed-seen .. changed-gossip    what a writer changes in an entry, it changes in its head
+--     changed-address .. changed-gossip    what a writer changes in an entry, it changes in its head
 -- Assumes nothing.
 use Prim.Native.Nat.{ℕ, _≤_}
 use mathlib.Core.Path.{_≡_, refl}
@@ -14,8 +14,8 @@ use Rattle.octets.specs.Options.{orElse, isSome, IfSome}
 use Rattle.octets.proofs.Tests.{and-left}
 use Rattle.address.specs.Address.{plain, canonical, isCanonical}
 use Rattle.address.proofs.Sides.{plain-most}
-use Rattle.heads.specs.Head.{headSeen, headDirect, headGossip}
-use Rattle.heads.specs.Entry.{Direct, Gossip, Entry, present, headFor, seenBy, withDirect, withGossip}
+use Rattle.heads.specs.Head.{headAddress, headSeen, headDirect, headGossip}
+use Rattle.heads.specs.Entry.{Direct, Gossip, Entry, present, headFor, renamed, seenBy, withDirect, withGossip}
 
 pub canonical-most : (a : List ℕ) → isCanonical a ≡ true → length a ≤ 254
 unfolding isCanonical
@@ -42,6 +42,10 @@ pub half-holds : {A : Type 0} (P Q : A → Type 0) (d : A) → Q d → ((x : A) 
 unfolding orElse
 half-holds P Q d z f none g = z
 half-holds P Q d z f (some x) g = f x g
+
+pub changed-address : (e : Entry) (a : List ℕ) → headFor (renamed a e) ≡ headAddress (length a) (headFor e)
+unfolding headFor renamed
+changed-address e a = refl
 
 pub changed-seen : (e : Entry) (date : ℕ) → headFor (seenBy date e) ≡ headSeen date (headFor e)
 unfolding headFor seenBy isSome orElse

@@ -3,7 +3,8 @@
 --     present                  what may be absent, by its bit
 --     noDirect, noGossip       what stands for a half that is absent
 --     headFor                  the head of an entry
---     newcomer .. withGossip   the entry of an address that is new, and what a writer changes in an entry
+--     newcomer                 the entry of an address that is new
+--     renamed .. withGossip    what a writer changes in an entry
 --     GoodKey .. Good          what a sound entry satisfies, with keys of at most `limit` octets
 use Prim.Native.Nat.{ℕ, _≤_, max}
 use mathlib.Core.Path.{_≡_}
@@ -67,6 +68,10 @@ headFor e =
 -- U4: what an address that has no entry yet begins with: itself, and nothing else
 unfoldable pub newcomer : List ℕ → Entry
 newcomer a = record { address = a; lastSeen = none; direct = none; gossip = none }
+
+-- T17: the address is replaced, and all else stays
+unfoldable pub renamed : List ℕ → Entry → Entry
+renamed a e = record { address = a; lastSeen = e .lastSeen; direct = e .direct; gossip = e .gossip }
 
 -- U7: last seen becomes the date if it was absent or smaller
 unfoldable pub seenBy : ℕ → Entry → Entry

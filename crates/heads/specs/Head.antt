@@ -7,7 +7,7 @@
 --     emptyHead                  those of an entry that holds an address only
 --     clear                      what is zero in every head
 --     seenSound, directSound, gossipSound    the conditions on last seen and on the two halves
---     headSeen, headDirect, headGossip       what the writers change
+--     headAddress .. headGossip              what the writers change
 --     bitsOf .. headOctets       the 38 octets of a head
 use Prim.Native.Nat.{ℕ, _+_, _-_, _/_, _%_, max}
 use mathlib.Core.Bool.{Bool, true, false, not, cond, _&&_, _||_}
@@ -132,6 +132,22 @@ abbrev pub gossipSound : ℕ → Head → Bool
 gossipSound limit n =
     (not (n .gossip) || oneTo limit (n .«gossip_length») && leb (n .«gossip_timestamp») timeLimit)
     && (n .gossip || eqb (n .«gossip_timestamp») 0 && eqb (n .«gossip_length») 0)
+
+-- T17: another address, of n octets
+abbrev pub headAddress : ℕ → Head → Head
+headAddress n h =
+    record {
+      «address_length» = n;
+      seen = h .seen;
+      direct = h .direct;
+      gossip = h .gossip;
+      «mutual» = h .«mutual»;
+      «last_seen» = h .«last_seen»;
+      timestamp = h .timestamp;
+      «gossip_timestamp» = h .«gossip_timestamp»;
+      «direct_length» = h .«direct_length»;
+      «gossip_length» = h .«gossip_length»;
+    }
 
 -- U7: last seen is raised to the date, and is there from then on; an absent one counts as 0 (T8.7)
 abbrev pub headSeen : ℕ → Head → Head

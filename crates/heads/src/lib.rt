@@ -6,7 +6,7 @@ ghost use mathlib.Core.Path.{_≡_};
 ghost use mathlib.Core.Bool.{cond};
 ghost use lib.ListN.{length};
 ghost use Rattle.octets.specs.Written.{putAt};
-ghost use Rattle.heads.specs.Head.{headLength, headOf, emptyHead, clear, seenSound, directSound, gossipSound, headSeen, headDirect, headGossip, bitsOf, times, lengths, headOctets};
+ghost use Rattle.heads.specs.Head.{headLength, headOf, emptyHead, clear, seenSound, directSound, gossipSound, headAddress, headSeen, headDirect, headGossip, bitsOf, times, lengths, headOctets};
 
 // What octets 2 to 39 say: the lengths, the four bits and the times of an entry (T3).
 pub struct Head {
@@ -144,6 +144,24 @@ impl Head {
             + weight(self.direct, 2)
             + weight(self.gossip, 4)
             + weight(self.mutual, 8)
+    }
+
+    // With another address, of so many octets (T17).
+    pub fn with_address(self, length: usize) -> Self
+        ensures { λ r. ⌜ r ≡ headAddress length self ⌝ }
+    {
+        Self {
+            address_length: length,
+            seen: self.seen,
+            direct: self.direct,
+            gossip: self.gossip,
+            mutual: self.mutual,
+            last_seen: self.last_seen,
+            timestamp: self.timestamp,
+            gossip_timestamp: self.gossip_timestamp,
+            direct_length: self.direct_length,
+            gossip_length: self.gossip_length,
+        }
     }
 
     // Last seen becomes the date if it was absent or smaller (U7). An absent one is 0 (T8.7), so that the larger of the two

@@ -19,6 +19,7 @@ use Rattle.refusals.specs.declared.Refusal.{Refusal}
 use Rattle.refusals.specs.declared.Refusal.the-variants.{BrokenSlot, OutputLength}
 use Rattle.refusals.specs.declared.Answer.the-variants.{Done, Refused}
 use Rattle.refusals.proofs.Rows.{front-only, refused-is, done-is, answer-refused, answer-done, rows}
+use Rattle.slots.specs.declared.Spelling.the-variants.{Canonical}
 use Rattle.table.specs.Slotwise.{Broken}
 use Rattle.entry.specs.Shown.{shownCount, shownAt}
 use Rattle.inspect.specs.Inspecting.{tableRows, showingRows, refusedShowing, leftByShowing}
@@ -49,4 +50,4 @@ module _ (t : List ℕ) (i : ℕ) (d : List ℕ) where
   pub index-lowest : (j : ℕ) → answerOf refusal ≡ Refused (BrokenSlot j) → Broken t j
   unfolding refusedShowing showingRows someHolds
   index-lowest j a =
-      lowest-broken t j (front-only (tableRows t) ((OutputLength unless leb shownCount (length d)) ∷ []) (BrokenSlot j) refl (answer-refused refusal (BrokenSlot j) a))
+      lowest-broken Canonical t j (front-only (tableRows t) ((OutputLength unless leb shownCount (length d)) ∷ []) (BrokenSlot j) refl (answer-refused refusal (BrokenSlot j) a))

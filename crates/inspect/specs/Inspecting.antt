@@ -1,7 +1,7 @@
 -- SCOPE, T13 and T14: a table looked at. Refusals 1 and 2, which every call on a table begins with, and one entry by its slot.
 --     isSound, brokenSlot           what the check answers: nothing is wrong; the lowest slot that is
---     tableRows                     rows 1 and 2
---     Opens                         the answer on them, with the tags of the table where neither holds
+--     tableRowsBy, tableRows        rows 1 and 2, by either rule; by the one in force
+--     OpensBy, Opens                the answer on them, with the tags of the table where neither holds
 --     showingRows, refusedShowing   one entry by its slot: rows 1, 2 and 12
 --     leftByShowing                 what the lent numbers hold afterwards. What they say is said by the crate `entry`
 use Prim.Native.Nat.{ℕ}
@@ -17,8 +17,10 @@ use Rattle.refusals.specs.declared.Refusal.{Refusal}
 use Rattle.refusals.specs.declared.Refusal.the-variants.{TableLength, BrokenSlot, OutputLength}
 use Rattle.refusals.specs.declared.Answer.{Answer}
 use Rattle.refusals.specs.declared.Answer.the-variants.{Done}
-use Rattle.table.specs.Table.{whole, checked}
-use Rattle.table.specs.Tagged.{Open}
+use Rattle.slots.specs.declared.Spelling.{Spelling}
+use Rattle.slots.specs.declared.Spelling.the-variants.{Canonical}
+use Rattle.table.specs.Table.{whole, checkedBy}
+use Rattle.table.specs.Tagged.{OpenBy}
 use Rattle.table.specs.declared.Checked.{Checked}
 use Rattle.table.specs.declared.Checked.the-variants.{Sound, Length, Slot}
 use Rattle.entry.specs.Shown.{shownCount, shownAt}
@@ -36,13 +38,19 @@ brokenSlot Length = 0
 brokenSlot (Slot i) = i
 
 -- R1, R2: the length is not that of 1 to 256 whole slots; some slot is neither free nor sound, and the lowest index of such a one is answered
-unfoldable pub tableRows : List ℕ → List Row
-tableRows t = (TableLength unless whole t) ∷ (BrokenSlot (brokenSlot (checked t)) unless isSound (checked t)) ∷ []
+unfoldable pub tableRowsBy : Spelling → List ℕ → List Row
+tableRowsBy how t = (TableLength unless whole t) ∷ (BrokenSlot (brokenSlot (checkedBy how t)) unless isSound (checkedBy how t)) ∷ []
+
+abbrev pub tableRows : List ℕ → List Row
+tableRows t = tableRowsBy Canonical t
 
 -- the tags are handed out where there is nothing to refuse
-pub record Opens (t tags : List ℕ) (r : Answer) : Type 0 where
-  pub answer : r ≡ answerOf (firstOf (tableRows t))
-  pub opens : r ≡ Done → Open t tags
+pub record OpensBy (how : Spelling) (t tags : List ℕ) (r : Answer) : Type 0 where
+  pub answer : r ≡ answerOf (firstOf (tableRowsBy how t))
+  pub opens : r ≡ Done → OpenBy how t tags
+
+abbrev pub Opens : List ℕ → List ℕ → Answer → Type 0
+Opens t tags r = OpensBy Canonical t tags r
 
 -- T14, R12: behind rows 1 and 2, 12 where fewer than eleven numbers are lent
 unfoldable pub showingRows : List ℕ → ℕ → List Row

@@ -4,17 +4,26 @@ ghost use mathlib.Core.Path.{_≡_};
 ghost use lib.ListN.{length};
 ghost use Rattle.refusals.specs.Rows.{firstOf, answerOf};
 ghost use Rattle.table.specs.Table.{mostSlots};
-ghost use Rattle.inspect.specs.Inspecting.{tableRows, Opens, refusedShowing, leftByShowing};
+ghost use Rattle.inspect.specs.Inspecting.{tableRows, OpensBy, Opens, refusedShowing, leftByShowing};
 use refusals::Answer;
 use refusals::Refusal;
 use slots::Slot;
+use slots::Spelling;
 
 // Is this a table that the calls take? The tags of its slots come with the answer, for the calls that look for addresses.
 pub fn open_table(table: &[u8], tags: &mut [u32; Slot::MOST]) -> Answer
     requires { ⌜ length (now tags) ≡ mostSlots ⌝ }
     ensures { λ r. ⌜ Opens (now (table .entry)) (now (tags .exit)) r ⌝ }
 {
-    match lookup::check(table, tags) {
+    open_by(table, tags, Spelling::Canonical)
+}
+
+// The same, for addresses in the one spelling or the other (T16).
+pub fn open_by(table: &[u8], tags: &mut [u32; Slot::MOST], how: Spelling) -> Answer
+    requires { ⌜ length (now tags) ≡ mostSlots ⌝ }
+    ensures { λ r. ⌜ OpensBy how (now (table .entry)) (now (tags .exit)) r ⌝ }
+{
+    match lookup::check(table, tags, how) {
         table::Checked::Sound => Answer::Done,
         table::Checked::Length => Answer::Refused(Refusal::TableLength),
         table::Checked::Slot(i) => Answer::Refused(Refusal::BrokenSlot(i as u32)),

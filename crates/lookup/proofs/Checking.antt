@@ -4,7 +4,7 @@
 --     lower-seeks .. lower-none         whether its address stands in a lower one
 --     whole-is                          the answer on the length
 --     tagged-begin, tagged-next         the tags of no slot, and of one slot more
---     Judged t n i                      the answer on n slots, at most 256, is that on those from i on
+--     Judged how t n i                      the answer on n slots, at most 256, is that on those from i on
 --     judge-begin .. judges-next        the loop's steps
 --     checks-length .. checks-sound     the three answers, with the tags
 --     the rulesets                      tagging, for `tag_at`; being-right, for `is_right`; looking-lower, for `in_lower`; judging, for `check`
@@ -22,10 +22,11 @@ use lib.Dec.{leb, eqb}
 use lib.ListN.{length, getD, set, length-set}
 use lib.Seq.{getD-set-same, getD-set-other}
 use Rattle.octets.proofs.Lists.{lt-or-le, left-one}
-use Rattle.slots.specs.Slot.{slotLength, marked, free, sound, addressOf}
+use Rattle.slots.specs.Slot.{slotLength, marked, free, soundBy, addressOf}
+use Rattle.slots.specs.declared.Spelling.{Spelling}
 use Rattle.slots.proofs.Sounds.{marked-not-free, unmarked-not-sound}
 use Rattle.tags.specs.Tags.{tagOf}
-use Rattle.table.specs.Table.{slots, slotAt, hasAddress, lowest, isAt, inLower, right, whole, judged, checked}
+use Rattle.table.specs.Table.{slots, slotAt, hasAddress, lowest, isAt, inLower, rightBy, whole, judgedBy, checkedBy}
 use Rattle.table.specs.Tagged.{tagAt, TaggedTo}
 use Rattle.table.specs.declared.Checked.the-variants.{Sound, Length, Slot}
 use Rattle.table.specs.declared.Found.{Found}
@@ -45,26 +46,26 @@ module _ (t s : List ℕ) (i : ℕ) (m : Bool) (e : (s ≡ slotAt t i) × (lengt
   unfolding tagAt
   tag-used q a tag ea et = et ∙ rw (used-by, not-false m q, ea, e .0)
 
-  pub right-free : (b : Bool) → not m ≡ true → b ≡ free s → b ≡ right t i
-  unfolding right
-  right-free b q f =
-      let z : sound (slotAt t i) ≡ false = unmarked-not-sound (slotAt t i) (used-by ∙ not-true m q) in
+  pub right-free : (how : Spelling) (b : Bool) → not m ≡ true → b ≡ free s → b ≡ rightBy how t i
+  unfolding rightBy
+  right-free how b q f =
+      let z : soundBy how (slotAt t i) ≡ false = unmarked-not-sound how (slotAt t i) (used-by ∙ not-true m q) in
       f ∙ rw (e .0, z) (sym (or-false (free (slotAt t i))))
 
   module _ (q : not m ≡ false) where
     taken : free (slotAt t i) ≡ false
     taken = marked-not-free (slotAt t i) (used-by ∙ not-false m q)
 
-    pub right-not : (b : Bool) → b ≡ sound s → not b ≡ true → false ≡ right t i
-    unfolding right
-    right-not b f n =
-        let z : sound (slotAt t i) ≡ false = ap sound (sym (e .0)) ∙ sym f ∙ not-true b n in
+    pub right-not : (how : Spelling) (b : Bool) → b ≡ soundBy how s → not b ≡ true → false ≡ rightBy how t i
+    unfolding rightBy
+    right-not how b f n =
+        let z : soundBy how (slotAt t i) ≡ false = ap (soundBy how) (sym (e .0)) ∙ sym f ∙ not-true b n in
         rw (taken, z)
 
-    pub right-used : (b c : Bool) → b ≡ sound s → not b ≡ false → c ≡ inLower t i → not c ≡ right t i
-    unfolding right
-    right-used b c f n r =
-        let z : sound (slotAt t i) ≡ true = ap sound (sym (e .0)) ∙ sym f ∙ not-false b n in
+    pub right-used : (how : Spelling) (b c : Bool) → b ≡ soundBy how s → not b ≡ false → c ≡ inLower t i → not c ≡ rightBy how t i
+    unfolding rightBy
+    right-used how b c f n r =
+        let z : soundBy how (slotAt t i) ≡ true = ap (soundBy how) (sym (e .0)) ∙ sym f ∙ not-false b n in
         rw (taken, z, r)
 
     pub compares : (tags : List ℕ) → Judges t tags i → Compares t tags i
@@ -122,19 +123,19 @@ tagged-next t tags i tag h l e =
           (lt-or-le k i);
     }
 
-pub record Judged (t : List ℕ) (n i : ℕ) : Type 0 where
+pub record Judged (how : Spelling) (t : List ℕ) (n i : ℕ) : Type 0 where
   pub few : n ≤ 256
   pub upto : i ≤ n
-  pub so-far : judged t 0 n ≡ judged t i (n - i)
+  pub so-far : judgedBy how t 0 n ≡ judgedBy how t i (n - i)
 
-pub judge-begin : (t : List ℕ) (n : ℕ) (w : Bool) → w ≡ whole t → not w ≡ false → n ≡ slots t → Judged t n 0
-judge-begin t n w ew nw en =
+pub judge-begin : (how : Spelling) (t : List ℕ) (n : ℕ) (w : Bool) → w ≡ whole t → not w ≡ false → n ≡ slots t → Judged how t n 0
+judge-begin how t n w ew nw en =
     record { few = omega (arith, whole-few t (sym ew ∙ not-false w nw)); upto = omega arith; so-far = rw (sub-zero n) }
 
-module _ (t : List ℕ) (n i : ℕ) (h : Judged t n i) where
-  pub judge-next : (b : Bool) → i < n → b ≡ right t i → not b ≡ false → Judged t n (i + 1)
+module _ (how : Spelling) (t : List ℕ) (n i : ℕ) (h : Judged how t n i) where
+  pub judge-next : (b : Bool) → i < n → b ≡ rightBy how t i → not b ≡ false → Judged how t n (i + 1)
   judge-next b l e q =
-      record { few = h .few; upto = omega arith; so-far = h .so-far ∙ rw (left-one n i l) (judged-on t i (n - (i + 1)) (sym e ∙ not-false b q)) }
+      record { few = h .few; upto = omega arith; so-far = h .so-far ∙ rw (left-one n i l) (judged-on how t i (n - (i + 1)) (sym e ∙ not-false b q)) }
 
   pub judge-room : i < n → i < 256
   judge-room l = omega (arith, h .few)
@@ -143,28 +144,28 @@ module _ (t : List ℕ) (n i : ℕ) (h : Judged t n i) where
   judges-next tags tag g e l p = record { within = omega arith; tagged = tagged-next t tags i tag g (omega (arith, h .few)) p }
 
   module _ (w : Bool) (ew : w ≡ whole t) (nw : not w ≡ false) (en : n ≡ slots t) where
-    all : checked t ≡ judged t i (n - i)
-    all = checked-slots t (sym ew ∙ not-false w nw) ∙ rw (← en) (h .so-far)
+    all : checkedBy how t ≡ judgedBy how t i (n - i)
+    all = checked-slots how t (sym ew ∙ not-false w nw) ∙ rw (← en) (h .so-far)
 
-    pub checks-slot : (tags : List ℕ) (b : Bool) → i < n → b ≡ right t i → not b ≡ true → Checks t tags (Slot i)
+    pub checks-slot : (tags : List ℕ) (b : Bool) → i < n → b ≡ rightBy how t i → not b ≡ true → Checks how t tags (Slot i)
     checks-slot tags b l e q =
         record {
-          answer = sym (all ∙ rw (left-one n i l) (judged-here t i (n - (i + 1)) (sym e ∙ not-true b q)));
+          answer = sym (all ∙ rw (left-one n i l) (judged-here how t i (n - (i + 1)) (sym e ∙ not-true b q)));
           opens = λ z. let y : _≡_ {A = ℕ} 0 1 = cc in absurd (omega arith);
         }
 
-    pub checks-sound : (tags : List ℕ) → TaggedTo t tags i → n ≤ i → Checks t tags Sound
-    unfolding judged
+    pub checks-sound : (tags : List ℕ) → TaggedTo t tags i → n ≤ i → Checks how t tags Sound
+    unfolding judgedBy
     checks-sound tags g l =
         let z : n - i ≡ 0 = omega arith in
         let y : i ≡ slots t = omega (arith, h .upto) in
-        let s : Sound ≡ checked t = sym (all ∙ rw z) in
+        let s : Sound ≡ checkedBy how t = sym (all ∙ rw z) in
         record { answer = s; opens = λ _. record { sound = sym s; tagged = rw y at g } }
 
-pub checks-length : (t tags : List ℕ) (b : Bool) → b ≡ whole t → not b ≡ true → Checks t tags Length
-checks-length t tags b e n =
+pub checks-length : (how : Spelling) (t tags : List ℕ) (b : Bool) → b ≡ whole t → not b ≡ true → Checks how t tags Length
+checks-length how t tags b e n =
     record {
-      answer = sym (checked-length t (sym e ∙ not-true b n));
+      answer = sym (checked-length how t (sym e ∙ not-true b n));
       opens = λ z. let y : _≡_ {A = ℕ} 0 1 = cc in absurd (omega arith);
     }
 

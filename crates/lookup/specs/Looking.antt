@@ -2,15 +2,16 @@
 --     Seeks       a tag is that of an address, to be looked for in the first n slots, whose tags are there
 --     Judges      the tags up to that of slot i are there
 --     Compares    the tags up to that of slot i are there, and the slot is used
---     Checks      the answer of the check, with the tags where it is that the table is sound
+--     Checks      the answer of the check by either rule, with the tags where it is that the table is sound
 use Prim.Native.Nat.{ℕ, _+_, _<_, _≤_}
 use mathlib.Core.Path.{_≡_}
 use mathlib.Core.Bool.{true}
 use mathlib.Core.List.{List}
 use Rattle.slots.specs.Slot.{marked}
+use Rattle.slots.specs.declared.Spelling.{Spelling}
 use Rattle.tags.specs.Tags.{tagOf}
-use Rattle.table.specs.Table.{slots, slotAt, checked}
-use Rattle.table.specs.Tagged.{TaggedTo, Open}
+use Rattle.table.specs.Table.{slots, slotAt, checkedBy}
+use Rattle.table.specs.Tagged.{TaggedTo, OpenBy}
 use Rattle.table.specs.declared.Checked.{Checked}
 use Rattle.table.specs.declared.Checked.the-variants.{Sound}
 
@@ -29,6 +30,6 @@ pub record Compares (t tags : List ℕ) (i : ℕ) : Type 0 where
   pub used : marked (slotAt t i) ≡ true
 
 -- R1, R2: what the check answers, with the tags of the table where it is sound
-pub record Checks (t tags : List ℕ) (r : Checked) : Type 0 where
-  pub answer : r ≡ checked t
-  pub opens : r ≡ Sound → Open t tags
+pub record Checks (how : Spelling) (t tags : List ℕ) (r : Checked) : Type 0 where
+  pub answer : r ≡ checkedBy how t
+  pub opens : r ≡ Sound → OpenBy how t tags

@@ -6,12 +6,13 @@ ghost use mathlib.Core.Bool.{_&&_};
 ghost use lib.Dec.{eqb};
 ghost use lib.ListN.{length};
 ghost use Rattle.slots.specs.Slot.{slotLength, marked, addressOf};
-ghost use Rattle.table.specs.Table.{mostSlots, slots as slotsOf, hasAddress, lowest, found, inLower, right, whole};
+ghost use Rattle.table.specs.Table.{mostSlots, slots as slotsOf, hasAddress, lowest, found, inLower, rightBy, whole};
 ghost use Rattle.table.specs.Tagged.{tagAt, Tagged, Open};
 ghost use Rattle.lookup.specs.Looking.{Seeks, Judges, Compares, Checks};
 ghost use Rattle.lookup.specs.Held.{heldOf};
 use heads::Head;
 use slots::Slot;
+use slots::Spelling;
 use table::Checked;
 use table::Found;
 
@@ -69,7 +70,13 @@ fn search(table: &[u8], tags: &[u32; Slot::MOST], address: &[u8], tag: u32, n: u
 
 // The lowest of the first `n` slots that holds the address, as `search` finds it. Where there are more than a few slots,
 // they are looked through only if one of them has the tag: all tags are compared first, several at once.
-fn lowest_with(table: &[u8], tags: &[u32; Slot::MOST], address: &[u8], tag: u32, n: usize) -> Found
+pub fn lowest_with(
+    table: &[u8],
+    tags: &[u32; Slot::MOST],
+    address: &[u8],
+    tag: u32,
+    n: usize,
+) -> Found
     requires { ⌜ Seeks (now table) (now tags) (now address) tag n ⌝ }
     ensures { λ r. ⌜ r ≡ lowest (hasAddress (now (address .entry))) (now (table .entry)) 0 n ⌝ }
 {
@@ -114,7 +121,7 @@ pub fn entry_of(table: &[u8], tags: &[u32; Slot::MOST], address: &[u8]) -> Held
 }
 
 // The tag of the slot: that of its address, and 0 where it is not used.
-fn tag_at(table: &[u8], i: usize) -> u32
+pub fn tag_at(table: &[u8], i: usize) -> u32
     requires { ⌜ i < slotsOf (now table) ⌝ }
     ensures { λ r. ⌜ r ≡ tagAt (now (table .entry)) i ⌝ }
 {
@@ -137,15 +144,15 @@ fn in_lower(table: &[u8], tags: &[u32; Slot::MOST], i: usize) -> bool
 }
 
 // Is the slot free, or sound with its address in no lower slot (R2)?
-fn is_right(table: &[u8], tags: &[u32; Slot::MOST], i: usize) -> bool
+fn is_right(table: &[u8], tags: &[u32; Slot::MOST], i: usize, how: Spelling) -> bool
     requires { ⌜ Judges (now table) (now tags) i ⌝ }
-    ensures { λ r. ⌜ r ≡ right (now (table .entry)) i ⌝ }
+    ensures { λ r. ⌜ r ≡ rightBy how (now (table .entry)) i ⌝ }
 {
     let slot = table::slot_at(table, i);
     if !slots::is_marked(slot) {
         return slots::is_free(slot);
     }
-    if !slots::is_sound(slot) {
+    if !slots::is_sound(slot, how) {
         return false;
     }
     !in_lower(table, tags, i)
@@ -159,11 +166,11 @@ fn is_whole(table: &[u8]) -> bool
     (table.len() % Slot::LEN == 0) & (1 <= n) & (n <= Slot::MOST)
 }
 
-// Is it a table (R1, R2)? Every call asks this first, and gets the tags with the answer. Those of the slots that are
-// passed are there for the slots above.
-pub fn check(table: &[u8], tags: &mut [u32; Slot::MOST]) -> Checked
+// Is it a table (R1, R2), with addresses in the one spelling or the other (T16)? Every call asks this first, and gets the
+// tags with the answer. Those of the slots that are passed are there for the slots above.
+pub fn check(table: &[u8], tags: &mut [u32; Slot::MOST], how: Spelling) -> Checked
     requires { ⌜ length (now tags) ≡ mostSlots ⌝ }
-    ensures { λ r. ⌜ Checks (now (table .entry)) (now (tags .exit)) r ⌝ }
+    ensures { λ r. ⌜ Checks how (now (table .entry)) (now (tags .exit)) r ⌝ }
 {
     if !is_whole(table) {
         return Checked::Length;
@@ -172,7 +179,7 @@ pub fn check(table: &[u8], tags: &mut [u32; Slot::MOST]) -> Checked
     let mut i = 0;
     while i < n {
         tags[i] = tag_at(table, i);
-        if !is_right(table, tags, i) {
+        if !is_right(table, tags, i, how) {
             return Checked::Slot(i);
         }
         i += 1;

@@ -17,6 +17,7 @@ use Rattle.refusals.specs.declared.Refusal.{Refusal}
 use Rattle.refusals.specs.declared.Refusal.the-variants.{NoFreeSlot}
 use Rattle.refusals.specs.declared.Answer.the-variants.{Done, Refused}
 use Rattle.refusals.proofs.Rows.{by-refusal, refused-is, done-is}
+use Rattle.slots.specs.declared.Spelling.the-variants.{Canonical}
 use Rattle.table.specs.Table.{checked}
 use Rattle.table.specs.declared.Checked.the-variants.{Sound}
 use Rattle.inspect.specs.Inspecting.{tableRows}
@@ -118,5 +119,5 @@ broken-stays t (c ∷ rest) n =
     ap (λ (u : List ℕ). tableAfter u rest)
     (by-refusal (firstOf (tableRows t))
     (λ r e. refused-left t (c .receipt) (c .outer) (c .payload) (c .setting) r (unsound-first t (c .receipt) (c .outer) (c .payload) (c .setting) r e))
-    (λ e. absurd (n (rows-sound t e))))
+    (λ e. absurd (n (rows-sound Canonical t e))))
     ∙ broken-stays t rest n

@@ -16,9 +16,10 @@ use Rattle.heads.specs.Head.{headOf}
 use Rattle.slots.specs.Slot.{slotLength, marked, addressOf}
 use Rattle.heads.specs.Entry.{headFor, present}
 use Rattle.slots.specs.Entry.{entryOf}
+use Rattle.slots.specs.declared.Spelling.the-variants.{Canonical}
+use Rattle.slots.proofs.Entries.{spelled-most}
 use Rattle.slots.specs.Facts.{Sound as SoundSlot}
 use Rattle.slots.proofs.Sounds.{sound-parts}
-use Rattle.heads.proofs.Entries.{canonical-most}
 use Rattle.slots.proofs.Entries.{head-back, direct-key-in, gossip-key-in}
 use Rattle.table.specs.Table.{slots, slotAt, checked}
 use Rattle.table.specs.declared.Checked.the-variants.{Sound}
@@ -78,7 +79,7 @@ module _ (t : List ℕ) (c : checked t ≡ Sound) where
       (λ m.
       let p : SoundSlot (slotAt t i) = sound-parts (slotAt t i) (used-sound t (table-sound t c) i l m .0) in
       rw (slot-parts t i c l m, length-append, ended-long)
-      (omega (arith, used-most i l m, canonical-most (addressOf (slotAt t i)) (p .canonical))))
+      (omega (arith, used-most i l m, spelled-most Canonical (addressOf (slotAt t i)) (p .address))))
       (λ m. rw (slot-free t i m) (omega arith))
 
   lines-on : (i k : ℕ) → linesFrom t i (suc k) ≡ slotText (slotAt t i) ++ linesFrom t (i + 1) k

@@ -11,7 +11,7 @@ use Rattle.octets.specs.Octets.{ascii, allZero, sameOctets}
 use Rattle.octets.specs.Options.{orElse}
 use Rattle.slots.specs.Slot.{slotLength, free, marked}
 use Rattle.heads.specs.Entry.{Entry}
-use Rattle.table.specs.Table.{slots, slotAt, right, whole, judged, checked}
+use Rattle.table.specs.Table.{slots, slotAt, rightBy, whole, judgedBy, checkedBy}
 use Rattle.columns.specs.Columns.{lastDigits, decimal, timeText, preferenceText}
 use Rattle.printout.specs.Printout.{line, lineOf, slotText, linesFrom, listing, printed}
 
@@ -29,9 +29,9 @@ unfolding lineOf line timeText preferenceText decimal lastDigits orElse
 one-line = refl
 
 free-slot : printed (replicate slotLength 0) ≡ []
-unfolding printed listing linesFrom slotText marked sameOctets checked whole slots judged right free allZero slotAt
+unfolding printed listing linesFrom slotText marked sameOctets checkedBy whole slots judgedBy rightBy free allZero slotAt
 free-slot = refl
 
 no-octets : printed [] ≡ ascii "refused 1\n"
-unfolding printed listing checked whole slots
+unfolding printed listing checkedBy whole slots
 no-octets = refl

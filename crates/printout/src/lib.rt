@@ -90,7 +90,7 @@ pub fn print(input: &[u8], out: &mut [u8; ROOM]) -> usize
         return columns::put_text(out, 0, b"refused 1", b'\n');
     }
     let mut tags = [0u32; Slot::MOST];
-    match lookup::check(input, &mut tags) {
+    match lookup::check(input, &mut tags, slots::Spelling::Canonical) {
         Checked::Sound => put_lines(input, out),
         Checked::Length => columns::put_text(out, 0, b"refused 1", b'\n'),
         Checked::Slot(_) => columns::put_text(out, 0, b"refused 2", b'\n'),

@@ -22,6 +22,7 @@ use Rattle.refusals.specs.declared.Refusal.{Refusal}
 use Rattle.refusals.specs.declared.Refusal.the-variants.{BrokenSlot, NoFreeSlot}
 use Rattle.refusals.specs.declared.Answer.the-variants.{Done, Refused}
 use Rattle.refusals.proofs.Rows.{by-refusal, first-front, first-rest, none-here, none-front, none-behind, front-only, refused-is, done-is, answer-refused, answer-done}
+use Rattle.slots.specs.declared.Spelling.the-variants.{Canonical}
 use Rattle.table.specs.Table.{checked}
 use Rattle.table.specs.Slotwise.{Broken}
 use Rattle.table.specs.Entries.{entryIn}
@@ -46,7 +47,7 @@ module _ (t : List ℕ) (receipt : ℕ) (outer payload : List ℕ) (g : Gossip) 
 
   pub sound-first : checked t ≡ Sound → refusal ≡ firstOf (messageRows receipt outer payload g ++ roomRows t message)
   unfolding refusedProcessing processingRows
-  sound-first s = first-rest (tableRows t) _ (sound-rows t s)
+  sound-first s = first-rest (tableRows t) _ (sound-rows Canonical t s)
 
   pub unsound-first : (r : Refusal) → firstOf (tableRows t) ≡ some r → refusal ≡ some r
   unfolding refusedProcessing processingRows
@@ -88,7 +89,7 @@ module _ (t : List ℕ) (receipt : ℕ) (outer payload : List ℕ) (g : Gossip) 
   module _ (e : refusal ≡ none) where
     pub done-sound : checked t ≡ Sound
     unfolding refusedProcessing processingRows
-    done-sound = rows-sound t (none-front (tableRows t) _ e)
+    done-sound = rows-sound Canonical t (none-front (tableRows t) _ e)
 
     behind-table : firstOf (messageRows receipt outer payload g ++ roomRows t message) ≡ none
     behind-table = sym (sound-first done-sound) ∙ e
@@ -106,7 +107,7 @@ module _ (t : List ℕ) (receipt : ℕ) (outer payload : List ℕ) (g : Gossip) 
   -- 2 is given by the rows of the table alone
   pub index-lowest : (i : ℕ) → answerOf refusal ≡ Refused (BrokenSlot i) → Broken t i
   unfolding refusedProcessing processingRows messageRows roomRows someHolds
-  index-lowest i a = lowest-broken t i (front-only (tableRows t) (messageRows receipt outer payload g ++ roomRows t message) (BrokenSlot i) refl (answer-refused refusal (BrokenSlot i) a))
+  index-lowest i a = lowest-broken Canonical t i (front-only (tableRows t) (messageRows receipt outer payload g ++ roomRows t message) (BrokenSlot i) refl (answer-refused refusal (BrokenSlot i) a))
 
   -- blocks of octets
   module _ (o : AllOctets t) (u : AllOctets outer) (v : AllOctets payload) where

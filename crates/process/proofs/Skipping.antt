@@ -12,7 +12,7 @@ use Rattle.refusals.specs.declared.Answer.the-variants.{Refused}
 use Rattle.refusals.proofs.Rows.{never-given, answer-refused}
 use Rattle.settings.specs.Settings.{taken}
 use Rattle.settings.specs.declared.Gossip.{Gossip}
-use Rattle.inspect.specs.Inspecting.{tableRows}
+use Rattle.inspect.specs.Inspecting.{tableRowsBy}
 use Rattle.slots.specs.Slot.{keyLimit}
 use Rattle.message.specs.Message.{messageRows, messageOf}
 use Rattle.message.proofs.Skipping.{skipped-rows, skipped-message}
@@ -32,7 +32,7 @@ module _ (t : List ℕ) (receipt : ℕ) (outer payload : List ℕ) (g : Gossip) 
   skipped-left = rw (skipped-refusal, same-message)
 
   pub no-seven : answerOf (refusedProcessing t receipt outer payload g) ≡ Refused PayloadBlock → ⊥
-  unfolding refusedProcessing processingRows tableRows messageRows roomRows someHolds
+  unfolding refusedProcessing processingRows tableRowsBy messageRows roomRows someHolds
   no-seven a =
       never-given (processingRows t receipt outer payload g) PayloadBlock (rw skips)
       (answer-refused (refusedProcessing t receipt outer payload g) PayloadBlock a)

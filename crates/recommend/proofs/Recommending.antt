@@ -33,6 +33,7 @@ use Rattle.addresslist.specs.Answers.{countedOf}
 use Rattle.addresslist.specs.declared.Counted.{Counted}
 use Rattle.addresslist.specs.declared.Counted.the-variants.{Count, Unreadable}
 use Rattle.addresslist.proofs.Readable.{counted-some, counted-none}
+use Rattle.slots.specs.declared.Spelling.the-variants.{Canonical}
 use Rattle.table.specs.Table.{checked}
 use Rattle.table.specs.Slotwise.{Broken}
 use Rattle.table.specs.Tagged.{Open}
@@ -85,7 +86,7 @@ module _ (t s : List ℕ) (e : refusedRecommending t s ≡ none) where
 
   pub admitted-sound : checked t ≡ Sound
   unfolding refusedRecommending recommendingRows
-  admitted-sound = rows-sound t (none-front (tableRows t) last e)
+  admitted-sound = rows-sound Canonical t (none-front (tableRows t) last e)
 
   pub admitted-list : isSome (addresses s) ≡ true
   unfolding refusedRecommending recommendingRows
@@ -191,5 +192,5 @@ module _ (t s : List ℕ) (m reply : Bool) where
       by-answer (refusedRecommending t s) (Refused (BrokenSlot i)) e
       (λ r q z.
       let same : BrokenSlot i ≡ r = cc in
-      lowest-broken t i (front-only (tableRows t) ((Recipients unless recipientList (addresses s)) ∷ []) (BrokenSlot i) refl (q ∙ ap some (sym same))))
+      lowest-broken Canonical t i (front-only (tableRows t) ((Recipients unless recipientList (addresses s)) ∷ []) (BrokenSlot i) refl (q ∙ ap some (sym same))))
       (λ q z. let n : _≡_ {A = ℕ} 0 1 = cc in absurd (omega arith))

@@ -13,6 +13,7 @@ use Rattle.refusals.proofs.Rows.{first-rest}
 use Rattle.inspect.specs.Inspecting.{tableRows}
 use Rattle.inspect.proofs.Tables.{sound-rows}
 use Rattle.addresslist.specs.List.{addresses}
+use Rattle.slots.specs.declared.Spelling.the-variants.{Canonical}
 use Rattle.table.specs.Table.{checked}
 use Rattle.table.specs.Entries.{Alike}
 use Rattle.table.specs.declared.Checked.the-variants.{Sound}
@@ -26,7 +27,7 @@ module _ (t u : List ℕ) (e : checked t ≡ Sound) (f : checked u ≡ Sound) (h
   -- both pass the rows of the table
   refused-alike : refusedRecommending t s ≡ refusedRecommending u s
   unfolding refusedRecommending recommendingRows
-  refused-alike = first-rest (tableRows t) last (sound-rows t e) ∙ sym (first-rest (tableRows u) last (sound-rows u f))
+  refused-alike = first-rest (tableRows t) last (sound-rows Canonical t e) ∙ sym (first-rest (tableRows u) last (sound-rows Canonical u f))
 
   pub recommended-alike : (m reply : Bool) → recommendedOf t s m reply ≡ recommendedOf u s m reply
   unfolding recommendedOf

@@ -1,7 +1,8 @@
 -- A sound slot is the slot of its entry, so that a writer of slots leaves the slot of the changed entry.
+--     spelled-most                   how long an address is at most
 --     address-long .. gossip-long    the lengths are those of the address and the keys
 --     head-back, slot-back           from a sound slot to its entry and back
---     seen-put, direct-put, gossip-put    what the writers leave
+--     address-put .. gossip-put      what the writers leave
 -- Assumes nothing.
 use Prim.Native.Nat.{ℕ, _+_, _-_, _≤_, min}
 use mathlib.Core.Path.{_≡_, refl, sym, ap, _∙_}
@@ -19,16 +20,19 @@ use Rattle.octets.specs.Options.{orElse}
 use Rattle.octets.proofs.Lists.{given-octets}
 use Rattle.octets.proofs.Zeros.{zero-true}
 use Rattle.octets.proofs.Tests.{by-test}
+use Rattle.address.proofs.Before.{was-most}
 use Rattle.heads.specs.declared.Head.{Head}
-use Rattle.heads.specs.Head.{addressLength, bits, hasLastSeen, hasDirect, hasGossip, isMutual, lastSeen, timestamp, gossipTimestamp, directLength, gossipLength, headOf, headSeen, headDirect, headGossip, bitsOf, headOctets}
-use Rattle.heads.specs.Entry.{Direct, Gossip, Entry, noDirect, noGossip, headFor, seenBy, withDirect, withGossip}
+use Rattle.heads.specs.Head.{addressLength, bits, hasLastSeen, hasDirect, hasGossip, isMutual, lastSeen, timestamp, gossipTimestamp, directLength, gossipLength, headOf, headAddress, headSeen, headDirect, headGossip, bitsOf, headOctets}
+use Rattle.heads.specs.Entry.{Direct, Gossip, Entry, noDirect, noGossip, headFor, renamed, seenBy, withDirect, withGossip}
 use Rattle.heads.proofs.Parts.{part-length, follows, put-front, put-over, put-behind}
 use Rattle.heads.proofs.Writing.{length-head}
 use Rattle.heads.proofs.RoundTrip.{bits-back, octets-back}
-use Rattle.heads.proofs.Entries.{canonical-most, present-is, present-or, changed-seen, changed-direct, changed-gossip}
-use Rattle.slots.specs.Slot.{slotLength, mark, addressRoom, keyLimit, addressArea, directArea, gossipArea, addressOf, directKeyOf, gossipKeyOf, sound}
+use Rattle.heads.proofs.Entries.{canonical-most, present-is, present-or, changed-address, changed-seen, changed-direct, changed-gossip}
+use Rattle.slots.specs.Slot.{slotLength, mark, addressRoom, keyLimit, addressArea, directArea, gossipArea, addressOf, directKeyOf, gossipKeyOf, spelled, soundBy, sound}
 use Rattle.slots.specs.Entry.{entryOf, padded, areas, slotOf}
-use Rattle.slots.specs.Facts.{Sound}
+use Rattle.slots.specs.declared.Spelling.{Spelling}
+use Rattle.slots.specs.declared.Spelling.the-variants.{Canonical, Ascii}
+use Rattle.slots.specs.Facts.{SoundBy, Sound}
 use Rattle.slots.proofs.Writing.{front-long, length-padded}
 use Rattle.slots.proofs.Sounds.{sound-parts}
 
@@ -41,17 +45,23 @@ padded-back room n a e l z =
     let t : drop n a ≡ replicate (room - n) 0 = zero-true (drop n a) z ∙ rw c in
     rw (k, ← t) (take-append-drop n a)
 
-module _ (s : List ℕ) (l : length s ≡ slotLength) (p : Sound s) where
+-- by either rule an address is within the limit of L6
+pub spelled-most : (how : Spelling) (a : List ℕ) → spelled how a ≡ true → length a ≤ 254
+unfolding spelled
+spelled-most Canonical a h = canonical-most a h
+spelled-most Ascii a h = was-most a h
+
+module _ {how : Spelling} (s : List ℕ) (l : length s ≡ slotLength) (p : SoundBy how s) where
   pub address-long : length (addressOf s) ≡ addressLength s
   unfolding addressOf
   address-long =
-      let m : length (take (addressLength s) (addressArea s)) ≤ 254 = canonical-most (take (addressLength s) (addressArea s)) (p .canonical) in
+      let m : length (take (addressLength s) (addressArea s)) ≤ 254 = spelled-most how (take (addressLength s) (addressArea s)) (p .address) in
       let k : length (addressArea s) ≡ 256 = part-length 40 256 s (omega arith) in
       let t : min (addressLength s) (length (addressArea s)) ≤ 254 = rw length-take at m in
       length-take-le (addressLength s) (addressArea s) (omega arith)
 
   pub address-fits : addressLength s ≤ addressRoom
-  address-fits = omega (arith, address-long, canonical-most (addressOf s) (p .canonical))
+  address-fits = omega (arith, address-long, spelled-most how (addressOf s) (p .address))
 
   pub direct-fits : directLength s ≤ keyLimit
   direct-fits = by-test (hasDirect s) (λ t. p .direct-length t .1) (λ f. omega (arith, p .no-direct f .1))
@@ -105,7 +115,7 @@ module _ (s : List ℕ) (l : length s ≡ slotLength) (p : Sound s) where
 
   address-in : length (entryOf s .address) ≤ addressRoom
   unfolding entryOf
-  address-in = omega (arith, canonical-most (addressOf s) (p .canonical))
+  address-in = omega (arith, spelled-most how (addressOf s) (p .address))
 
   pub direct-key-in : length (orElse noDirect (entryOf s .direct) .key) ≤ keyLimit
   direct-key-in = rw (direct-key, direct-long) direct-fits
@@ -160,7 +170,17 @@ kept-seen : (e : Entry) (date : ℕ) → areas (seenBy date e) ≡ areas e
 unfolding areas seenBy
 kept-seen e date = refl
 
--- octets 296 to 2343, or 2344 to 4391, written over behind mark and head
+-- octets 40 to 295, 296 to 2343, or 2344 to 4391, written over behind mark and head
+areas-address : (n : Head) (e : Entry) (a : List ℕ) → length (e .address) ≤ addressRoom → length a ≤ addressRoom
+    → putAt (mark ++ (headOctets n ++ areas e)) 40 (padded addressRoom a) ≡ mark ++ (headOctets n ++ areas (renamed a e))
+unfolding areas renamed
+areas-address n e a k m =
+    let x : List ℕ = padded addressRoom (e .address) in
+    let rest : List ℕ = padded keyLimit (orElse noDirect (e .direct) .key) ++ padded keyLimit (orElse noGossip (e .gossip) .key) in
+    put-behind (mark ++ headOctets n) (x ++ rest) (padded addressRoom a) 40 0 (front-long n)
+    ∙ ap (λ (t : List ℕ). mark ++ (headOctets n ++ t))
+    (put-front x rest (padded addressRoom a) (length-padded addressRoom (e .address) k ∙ sym (length-padded addressRoom a m)))
+
 areas-direct : (n : Head) (e : Entry) (d : Direct) → length (e .address) ≤ addressRoom → length (orElse noDirect (e .direct) .key) ≤ keyLimit → length (d .key) ≤ keyLimit
     → putAt (mark ++ (headOctets n ++ areas e)) 296 (padded keyLimit (d .key)) ≡ mark ++ (headOctets n ++ areas (withDirect d e))
 unfolding areas withDirect orElse
@@ -200,6 +220,18 @@ module _ (s : List ℕ) (g : (i : ℕ) → Fits w8 (getD s i 0)) where
       let k : headFor (seenBy date (entryOf s)) ≡ m = changed-seen (entryOf s) date ∙ ap (headSeen date) (head-back s (h .0) p ∙ sym en) ∙ sym em in
       eo ∙ head-over s (h .0) p (given-octets s g) m ∙ rw (k, kept-seen (entryOf s) date)
 
+  pub address-put : (n m : Head) (a : List ℕ) (o₁ o₂ : List ℕ) → (length s ≡ slotLength) × (soundBy Ascii s ≡ true) × (length a ≤ addressRoom)
+      → n ≡ headOf s → m ≡ headAddress (length a) n → o₁ ≡ putAt s 2 (headOctets m) → o₂ ≡ putAt o₁ 40 (padded addressRoom a)
+      → o₂ ≡ slotOf (renamed a (entryOf s))
+  unfolding slotOf
+  address-put n m a o₁ o₂ h en em e₁ e₂ =
+      let p : SoundBy Ascii s = sound-parts s (h .1) in
+      let k : headFor (renamed a (entryOf s)) ≡ m =
+      changed-address (entryOf s) a ∙ ap (headAddress (length a)) (head-back s (h .0) p ∙ sym en) ∙ sym em in
+      e₂
+      ∙ rw (e₁, head-over s (h .0) p (given-octets s g) m, k)
+      (areas-address m (entryOf s) a (address-in s (h .0) p) (h .2))
+
   pub direct-put : (n m : Head) (t : ℕ) (key : List ℕ) (mut : Bool) (o₁ o₂ : List ℕ) → (length s ≡ slotLength) × (sound s ≡ true) × (length key ≤ keyLimit)
       → n ≡ headOf s → m ≡ headDirect t (length key) mut n → o₁ ≡ putAt s 2 (headOctets m) → o₂ ≡ putAt o₁ 296 (padded keyLimit key)
       → o₂ ≡ slotOf (withDirect (record { timestamp = t; key = key; «mutual» = mut }) (entryOf s))
@@ -226,4 +258,4 @@ module _ (s : List ℕ) (g : (i : ℕ) → Fits w8 (getD s i 0)) where
       ∙ rw (e₁, head-over s (h .0) p (given-octets s g) m, k)
       (areas-gossip m (entryOf s) d (address-in s (h .0) p) (direct-key-in s (h .0) p) (gossip-key-in s (h .0) p) (h .2))
 
-pub ruleset changing = (seen-put, direct-put, gossip-put, needs)
+pub ruleset changing = (address-put, seen-put, direct-put, gossip-put, needs)

@@ -24,7 +24,8 @@ use Rattle.heads.proofs.Writing.{length-head}
 use Rattle.heads.proofs.RoundTrip.{head-kept, clear-kept, head-octets}
 use Rattle.heads.proofs.Entries.{present-back, half-holds}
 use Rattle.heads.proofs.Goodness.{good-address, good-direct, good-gossip, good-fit, made-seen, made-direct, made-gossip}
-use Rattle.slots.specs.Slot.{slotLength, addressRoom, keyLimit, mark, addressArea, directArea, gossipArea, addressOf, directKeyOf, gossipKeyOf, marked, canonicalAddress, zeroPadding, sound}
+use Rattle.slots.specs.Slot.{slotLength, addressRoom, keyLimit, mark, addressArea, directArea, gossipArea, addressOf, directKeyOf, gossipKeyOf, marked, spelled, zeroPadding, soundBy, sound}
+use Rattle.slots.specs.declared.Spelling.the-variants.{Canonical}
 use Rattle.slots.specs.Entry.{entryOf, padded, areas, slotOf, GoodDirect, GoodGossip, Good}
 use Rattle.slots.proofs.Writing.{front-long, length-padded}
 
@@ -134,8 +135,8 @@ module _ (e : Entry) (g : Good e) where
   unfolding marked slotOf
   made-marked = same-refl mark
 
-  made-canonical : canonicalAddress (slotOf e) ≡ true
-  unfolding canonicalAddress
+  made-canonical : spelled Canonical (addressOf (slotOf e)) ≡ true
+  unfolding spelled
   made-canonical = rw address-kept (g .canonical)
 
   made-clear : clear (slotOf e) ≡ true
@@ -156,7 +157,7 @@ module _ (e : Entry) (g : Good e) where
       )
 
   pub slot-sound : sound (slotOf e) ≡ true
-  unfolding sound
+  unfolding soundBy
   slot-sound = rw (head-same, made-marked, made-canonical, made-padding, made-seen e g, made-direct e g, made-gossip e g)
 
 padded-octets : (room : ℕ) (s : List ℕ) → AllOctets s → AllOctets (padded room s)

@@ -14,12 +14,14 @@ use lib.Dec.{eqb}
 use lib.ListN.{length, getD, take, drop}
 use lib.Seq.{drop-drop}
 use Rattle.octets.specs.Octets.{allZero, sameOctets}
-use Rattle.address.specs.Address.{isCanonical}
+use Rattle.address.specs.Address.{isCanonical, wasCanonical}
+use Rattle.slots.specs.declared.Spelling.{Spelling}
+use Rattle.slots.specs.declared.Spelling.the-variants.{Canonical, Ascii}
 use Rattle.heads.specs.declared.Head.{Head}
 use Rattle.heads.specs.Head.{addressLength, headOf, clear, seenSound, directSound, gossipSound}
 use Rattle.heads.proofs.Parts.{take-min, drop-min}
 use Rattle.heads.proofs.Reading.{head-first, clear-first}
-use Rattle.slots.specs.Slot.{slotLength, addressRoom, keyLimit, addressArea, directArea, gossipArea, addressOf, free, marked, canonicalAddress, zeroPadding, sound}
+use Rattle.slots.specs.Slot.{slotLength, addressRoom, keyLimit, addressArea, directArea, gossipArea, addressOf, free, marked, spelled, zeroPadding, soundBy}
 
 module _ (s : List ℕ) where
   pub head-read : (n : Head) → n ≡ headOf (take 40 s) → n ≡ headOf s
@@ -29,9 +31,13 @@ module _ (s : List ℕ) where
   unfolding free
   free-read b e = e
 
-  pub canonical-read : (a : List ℕ) (b : Bool) → a ≡ addressOf s → b ≡ isCanonical a → b ≡ canonicalAddress s
-  unfolding canonicalAddress
-  canonical-read a b ea eb = eb ∙ rw ea
+  pub spelled-canonical : (how : Spelling) (b : Bool) → how ≡ Canonical → b ≡ isCanonical s → b ≡ spelled how s
+  unfolding spelled
+  spelled-canonical how b h e = e ∙ rw h
+
+  pub spelled-ascii : (how : Spelling) (b : Bool) → how ≡ Ascii → b ≡ wasCanonical s → b ≡ spelled how s
+  unfolding spelled
+  spelled-ascii how b h e = e ∙ rw h
 
   pub padding-read : (n : Head) (c a d g : Bool) → c ≡ clear (take 40 s)
       → a ≡ allZero (drop (n .«address_length») (addressArea s))
@@ -41,11 +47,11 @@ module _ (s : List ℕ) where
   unfolding zeroPadding
   padding-read n c a d g ec ea ed eg = rw (ec, ea, ed, eg, clear-first s)
 
-  pub sound-read : (n : Head) (b₁ b₂ b₃ b₄ b₅ b₆ : Bool) → n ≡ headOf s
-      → b₁ ≡ marked s → b₂ ≡ canonicalAddress s → b₃ ≡ zeroPadding n s → b₄ ≡ seenSound n → b₅ ≡ directSound keyLimit n → b₆ ≡ gossipSound keyLimit n
-      → (b₁ && b₂ && b₃ && b₄ && b₅ && b₆) ≡ sound s
-  unfolding sound
-  sound-read n b₁ b₂ b₃ b₄ b₅ b₆ e e₁ e₂ e₃ e₄ e₅ e₆ = rw (e₁, e₂, e₃, e₄, e₅, e₆, e)
+  pub sound-read : (how : Spelling) (a : List ℕ) (n : Head) (b₁ b₂ b₃ b₄ b₅ b₆ : Bool) → n ≡ headOf s → a ≡ addressOf s
+      → b₁ ≡ marked s → b₂ ≡ spelled how a → b₃ ≡ zeroPadding n s → b₄ ≡ seenSound n → b₅ ≡ directSound keyLimit n → b₆ ≡ gossipSound keyLimit n
+      → (b₁ && b₂ && b₃ && b₄ && b₅ && b₆) ≡ soundBy how s
+  unfolding soundBy
+  sound-read how a n b₁ b₂ b₃ b₄ b₅ b₆ e ea e₁ e₂ e₃ e₄ e₅ e₆ = rw (e₁, e₂, e₃, e₄, e₅, e₆, e, ea)
 
   pub address-read : (n m : ℕ) → n ≡ addressLength s → m ≡ min n addressRoom → take (40 + m - 40) (drop 40 s) ≡ addressOf s
   unfolding addressOf
@@ -65,4 +71,4 @@ behind-read s at room count n e b eb =
     let a : at + room - (at + n) ≡ room - n = omega arith in
     eb ∙ rw (a, ← drop-drop n at s, e, drop-min count room (drop at s))
 
-pub ruleset reading = (head-read, free-read, canonical-read, padding-read, sound-read, address-read, marked-read, behind-read, needs)
+pub ruleset reading = (head-read, free-read, spelled-canonical, spelled-ascii, padding-read, sound-read, address-read, marked-read, behind-read, needs)

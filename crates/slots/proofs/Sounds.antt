@@ -2,6 +2,7 @@
 --     sound-parts             a slot that the test calls sound has the conditions of `Sound`
 --     marked-not-free         a slot with a mark is not free
 --     unmarked-not-sound      and one without is not sound
+--     sound-was               a sound slot was sound by the old rule
 -- Assumes nothing.
 use Prim.Native.Nat.{ℕ}
 use mathlib.Core.Path.{_≡_}
@@ -14,12 +15,16 @@ use lib.ListN.{drop}
 use Rattle.octets.specs.Octets.{allZero}
 use Rattle.octets.proofs.Comparing.{same-true}
 use Rattle.octets.proofs.Tests.{and-left, and-right}
+use Rattle.address.specs.Address.{isCanonical}
+use Rattle.address.proofs.Before.{was-canonical}
 use Rattle.heads.specs.declared.Head.{Head}
 use Rattle.heads.specs.Head.{part, addressLength, bits, directLength, gossipLength, headOf, clear, seenSound, directSound, gossipSound}
 use Rattle.heads.specs.Facts.{SoundSeen, SoundDirect, SoundGossip}
 use Rattle.heads.proofs.Conditions.{all-three, seen-facts, direct-facts, gossip-facts}
-use Rattle.slots.specs.Facts.{Sound}
-use Rattle.slots.specs.Slot.{keyLimit, mark, addressArea, directArea, gossipArea, free, marked, canonicalAddress, zeroPadding, sound}
+use Rattle.slots.specs.declared.Spelling.{Spelling}
+use Rattle.slots.specs.declared.Spelling.the-variants.{Canonical, Ascii}
+use Rattle.slots.specs.Facts.{SoundBy}
+use Rattle.slots.specs.Slot.{keyLimit, mark, addressArea, directArea, gossipArea, addressOf, free, marked, spelled, zeroPadding, soundBy}
 
 -- four and six tests, of which the first three are one
 four : (a b c d : Bool) → (a && b && c && d) ≡ true → (a ≡ true) × ((b ≡ true) × (c ≡ true) × (d ≡ true))
@@ -32,11 +37,11 @@ six a b c d e f h =
     let t = all-three (a && b && c && d) e f h in
     (all-three a b c (and-left (a && b && c) d (t .0)), (and-right (a && b && c) d (t .0), t .1, t .2))
 
-pub sound-parts : (s : List ℕ) → sound s ≡ true → Sound s
-unfolding sound marked canonicalAddress zeroPadding clear headOf
-sound-parts s h =
+pub sound-parts : {how : Spelling} (s : List ℕ) → soundBy how s ≡ true → SoundBy how s
+unfolding soundBy marked zeroPadding clear headOf
+sound-parts {how} s h =
     let n : Head = headOf s in
-    let t = six (marked s) (canonicalAddress s) (zeroPadding n s) (seenSound n) (directSound keyLimit n) (gossipSound keyLimit n) h in
+    let t = six (marked s) (spelled how (addressOf s)) (zeroPadding n s) (seenSound n) (directSound keyLimit n) (gossipSound keyLimit n) h in
     let p =
     four (clear s) (allZero (drop (addressLength s) (addressArea s))) (allZero (drop (directLength s) (directArea s))) (allZero (drop (gossipLength s) (gossipArea s)))
     (t .0 .2) in
@@ -46,7 +51,7 @@ sound-parts s h =
     let gossip : SoundGossip keyLimit n = gossip-facts n keyLimit (t .1 .2) in
     record {
       opens = same-true (part 0 1 s) mark (t .0 .0);
-      canonical = t .0 .1;
+      address = t .0 .1;
       low = ltb-true (bits s) 16 (c .0);
       zeros = c .1;
       zeros-too = c .2;
@@ -73,6 +78,14 @@ marked-not-free s h = go s (same-true (part 0 1 s) mark h)
     go [] e = let z : _≡_ {A = ℕ} 0 1 = cc in absurd (omega arith)
     go (x ∷ l) e = let z : x ≡ 65 = cc in rw z
 
-pub unmarked-not-sound : (s : List ℕ) → marked s ≡ false → sound s ≡ false
-unfolding sound
-unmarked-not-sound s h = rw h
+pub unmarked-not-sound : (how : Spelling) (s : List ℕ) → marked s ≡ false → soundBy how s ≡ false
+unfolding soundBy
+unmarked-not-sound how s h = rw h
+
+-- T19: what is sound was sound by the old rule
+pub sound-was : (s : List ℕ) → soundBy Canonical s ≡ true → soundBy Ascii s ≡ true
+unfolding soundBy spelled
+sound-was s h =
+    let n : Head = headOf s in
+    let t = six (marked s) (isCanonical (addressOf s)) (zeroPadding n s) (seenSound n) (directSound keyLimit n) (gossipSound keyLimit n) h in
+    rw (t .0 .0, was-canonical (addressOf s) (t .0 .1), t .0 .2, t .1 .0, t .1 .1, t .1 .2)

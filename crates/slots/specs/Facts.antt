@@ -1,21 +1,24 @@
--- SCOPE, T8, all but T8.3: what a sound slot satisfies, as facts. It is `sound` of Slot.antt, condition by condition, for statements about slots.
---     Sound s    the conditions
+-- SCOPE, T8 and T16, all but T8.3: what a sound slot satisfies, as facts. It is `soundBy` of Slot.antt, condition by condition, for statements about
+-- slots.
+--     SoundBy how s    the conditions, by either rule
+--     Sound s          by the one in force
 use Prim.Native.Nat.{ℕ, _<_, _≤_}
 use mathlib.Core.Path.{_≡_}
 use mathlib.Core.Bool.{true, false}
 use mathlib.Core.List.{List}
 use lib.ListN.{drop}
 use Rattle.octets.specs.Octets.{allZero}
-use Rattle.address.specs.Address.{isCanonical}
 use Rattle.heads.specs.Head.{timeLimit, part, addressLength, bits, hasLastSeen, hasDirect, hasGossip, isMutual, lastSeen, timestamp, gossipTimestamp, directLength, gossipLength}
-use Rattle.slots.specs.Slot.{keyLimit, mark, addressArea, directArea, gossipArea, addressOf}
+use Rattle.slots.specs.declared.Spelling.{Spelling}
+use Rattle.slots.specs.declared.Spelling.the-variants.{Canonical}
+use Rattle.slots.specs.Slot.{keyLimit, mark, addressArea, directArea, gossipArea, addressOf, spelled}
 
 -- T8, in its order; T8.3, the lower slots, is the table's to say
-pub record Sound (s : List ℕ) : Type 0 where
+pub record SoundBy (how : Spelling) (s : List ℕ) : Type 0 where
   -- T8.1
   pub opens : part 0 1 s ≡ mark
-  -- T8.2
-  pub canonical : isCanonical (addressOf s) ≡ true
+  -- T8.2, T16
+  pub address : spelled how (addressOf s) ≡ true
   -- T8.4
   pub low : bits s < 16
   pub zeros : allZero (part 5 7 s) ≡ true
@@ -39,3 +42,6 @@ pub record Sound (s : List ℕ) : Type 0 where
   pub no-mutual : hasDirect s ≡ false → isMutual s ≡ false
   -- T8.10
   pub direct-seen : hasDirect s ≡ true → (hasLastSeen s ≡ true) × (timestamp s ≤ lastSeen s)
+
+abbrev pub Sound : List ℕ → Type 0
+Sound s = SoundBy Canonical s

@@ -3,16 +3,19 @@
 --     slotLength, addressRoom, keyLimit, mark    the limits and the mark
 --     addressAt .. gossipArea    where the address and the keys stand
 --     addressOf .. gossipKeyOf   the address and the keys
---     free                       every octet is zero
---     marked, canonicalAddress, zeroPadding      the conditions of a sound slot, besides those on its head
---     sound                      all of them; that the address stands in no lower slot is the table's to say
+--     free, freeSlot             every octet is zero; the slot that is so
+--     marked, spelled, zeroPadding      the conditions of a sound slot, besides those on its head
+--     soundBy                    all of them; that the address stands in no lower slot is the table's to say
+--     sound                      with the spelling of addresses that is in force
 use Prim.Native.Nat.{ℕ}
 use mathlib.Core.Bool.{Bool, _&&_}
 use mathlib.Core.List.{List}
-use lib.ListN.{take, drop}
+use lib.ListN.{take, drop, replicate}
 use Rattle.octets.specs.Octets.{ascii, sameOctets, allZero}
-use Rattle.address.specs.Address.{isCanonical}
+use Rattle.address.specs.Address.{isCanonical, wasCanonical}
 use Rattle.heads.specs.declared.Head.{Head}
+use Rattle.slots.specs.declared.Spelling.{Spelling}
+use Rattle.slots.specs.declared.Spelling.the-variants.{Canonical, Ascii}
 use Rattle.heads.specs.Head.{part, addressLength, directLength, gossipLength, headOf, clear, seenSound, directSound, gossipSound}
 
 -- T1: a slot has 4,392 octets
@@ -71,13 +74,18 @@ gossipKeyOf s = take (gossipLength s) (gossipArea s)
 unfoldable pub free : List ℕ → Bool
 free s = allZero s
 
+-- T4: the one slot that is free
+abbrev pub freeSlot : List ℕ
+freeSlot = replicate slotLength 0
+
 -- T4, T8.1: the slot opens with the mark
 unfoldable pub marked : List ℕ → Bool
 marked s = sameOctets (part 0 1 s) mark
 
--- T8.2, T9: the address is canonical. So no length above 254 is sound: one beyond the room gives all 256 octets of it
-unfoldable pub canonicalAddress : List ℕ → Bool
-canonicalAddress s = isCanonical (addressOf s)
+-- T8.2: an address is canonical. T16: or it was, by the old rule. Either way it is plain, so it ends at 254 octets (T9).
+unfoldable pub spelled : Spelling → List ℕ → Bool
+spelled Canonical a = isCanonical a
+spelled Ascii a = wasCanonical a
 
 -- T8.4, T8.8: the upper bits and the unused octets are zero, and so is each room behind the length that the head gives
 unfoldable pub zeroPadding : Head → List ℕ → Bool
@@ -87,12 +95,17 @@ zeroPadding n s =
     && allZero (drop (n .«direct_length») (directArea s))
     && allZero (drop (n .«gossip_length») (gossipArea s))
 
--- T8, but for the lower slots (T8.3). No condition asks for a bit (T10), and none binds the gossip half to last seen (T11)
-unfoldable pub sound : List ℕ → Bool
-sound s =
+-- T8, but for the lower slots (T8.3). No condition asks for a bit (T10), and none binds the gossip half to last seen (T11). T16: of the old rule
+-- the spelling is all that differs.
+unfoldable pub soundBy : Spelling → List ℕ → Bool
+soundBy how s =
     marked s
-    && canonicalAddress s
+    && spelled how (addressOf s)
     && zeroPadding (headOf s) s
     && seenSound (headOf s)
     && directSound keyLimit (headOf s)
     && gossipSound keyLimit (headOf s)
+
+-- T8: the rule in force
+abbrev pub sound : List ℕ → Bool
+sound s = soundBy Canonical s

@@ -7,9 +7,10 @@ ghost use lib.ListN.{length, take, drop};
 ghost use Rattle.octets.specs.Octets.{allZero};
 ghost use Rattle.octets.specs.Written.{putAt};
 ghost use Rattle.heads.specs.Head.{headOf, headOctets};
-ghost use Rattle.heads.specs.Entry.{newcomer, seenBy, withDirect, withGossip};
-ghost use Rattle.slots.specs.Slot.{slotLength, keyLimit, addressRoom, free, marked, canonicalAddress, zeroPadding, sound, addressOf};
+ghost use Rattle.heads.specs.Entry.{newcomer, renamed, seenBy, withDirect, withGossip};
+ghost use Rattle.slots.specs.Slot.{slotLength, keyLimit, addressRoom, free, marked, spelled, zeroPadding, soundBy, sound, addressOf};
 ghost use Rattle.slots.specs.Entry.{padded, entryOf, slotOf};
+ghost use Rattle.slots.specs.declared.Spelling.the-variants.{Ascii};
 use heads::Head;
 
 // The layout of a slot (T3): behind the mark and the numbers, 40 octets in all, stand the address and the two keys, each
@@ -38,6 +39,13 @@ impl Slot {
 
     // T1: how many octets a slot has.
     pub const LEN: usize = Self::GOSSIP_AT + Self::KEY_LIMIT;
+}
+
+// How the addresses of a table are spelled: in canonical form (T8.2), or as they were kept while only ASCII capitals were
+// made small (T16).
+pub enum Spelling {
+    Canonical,
+    Ascii,
 }
 
 fn shorter(a: usize, b: usize) -> usize
@@ -89,12 +97,14 @@ pub fn address_of(slot: &[u8]) -> &[u8]
     &slot[Slot::ADDRESS_AT..end]
 }
 
-// T8.2: is the address canonical?
-fn is_canonical(slot: &[u8]) -> bool
-    requires { ⌜ length (now slot) ≡ slotLength ⌝ }
-    ensures { λ r. ⌜ r ≡ canonicalAddress (now (slot .entry)) ⌝ }
+// T8.2, T16: has an address the spelling that is asked for?
+fn is_spelled(address: &[u8], how: Spelling) -> bool
+    ensures { λ r. ⌜ r ≡ spelled how (now (address .entry)) ⌝ }
 {
-    address::is_canonical(address_of(slot))
+    match how {
+        Spelling::Canonical => address::is_canonical(address),
+        Spelling::Ascii => address::was_canonical(address),
+    }
 }
 
 // T8.4, T8.8: is all zero that has to be? The lengths are those of the head.
@@ -109,13 +119,13 @@ fn is_padding_zero(slot: &[u8], n: Head) -> bool
 }
 
 // T8, but for the lower slots: every condition is looked at, since nearly every slot that is asked about is sound.
-pub fn is_sound(slot: &[u8]) -> bool
+pub fn is_sound(slot: &[u8], how: Spelling) -> bool
     requires { ⌜ length (now slot) ≡ slotLength ⌝ }
-    ensures { λ r. ⌜ r ≡ sound (now (slot .entry)) ⌝ }
+    ensures { λ r. ⌜ r ≡ soundBy how (now (slot .entry)) ⌝ }
 {
     let n = head_of(slot);
     is_marked(slot)
-        & is_canonical(slot)
+        & is_spelled(address_of(slot), how)
         & is_padding_zero(slot, n)
         & n.seen_sound()
         & n.direct_sound(Slot::KEY_LIMIT)
@@ -149,6 +159,16 @@ pub fn begin(slot: &mut [u8], address: &[u8])
     octets::put(slot, 0, &mark);
     put_head(slot, Head::empty(address.len()));
     octets::put(slot, Slot::ADDRESS_AT, address);
+}
+
+// Gives the entry another address, in a slot that was sound by the old rule (T17).
+pub fn set_address(slot: &mut [u8], address: &[u8])
+    requires { ⌜ (length (now slot) ≡ slotLength) × (soundBy Ascii (now slot) ≡ true) × (length (now address) ≤ addressRoom) ⌝ }
+    ensures { λ _. ⌜ now (slot .exit) ≡ slotOf (renamed (now (address .entry)) (entryOf (now (slot .entry)))) ⌝ }
+{
+    let n = head_of(slot).with_address(address.len());
+    put_head(slot, n);
+    put_padded(slot, Slot::ADDRESS_AT, Slot::ADDRESS_ROOM, address);
 }
 
 // Raises last seen to the date; it never falls (U7).

@@ -11,27 +11,28 @@ use borrow.Author.Tests.{leb-true}
 use lib.Dec.{leb, eqb}
 use lib.ListN.{length}
 use Rattle.octets.proofs.Tests.{and-right}
-use Rattle.table.specs.Table.{slots, right, whole, judged, checked}
+use Rattle.slots.specs.declared.Spelling.{Spelling}
+use Rattle.table.specs.Table.{slots, rightBy, whole, judgedBy, checkedBy}
 use Rattle.table.specs.declared.Checked.the-variants.{Length, Slot}
 
-module _ (t : List ℕ) (i k : ℕ) where
-  pub judged-on : right t i ≡ true → judged t i (suc k) ≡ judged t (i + 1) k
-  unfolding judged
-  judged-on e = rw (judged, e)
+module _ (how : Spelling) (t : List ℕ) (i k : ℕ) where
+  pub judged-on : rightBy how t i ≡ true → judgedBy how t i (suc k) ≡ judgedBy how t (i + 1) k
+  unfolding judgedBy
+  judged-on e = rw (judgedBy, e)
 
-  pub judged-here : right t i ≡ false → judged t i (suc k) ≡ Slot i
-  unfolding judged
-  judged-here e = rw (judged, e)
+  pub judged-here : rightBy how t i ≡ false → judgedBy how t i (suc k) ≡ Slot i
+  unfolding judgedBy
+  judged-here e = rw (judgedBy, e)
 
-module _ (t : List ℕ) where
-  pub checked-slots : whole t ≡ true → checked t ≡ judged t 0 (slots t)
-  unfolding checked
-  checked-slots e = rw (checked, e)
+module _ (how : Spelling) (t : List ℕ) where
+  pub checked-slots : whole t ≡ true → checkedBy how t ≡ judgedBy how t 0 (slots t)
+  unfolding checkedBy
+  checked-slots e = rw (checkedBy, e)
 
-  pub checked-length : whole t ≡ false → checked t ≡ Length
-  unfolding checked
-  checked-length e = rw (checked, e)
+  pub checked-length : whole t ≡ false → checkedBy how t ≡ Length
+  unfolding checkedBy
+  checked-length e = rw (checkedBy, e)
 
-  pub whole-few : whole t ≡ true → slots t ≤ 256
-  unfolding whole
-  whole-few e = leb-true (slots t) 256 (and-right (eqb (length t % 4392) 0 && leb 1 (slots t)) (leb (slots t) 256) e)
+pub whole-few : (t : List ℕ) → whole t ≡ true → slots t ≤ 256
+unfolding whole
+whole-few t e = leb-true (slots t) 256 (and-right (eqb (length t % 4392) 0 && leb 1 (slots t)) (leb (slots t) 256) e)

@@ -1,5 +1,6 @@
 -- A sound table, and that writing a good entry keeps it sound (C4).
---     table-sound, sound-table    what the check tells, and back
+--     table-by, by-table      what the check tells, and back
+--     table-sound, sound-table    by the rule in force
 --     used-sound, unused-free     its used slots are sound and its other slots free
 --     alone                   no two slots have one address (T8.3, T15)
 --     others-not              where an address stands, no other slot has it
@@ -19,13 +20,15 @@ use Rattle.octets.specs.Octets.{sameOctets}
 use Rattle.octets.proofs.Comparing.{same-true, same-refl}
 use Rattle.octets.proofs.Lists.{lt-or-le}
 use Rattle.octets.proofs.Tests.{by-test}
-use Rattle.slots.specs.Slot.{slotLength, marked, free, sound, addressOf}
+use Rattle.slots.specs.declared.Spelling.{Spelling}
+use Rattle.slots.specs.declared.Spelling.the-variants.{Canonical}
+use Rattle.slots.specs.Slot.{slotLength, marked, free, soundBy, sound, addressOf}
 use Rattle.heads.specs.Entry.{Entry}
 use Rattle.slots.specs.Entry.{slotOf, Good}
 use Rattle.slots.proofs.Sounds.{marked-not-free, unmarked-not-sound}
 use Rattle.slots.proofs.Made.{slot-long, slot-sound, address-kept}
-use Rattle.table.specs.Table.{slots, slotAt, withSlot, hasAddress, lowest, isAt, inLower, right, whole, judged, checked, found}
-use Rattle.table.specs.Slotwise.{SoundTable}
+use Rattle.table.specs.Table.{slots, slotAt, withSlot, hasAddress, lowest, isAt, inLower, rightBy, right, whole, judgedBy, checkedBy, checked, found}
+use Rattle.table.specs.Slotwise.{TableBy, SoundTable}
 use Rattle.table.specs.declared.Checked.the-variants.{Sound, Length, Slot}
 use Rattle.table.specs.declared.Found.{Found}
 use Rattle.table.specs.declared.Found.the-variants.{At, Nothing}
@@ -33,41 +36,48 @@ use Rattle.table.proofs.Slots.{length-kept, slots-kept, slot-same, slot
 use Rattle.table.proofs.Judging.{judged-on, judged-here, checked-slots, checked-length}
 use Rattle.table.proofs.Finding.{lowest-nothing, lowest-none, found-at, found-nothing, has-used, has-address}
 
-module _ (t : List ℕ) where
-  judged-each : (i k : ℕ) → judged t i k ≡ Sound → (m : ℕ) → i ≤ m → m < i + k → right t m ≡ true
-  unfolding judged
+module _ (how : Spelling) (t : List ℕ) where
+  judged-each : (i k : ℕ) → judgedBy how t i k ≡ Sound → (m : ℕ) → i ≤ m → m < i + k → rightBy how t m ≡ true
+  unfolding judgedBy
   judged-each i zero e m a b = absurd (omega arith)
   judged-each i (suc k) e m a b =
-      by-test (right t i)
+      by-test (rightBy how t i)
       (λ h.
-      ⊎-elim (λ (l : i < m). judged-each (i + 1) k (sym (judged-on t i k h) ∙ e) m (omega arith) (omega arith))
+      ⊎-elim (λ (l : i < m). judged-each (i + 1) k (sym (judged-on how t i k h) ∙ e) m (omega arith) (omega arith))
       (λ (l : m ≤ i). let q : i ≡ m = omega arith in rw q at h)
       (lt-or-le i m))
       (λ h.
-      let q : Slot i ≡ Sound = sym (judged-here t i k h) ∙ e in
+      let q : Slot i ≡ Sound = sym (judged-here how t i k h) ∙ e in
       let z : _≡_ {A = ℕ} 0 1 = cc in
       absurd (omega arith))
 
-  judged-all : (i k : ℕ) → ((m : ℕ) → i ≤ m → m < i + k → right t m ≡ true) → judged t i k ≡ Sound
-  unfolding judged
+  judged-all : (i k : ℕ) → ((m : ℕ) → i ≤ m → m < i + k → rightBy how t m ≡ true) → judgedBy how t i k ≡ Sound
+  unfolding judgedBy
   judged-all i zero h = refl
-  judged-all i (suc k) h = judged-on t i k (h i (omega arith) (omega arith)) ∙ judged-all (i + 1) k (λ m a b. h m (omega arith) (omega arith))
+  judged-all i (suc k) h = judged-on how t i k (h i (omega arith) (omega arith)) ∙ judged-all (i + 1) k (λ m a b. h m (omega arith) (omega arith))
 
-  pub table-sound : checked t ≡ Sound → SoundTable t
-  table-sound e =
+  pub table-by : checkedBy how t ≡ Sound → TableBy how t
+  table-by e =
       by-test (whole t)
       (λ w.
       record {
         whole-slots = w;
-        each = λ i l. judged-each 0 (slots t) (sym (checked-slots t w) ∙ e) i (omega arith) (omega arith);
+        each = λ i l. judged-each 0 (slots t) (sym (checked-slots how t w) ∙ e) i (omega arith) (omega arith);
       })
       (λ w.
-      let q : Length ≡ Sound = sym (checked-length t w) ∙ e in
+      let q : Length ≡ Sound = sym (checked-length how t w) ∙ e in
       let z : _≡_ {A = ℕ} 0 1 = cc in
       absurd (omega arith))
 
+  pub by-table : TableBy how t → checkedBy how t ≡ Sound
+  by-table s = checked-slots how t (s .whole-slots) ∙ judged-all 0 (slots t) (λ m a b. s .each m (omega arith))
+
+module _ (t : List ℕ) where
+  pub table-sound : checked t ≡ Sound → SoundTable t
+  table-sound e = table-by Canonical t e
+
   pub sound-table : SoundTable t → checked t ≡ Sound
-  sound-table s = checked-slots t (s .whole-slots) ∙ judged-all 0 (slots t) (λ m a b. s .each m (omega arith))
+  sound-table s = by-table Canonical t s
 
 -- a slot that is right and not free is sound, with its address in no lower slot; and the way back
 not-free : (f s l : Bool) → (f || s && not l) ≡ true → f ≡ false → (s ≡ true) × (l ≡ false)
@@ -101,19 +111,20 @@ module _ (t : List ℕ) where
   unfolding inLower
   not-lower i h = rw (lowest-none (hasAddress (addressOf (slotAt t i))) t 0 i (λ m a b. h m (omega arith)))
 
-module _ (t : List ℕ) (s : SoundTable t) where
-  pub used-sound : (i : ℕ) → i < slots t → marked (slotAt t i) ≡ true → (sound (slotAt t i) ≡ true) × (inLower t i ≡ false)
-  unfolding right
-  used-sound i l m = not-free (free (slotAt t i)) (sound (slotAt t i)) (inLower t i) (s .each i l) (marked-not-free (slotAt t i) m)
+module _ {how : Spelling} (t : List ℕ) (s : TableBy how t) where
+  pub used-sound : (i : ℕ) → i < slots t → marked (slotAt t i) ≡ true → (soundBy how (slotAt t i) ≡ true) × (inLower t i ≡ false)
+  unfolding rightBy
+  used-sound i l m = not-free (free (slotAt t i)) (soundBy how (slotAt t i)) (inLower t i) (s .each i l) (marked-not-free (slotAt t i) m)
 
   pub unused-free : (i : ℕ) → i < slots t → marked (slotAt t i) ≡ false → free (slotAt t i) ≡ true
-  unfolding right
-  unused-free i l m = free-or (free (slotAt t i)) (sound (slotAt t i)) (inLower t i) (s .each i l) (unmarked-not-sound (slotAt t i) m)
+  unfolding rightBy
+  unused-free i l m = free-or (free (slotAt t i)) (soundBy how (slotAt t i)) (inLower t i) (s .each i l) (unmarked-not-sound how (slotAt t i) m)
 
+module _ (t : List ℕ) (s : SoundTable t) where
   -- the lower of two slots that have one address forbids the higher one
   apart : (a : List ℕ) (i j : ℕ) → i < j → j < slots t → hasAddress a (slotAt t i) ≡ true → hasAddress a (slotAt t j) ≡ true → ⊥
   apart a i j l k p q =
-      let n : hasAddress (addressOf (slotAt t j)) (slotAt t i) ≡ false = lower-not t j (used-sound j k (has-used a (slotAt t j) q) .1) i l in
+      let n : hasAddress (addressOf (slotAt t j)) (slotAt t i) ≡ false = lower-not t j (used-sound t s j k (has-used a (slotAt t j) q) .1) i l in
       let e : hasAddress a (slotAt t i) ≡ false = rw (has-address a (slotAt t j) q) at n in
       false≢true (sym e ∙ p)
 
@@ -156,7 +167,7 @@ module _ (t : List ℕ) (s : SoundTable t) (e : Entry) (g : Good e) (i : ℕ) (l
       rw (address-kept e g, same-not (addressOf (slotAt t j)) (e .address) f) (and-false (marked (slotOf e)))
 
   right-here : right (withSlot t i (slotOf e)) i ≡ true
-  unfolding right
+  unfolding rightBy
   right-here =
       or-sound (free (slotAt (withSlot t i (slotOf e)) i)) (sound (slotAt (withSlot t i (slotOf e)) i)) (inLower (withSlot t i (slotOf e)) i)
       (rw here (slot-sound e g))
@@ -173,7 +184,7 @@ module _ (t : List ℕ) (s : SoundTable t) (e : Entry) (g : Good e) (i : ℕ) (l
       (λ h. rw (there o (eqb-false o i h)) (lower-not t j f o b))))
 
   right-there : (j : ℕ) → j < slots t → (j ≡ i → ⊥) → right (withSlot t i (slotOf e)) j ≡ true
-  unfolding right
+  unfolding rightBy
   right-there j k d =
       by-test (marked (slotAt t j))
       (λ m.

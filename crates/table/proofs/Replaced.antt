@@ -18,6 +18,7 @@ use Rattle.octets.specs.Octets.{AllOctets, sameOctets}
 use Rattle.octets.proofs.Comparing.{same-refl}
 use Rattle.octets.proofs.Joined.{put-octets}
 use Rattle.octets.proofs.Tests.{by-test}
+use Rattle.slots.specs.declared.Spelling.the-variants.{Canonical}
 use Rattle.slots.specs.Slot.{slotLength, marked, sound}
 use Rattle.heads.specs.Entry.{Entry}
 use Rattle.slots.specs.Entry.{slotOf, Good}
@@ -47,7 +48,7 @@ written-octets t s i o p = put-octets t s (i * 4392) o p
 
 -- the slot of a good entry has the mark and the address
 sound-marked : (s : List ℕ) → sound s ≡ true → marked s ≡ true
-sound-marked s e = by-test (marked s) (λ h. h) (λ h. absurd (false≢true (sym (unmarked-not-sound s h) ∙ e)))
+sound-marked s e = by-test (marked s) (λ h. h) (λ h. absurd (false≢true (sym (unmarked-not-sound Canonical s h) ∙ e)))
 
 module _ (e : Entry) (g : Good e) where
   pub made-marked : marked (slotOf e) ≡ true

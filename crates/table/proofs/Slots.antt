@@ -18,15 +18,17 @@ use native.Mathlib.Omega.{arith}
 use borrow.Author.Needs.{needs}
 use mir.Syntax.{w64}
 use mir.Val.{Fits}
-use lib.ListN.{length, take, drop, length-take, length-drop}
+use lib.ListN.{length, take, drop, replicate, length-take, length-drop}
 use lib.Seq.{take-at, drop-at, take-take, drop-drop, length-take-le}
 use Rattle.octets.specs.Octets.{AllOctets}
 use Rattle.octets.specs.Written.{putAt}
 use Rattle.octets.proofs.Lists.{take-octets, drop-octets, lt-or-le}
 use Rattle.heads.specs.declared.Head.{Head}
 use Rattle.heads.specs.Head.{headOf}
-use Rattle.slots.specs.Slot.{slotLength, keyLimit, marked, addressOf, sound}
-use Rattle.heads.specs.Entry.{newcomer, seenBy, withDirect, withGossip}
+use Rattle.slots.specs.Slot.{slotLength, addressRoom, keyLimit, freeSlot, marked, addressOf, soundBy, sound}
+use Rattle.slots.specs.declared.Spelling.{Spelling}
+use Rattle.slots.specs.declared.Spelling.the-variants.{Ascii}
+use Rattle.heads.specs.Entry.{newcomer, renamed, seenBy, withDirect, withGossip}
 use Rattle.slots.specs.Entry.{entryOf, slotOf}
 use Rattle.heads.proofs.Parts.{drop-take, part-back, part-before, part-behind, put-length}
 use Rattle.table.specs.Table.{slots, slotAt, withSlot, unused}
@@ -56,8 +58,8 @@ module _ (t : List ℕ) (i : ℕ) (h : i < slots t) where
   pub part-long : length (take (i * 4392 + 4392 - i * 4392) (drop (i * 4392) t)) ≡ slotLength
   part-long = rw part-is slot-long
 
-  pub part-sound : sound (slotAt t i) ≡ true → sound (take (i * 4392 + 4392 - i * 4392) (drop (i * 4392) t)) ≡ true
-  part-sound s = rw part-is s
+  pub part-sound : (how : Spelling) → soundBy how (slotAt t i) ≡ true → soundBy how (take (i * 4392 + 4392 - i * 4392) (drop (i * 4392) t)) ≡ true
+  part-sound how s = rw part-is s
 
   pub put-slot : (w : List ℕ) → length w ≡ length (take (i * 4392 + 4392 - i * 4392) (drop (i * 4392) t))
       → take (i * 4392) t ++ (w ++ drop (i * 4392 + 4392 - i * 4392) (drop (i * 4392) t)) ≡ withSlot t i w
@@ -138,6 +140,15 @@ module _ (t w : List ℕ) (i : ℕ) (k : length w ≡ length (take (i * 4392 + 4
       → take (i * 4392) t ++ (w ++ drop (i * 4392 + 4392 - i * 4392) (drop (i * 4392) t)) ≡ withSlot t i (slotOf (newcomer a))
   begun-at a h e = put-slot t i h w k ∙ rw e
 
+  pub cleared-at : (n : ℕ) → i < slots t → n ≡ length (take (i * 4392 + 4392 - i * 4392) (drop (i * 4392) t)) → w ≡ replicate n 0
+      → take (i * 4392) t ++ (w ++ drop (i * 4392 + 4392 - i * 4392) (drop (i * 4392) t)) ≡ withSlot t i freeSlot
+  cleared-at n h en e = put-slot t i h w k ∙ rw (e, en, part-long t i h)
+
+  pub address-put-at : (a : List ℕ) → (i < slots t) × (soundBy Ascii (slotAt t i) ≡ true) × (length a ≤ addressRoom)
+      → w ≡ slotOf (renamed a (entryOf (take (i * 4392 + 4392 - i * 4392) (drop (i * 4392) t))))
+      → take (i * 4392) t ++ (w ++ drop (i * 4392 + 4392 - i * 4392) (drop (i * 4392) t)) ≡ withSlot t i (slotOf (renamed a (entryOf (slotAt t i))))
+  address-put-at a h e = put-slot t i (h .0) w k ∙ rw (e, part-is t i (h .0))
+
   pub seen-at : (date : ℕ) → (i < slots t) × (sound (slotAt t i) ≡ true) → w ≡ slotOf (seenBy date (entryOf (take (i * 4392 + 4392 - i * 4392) (drop (i * 4392) t))))
       → take (i * 4392) t ++ (w ++ drop (i * 4392 + 4392 - i * 4392) (drop (i * 4392) t)) ≡ withSlot t i (slotOf (seenBy date (entryOf (slotAt t i))))
   seen-at date h e = put-slot t i (h .0) w k ∙ rw (e, part-is t i (h .0))
@@ -152,4 +163,4 @@ module _ (t w : List ℕ) (i : ℕ) (k : length w ≡ length (take (i * 4392 + 4
       → take (i * 4392) t ++ (w ++ drop (i * 4392 + 4392 - i * 4392) (drop (i * 4392) t)) ≡ withSlot t i (slotOf (withGossip (record { timestamp = x; key = key }) (entryOf (slotAt t i))))
   gossip-put-at x key h e = put-slot t i (h .0) w k ∙ rw (e, part-is t i (h .0))
 
-pub ruleset lending = (room, place-fits, end-fits, part-long, part-sound, begun-at, seen-at, direct-put-at, gossip-put-at, needs)
+pub ruleset lending = (room, place-fits, end-fits, part-long, part-sound, begun-at, cleared-at, address-put-at, seen-at, direct-put-at, gossip-put-at, needs)

@@ -13,32 +13,34 @@ use mathlib.Core.List.{List, [], _∷_, _++_}
 use lib.ListN.{replicate}
 use Rattle.octets.specs.Octets.{ascii, allZero, sameOctets, lowered, lower}
 use Rattle.octets.specs.Numbers.{number, digits}
-use Rattle.octets.specs.Options.{isSome, orElse}
+use Rattle.octets.specs.Options.{isSome, orElse, inFront}
 use Rattle.octets.specs.Tests.{every}
 use Rattle.runs.specs.Runs.{belongs}
-use Rattle.address.specs.Pieces.{onFirst, pieces, before, behind}
+use Rattle.utf8.specs.Utf8 as utf8
+use Rattle.utf8.specs.Lowering as lowering
+use Rattle.address.specs.Pieces.{onFirst, pieces, before, behind, from}
 use Rattle.address.specs.Address.{atom, localPart, freeEnds, label, domain, plain, canonical, isCanonical}
 use Rattle.heads.specs.Head.{headOf, clear, bitsOf, times, lengths, headOctets}
-use Rattle.slots.specs.Slot.{slotLength, addressOf, free, marked, canonicalAddress, zeroPadding, sound}
+use Rattle.slots.specs.Slot.{slotLength, addressOf, free, marked, spelled, zeroPadding, soundBy}
 use Rattle.heads.specs.Entry.{headFor}
 use Rattle.slots.specs.Entry.{padded, areas, slotOf}
-use Rattle.table.specs.Table.{slots, slotAt, unused, hasAddress, lowest, howMany, found, lowestFree, freeCount, inLower, right, whole, judged, checked}
+use Rattle.table.specs.Table.{slots, slotAt, unused, hasAddress, lowest, howMany, found, lowestFree, freeCount, inLower, rightBy, whole, judgedBy, checkedBy, checked}
 use Rattle.table.specs.declared.Checked.the-variants.{Sound, Length, Slot}
 use Rattle.table.specs.declared.Found.the-variants.{At, Nothing}
 
 no-slots : checked [] ≡ Length
-unfolding checked whole slots
+unfolding checkedBy whole slots
 no-slots = refl
 
 part-slot : checked (replicate 4393 0) ≡ Length
-unfolding checked whole slots
+unfolding checkedBy whole slots
 part-slot = refl
 
 empty : List ℕ
 empty = replicate slotLength 0
 
 one-free : checked empty ≡ Sound
-unfolding empty checked whole slots judged right free allZero slotAt
+unfolding empty checkedBy whole slots judgedBy rightBy free allZero slotAt
 one-free = refl
 
 alice : List ℕ
@@ -68,13 +70,13 @@ unfolding empty alice slotOf areas padded headOctets times lengths digits bitsOf
 one-left = refl
 
 one-used : checked alice ≡ Sound
-unfolding alice slotOf areas padded headOctets times lengths digits bitsOf headFor checked whole slots judged right free allZero slotAt sound marked sameOctets canonicalAddress addressOf number headOf clear zeroPadding inLower lowest isCanonical plain localPart domain label atom belongs freeEnds every pieces onFirst before behind canonical lowered lower isSome orElse
+unfolding alice slotOf areas padded headOctets times lengths digits bitsOf headFor checkedBy whole slots judgedBy rightBy free allZero slotAt soundBy marked sameOctets spelled addressOf number headOf clear zeroPadding inLower lowest isCanonical plain localPart domain label atom belongs freeEnds every pieces onFirst before behind canonical from lowering.lowerText lowering.lowerPoints lowering.lowerPoint utf8.points utf8.tails utf8.leadOf utf8.encoded utf8.encodedOne inFront lowered lower isSome orElse
 one-used = refl
 
 twice : checked (alice ++ alice) ≡ Slot 1
-unfolding alice slotOf areas padded headOctets times lengths digits bitsOf headFor checked whole slots judged right free allZero slotAt sound marked sameOctets canonicalAddress addressOf number headOf clear zeroPadding inLower lowest hasAddress isCanonical plain localPart domain label atom belongs freeEnds every pieces onFirst before behind canonical lowered lower isSome orElse
+unfolding alice slotOf areas padded headOctets times lengths digits bitsOf headFor checkedBy whole slots judgedBy rightBy free allZero slotAt soundBy marked sameOctets spelled addressOf number headOf clear zeroPadding inLower lowest hasAddress isCanonical plain localPart domain label atom belongs freeEnds every pieces onFirst before behind canonical from lowering.lowerText lowering.lowerPoints lowering.lowerPoint utf8.points utf8.tails utf8.leadOf utf8.encoded utf8.encodedOne inFront lowered lower isSome orElse
 twice = refl
 
 stray-octet : checked (replicate 4391 0 ++ (1 ∷ [])) ≡ Slot 0
-unfolding checked whole slots judged right free allZero slotAt sound marked sameOctets
+unfolding checkedBy whole slots judgedBy rightBy free allZero slotAt soundBy marked sameOctets
 stray-octet = refl

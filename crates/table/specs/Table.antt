@@ -7,8 +7,9 @@
 --     found                    where an address stands
 --     lowestFree, freeCount    the free slots
 --     inLower                  an address of a slot that stands in a lower one
---     right                    a slot that is free or sound, in its table
---     whole, judged, checked   refusals 1 and 2
+--     rightBy                  a slot that is free or sound, in its table
+--     whole, judgedBy, checkedBy    refusals 1 and 2
+--     right, checked           with the spelling of addresses that is in force
 use Prim.Native.Nat.{ℕ, zero, suc, _+_, _*_, _/_, _%_}
 use mathlib.Core.Bool.{Bool, true, false, not, _&&_, _||_}
 use mathlib.Core.List.{List}
@@ -16,7 +17,9 @@ use lib.Dec.{leb, eqb}
 use lib.ListN.{length, take, drop}
 use Rattle.octets.specs.Octets.{sameOctets}
 use Rattle.octets.specs.Written.{putAt}
-use Rattle.slots.specs.Slot.{slotLength, addressOf, marked, free, sound}
+use Rattle.slots.specs.Slot.{slotLength, addressOf, marked, free, soundBy}
+use Rattle.slots.specs.declared.Spelling.{Spelling}
+use Rattle.slots.specs.declared.Spelling.the-variants.{Canonical}
 use Rattle.table.specs.declared.Checked.{Checked}
 use Rattle.table.specs.declared.Checked.the-variants.{Sound, Length, Slot}
 use Rattle.table.specs.declared.Found.{Found}
@@ -42,7 +45,7 @@ withSlot t i s = putAt t (i * slotLength) s
 unfoldable pub unused : List ℕ → Bool
 unused s = not (marked s)
 
--- T12, T15: a used slot whose stored address is a, octet by octet; slots hold canonical addresses
+-- T12, T15: a used slot whose stored address is a, octet by octet; addresses in slots are compared as they stand
 unfoldable pub hasAddress : List ℕ → List ℕ → Bool
 hasAddress a s = marked s && sameOctets (addressOf s) a
 
@@ -77,19 +80,26 @@ isAt Nothing = false
 unfoldable pub inLower : List ℕ → ℕ → Bool
 inLower t i = isAt (lowest (hasAddress (addressOf (slotAt t i))) t 0 i)
 
--- T4, T8, R2: slot i is free, or it is sound and its address stands in no lower slot
-unfoldable pub right : List ℕ → ℕ → Bool
-right t i = free (slotAt t i) || sound (slotAt t i) && not (inLower t i)
+-- T4, T8, R2: slot i is free, or it is sound and its address stands in no lower slot. T16: sound by the rule in force, or by the old one
+unfoldable pub rightBy : Spelling → List ℕ → ℕ → Bool
+rightBy how t i = free (slotAt t i) || soundBy how (slotAt t i) && not (inLower t i)
 
 -- T1, R1: the length is that of 1 to 256 whole slots
 unfoldable pub whole : List ℕ → Bool
 whole t = eqb (length t % slotLength) 0 && leb 1 (slots t) && leb (slots t) mostSlots
 
 -- R2: the lowest of the k slots from slot i on that is neither free nor sound
-unfoldable pub judged : List ℕ → ℕ → ℕ → Checked
-judged t i zero = Sound
-judged t i (suc k) = elim (right t i) [ true ↦ judged t (i + 1) k | false ↦ Slot i ]
+unfoldable pub judgedBy : Spelling → List ℕ → ℕ → ℕ → Checked
+judgedBy how t i zero = Sound
+judgedBy how t i (suc k) = elim (rightBy how t i) [ true ↦ judgedBy how t (i + 1) k | false ↦ Slot i ]
 
 -- R1, R2: what the check finds; the slots are looked at where the length is that of whole slots. A table of zeros is sound (T13)
-unfoldable pub checked : List ℕ → Checked
-checked t = elim (whole t) [ true ↦ judged t 0 (slots t) | false ↦ Length ]
+unfoldable pub checkedBy : Spelling → List ℕ → Checked
+checkedBy how t = elim (whole t) [ true ↦ judgedBy how t 0 (slots t) | false ↦ Length ]
+
+-- T8: the rule in force
+abbrev pub right : List ℕ → ℕ → Bool
+right t i = rightBy Canonical t i
+
+abbrev pub checked : List ℕ → Checked
+checked t = checkedBy Canonical t

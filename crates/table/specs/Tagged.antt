@@ -2,7 +2,8 @@
 --     tagAt             that of a slot: the tag of its address; 0 where it is not used
 --     TaggedTo t tags n the tags of the first n slots are there, in room for those of a whole table
 --     Tagged            those of all slots
---     Open              a sound table with its tags: what those who look through it or write to it ask for
+--     OpenBy            a sound table with its tags, by either rule
+--     Open              by the one in force: what those who look through it or write to it ask for
 --     Begins            what `begin` asks for
 use Prim.Native.Nat.{ℕ, _<_, _≤_}
 use mathlib.Core.Path.{_≡_}
@@ -11,8 +12,10 @@ use mathlib.Core.List.{List}
 use lib.ListN.{length, getD}
 use Rattle.address.specs.Address.{isCanonical}
 use Rattle.slots.specs.Slot.{marked, addressOf}
+use Rattle.slots.specs.declared.Spelling.{Spelling}
+use Rattle.slots.specs.declared.Spelling.the-variants.{Canonical}
 use Rattle.tags.specs.Tags.{tagOf}
-use Rattle.table.specs.Table.{mostSlots, slots, slotAt, checked}
+use Rattle.table.specs.Table.{mostSlots, slots, slotAt, checkedBy}
 use Rattle.table.specs.declared.Checked.the-variants.{Sound}
 
 -- the tag of slot k: that of its address, and 0 where it is not used
@@ -27,9 +30,12 @@ pub record TaggedTo (t tags : List ℕ) (n : ℕ) : Type 0 where
 abbrev pub Tagged : List ℕ → List ℕ → Type 0
 Tagged t tags = TaggedTo t tags (slots t)
 
-pub record Open (t tags : List ℕ) : Type 0 where
-  pub sound : checked t ≡ Sound
+pub record OpenBy (how : Spelling) (t tags : List ℕ) : Type 0 where
+  pub sound : checkedBy how t ≡ Sound
   pub tagged : Tagged t tags
+
+abbrev pub Open : List ℕ → List ℕ → Type 0
+Open t tags = OpenBy Canonical t tags
 
 pub record Begins (t tags : List ℕ) (i : ℕ) (a : List ℕ) : Type 0 where
   pub within : i < slots t

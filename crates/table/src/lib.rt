@@ -5,8 +5,9 @@ ghost use mathlib.Core.Path.{_≡_};
 ghost use mathlib.Core.Bool.{true};
 ghost use lib.ListN.{length, set};
 ghost use Rattle.heads.specs.Head.{headOf};
-ghost use Rattle.slots.specs.Slot.{slotLength, keyLimit, marked, addressOf, sound};
-ghost use Rattle.heads.specs.Entry.{newcomer, seenBy, withDirect, withGossip};
+ghost use Rattle.slots.specs.Slot.{slotLength, addressRoom, keyLimit, freeSlot, marked, addressOf, soundBy, sound};
+ghost use Rattle.slots.specs.declared.Spelling.the-variants.{Ascii};
+ghost use Rattle.heads.specs.Entry.{newcomer, renamed, seenBy, withDirect, withGossip};
 ghost use Rattle.slots.specs.Entry.{entryOf, slotOf};
 ghost use Rattle.tags.specs.Tags.{tagOf};
 ghost use Rattle.table.specs.Table.{mostSlots, slots as slotsOf, slotAt, withSlot, unused, lowestFree, freeCount};
@@ -126,6 +127,24 @@ pub fn begin(table: &mut [u8], tags: &mut [u32; Slot::MOST], i: usize, address: 
     put_tag(tags, i, address);
     let at = i * Slot::LEN;
     slots::begin(&mut table[at..at + Slot::LEN], address);
+}
+
+// Frees a slot (T4).
+pub fn clear(table: &mut [u8], i: usize)
+    requires { ⌜ i < slotsOf (now table) ⌝ }
+    ensures { λ _. ⌜ now (table .exit) ≡ withSlot (now (table .entry)) i freeSlot ⌝ }
+{
+    let at = i * Slot::LEN;
+    octets::fill(&mut table[at..at + Slot::LEN], 0);
+}
+
+// Gives an entry another address, in a slot that was sound by the old rule (T17).
+pub fn set_address(table: &mut [u8], i: usize, address: &[u8])
+    requires { ⌜ (i < slotsOf (now table)) × (soundBy Ascii (slotAt (now table) i) ≡ true) × (length (now address) ≤ addressRoom) ⌝ }
+    ensures { λ _. ⌜ now (table .exit) ≡ withSlot (now (table .entry)) i (slotOf (renamed (now (address .entry)) (entryOf (slotAt (now (table .entry)) i)))) ⌝ }
+{
+    let at = i * Slot::LEN;
+    slots::set_address(&mut table[at..at + Slot::LEN], address);
 }
 
 // Raises last seen of an entry to the date; it never falls (U7).

@@ -16,6 +16,7 @@ use Rattle.addresslist.proofs.Readable.{plain-alone}
 use Rattle.slots.specs.Slot.{keyLimit}
 use Rattle.keyfield.specs.Field.{validFields}
 use Rattle.heads.specs.Entry.{Direct}
+use Rattle.slots.specs.declared.Spelling.the-variants.{Canonical}
 use Rattle.table.specs.Table.{checked}
 use Rattle.table.specs.Entries.{entryIn}
 use Rattle.table.specs.declared.Checked.the-variants.{Sound}
@@ -48,7 +49,7 @@ module _ (t a : List ℕ) (s : checked t ≡ Sound) (p : plain a ≡ true) where
 
   not-refused : refusedRecommending t a ≡ none
   unfolding refusedRecommending recommendingRows firstOf
-  not-refused = first-rest (tableRows t) ((Recipients unless recipientList (addresses a)) ∷ []) (sound-rows t s) ∙ first-behind Recipients _ [] (ap not listed)
+  not-refused = first-rest (tableRows t) ((Recipients unless recipientList (addresses a)) ∷ []) (sound-rows Canonical t s) ∙ first-behind Recipients _ [] (ap not listed)
 
   pub alone-taken : targetKeyOf t a 0 ≡ targetIn t a
   unfolding targetKeyOf orElse targets
