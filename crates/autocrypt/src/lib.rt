@@ -1,6 +1,7 @@
 // The library as its callers see it. Each name stands here for the crate that it comes from, where a comment says what it
 // does.
 //     check, entry                             look at a table (T13, T14)
+//     convert                                  bring a table of an older version to the addresses of this one (T16)
 //     process, Gossip                          take in a received mail (U1), with the gossip setting (G1)
 //     recommend, target_key, target_part       advice for a mail to be sent, and the keys to encrypt to (A1, A6)
 //     write_autocrypt, write_gossip            write a field for a mail to be sent (W1)
@@ -13,6 +14,7 @@
 // (R32).
 pub use advice::Advice;
 pub use advice::Part;
+pub use convert::convert;
 pub use inspect::check;
 pub use inspect::entry;
 pub use process::process;

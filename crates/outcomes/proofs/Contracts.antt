@@ -17,6 +17,7 @@ use denote.Ref.{now}
 use Rattle.refusals.proofs.number as number
 use Rattle.refusals.proofs.index as index
 use Rattle.inspect.proofs.check as check
+use Rattle.convert.proofs.convert as convert
 use Rattle.process.proofs.process as process
 use Rattle.inspect.proofs.entry as entry
 use Rattle.recommend.proofs.recommend as recommend
@@ -25,14 +26,15 @@ use Rattle.recommend.proofs.target_key as target-key
 use Rattle.write.proofs.write_autocrypt as write-autocrypt
 use Rattle.write.proofs.write_gossip as write-gossip
 use Rattle.cabi.proofs.tables.vienghulac_check as vienghulac-check
+use Rattle.cabi.proofs.tables.vienghulac_convert as vienghulac-convert
 use Rattle.cabi.proofs.messages.vienghulac_process as vienghulac-process
 use Rattle.cabi.proofs.tables.vienghulac_entry as vienghulac-entry
 use Rattle.cabi.proofs.recommending.vienghulac_recommend as vienghulac-recommend
 use Rattle.cabi.proofs.recommending.vienghulac_target_key as vienghulac-target-key
 use Rattle.cabi.proofs.writing.vienghulac_write_autocrypt as vienghulac-write-autocrypt
 use Rattle.cabi.proofs.writing.vienghulac_write_gossip as vienghulac-write-gossip
-use Rattle.outcomes.specs.Outcomes.{Number, Index, Check, Process, Entry, Recommend, TargetPart, TargetKey, WriteAutocrypt, WriteGossip}
-use Rattle.outcomes.specs.OutcomesInC.{VienghulacCheck, VienghulacProcess, VienghulacEntry, VienghulacRecommend, VienghulacTargetKey, VienghulacWriteAutocrypt, VienghulacWriteGossip}
+use Rattle.outcomes.specs.Outcomes.{Number, Index, Check, Convert, Process, Entry, Recommend, TargetPart, TargetKey, WriteAutocrypt, WriteGossip}
+use Rattle.outcomes.specs.OutcomesInC.{VienghulacCheck, VienghulacConvert, VienghulacProcess, VienghulacEntry, VienghulacRecommend, VienghulacTargetKey, VienghulacWriteAutocrypt, VienghulacWriteGossip}
 use Rattle.outcomes.specs.Contracts.{ensuring}
 
 -- in every model of the toolchain's logic
@@ -45,6 +47,9 @@ module _ {M : Type 1} (𝓤 : URA M) (H : Heap 𝓤) (A : Atoms 𝓤) (mem : Mem
 
   pub check-contract : check.spec 𝓤 H A mem run ≡ ensuring 𝓤 H A check.ended (λ κs a r e. Check (now (a .0)) r)
   check-contract = refl
+
+  pub convert-contract : convert.spec 𝓤 H A mem run ≡ ensuring 𝓤 H A convert.ended (λ κs a r e. Convert (now (a .0)) r (now (e .0)))
+  convert-contract = refl
 
   pub process-contract : process.spec 𝓤 H A mem run
       ≡ ensuring 𝓤 H A process.ended
@@ -80,6 +85,10 @@ module _ {M : Type 1} (𝓤 : URA M) (H : Heap 𝓤) (A : Atoms 𝓤) (mem : Mem
 
   pub vienghulac-check-contract : vienghulac-check.spec 𝓤 H A mem run ≡ ensuring 𝓤 H A vienghulac-check.ended (λ κs a r e. VienghulacCheck (now (a .0)) r)
   vienghulac-check-contract = refl
+
+  pub vienghulac-convert-contract : vienghulac-convert.spec 𝓤 H A mem run
+      ≡ ensuring 𝓤 H A vienghulac-convert.ended (λ κs a r e. VienghulacConvert (now (a .0)) r (now (e .0)))
+  vienghulac-convert-contract = refl
 
   pub vienghulac-process-contract : vienghulac-process.spec 𝓤 H A mem run
       ≡ ensuring 𝓤 H A vienghulac-process.ended

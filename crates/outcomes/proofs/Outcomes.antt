@@ -2,7 +2,7 @@
 --     one-answer, one-outcome       two outcomes that meet the same equations are the same: the general statement
 --     number-unique .. write-gossip-unique    so for each public function
 --     vienghulac-check-unique ..    and for each function of include/vienghulac.h
---     process-refusal, entry-refusal, write-autocrypt-refusal, write-gossip-refusal    what a refusal leaves
+--     convert-refusal, process-refusal, entry-refusal, write-autocrypt-refusal, write-gossip-refusal    what a refusal leaves
 -- That each number is given exactly when its row holds and no row before it (C3) is `exactly` of refusals/proofs/Rows, for the rows of every call.
 -- Assumes nothing.
 use Prim.Native.Nat.{ℕ}
@@ -15,6 +15,7 @@ use Rattle.refusals.specs.declared.Refusal.{Refusal}
 use Rattle.refusals.specs.declared.Answer.{Answer}
 use Rattle.refusals.specs.declared.Answer.the-variants.{Refused}
 use Rattle.inspect.proofs.Showing.{refused-untouched as unshown}
+use Rattle.convert.proofs.Outcomes.{refused-untouched as unconverted}
 use Rattle.settings.specs.declared.Gossip.{Gossip}
 use Rattle.process.proofs.Outcomes.{refused-untouched as unprocessed}
 use Rattle.recommend.specs.declared.Recommended.{Recommended}
@@ -26,8 +27,8 @@ use Rattle.cabi.specs.declared.numbers.Answer.{Answer as AnswerInC}
 use Rattle.cabi.specs.declared.numbers.Advice.{Advice}
 use Rattle.cabi.specs.declared.numbers.Part.{Part as PartInC}
 use Rattle.cabi.specs.declared.numbers.Written.{Written as WrittenInC}
-use Rattle.outcomes.specs.OutcomesInC.{VienghulacCheck, VienghulacProcess, VienghulacEntry, VienghulacRecommend, VienghulacTargetKey, VienghulacWriteAutocrypt, VienghulacWriteGossip}
-use Rattle.outcomes.specs.Outcomes.{Meets, Number, Index, Check, Process, Entry, Recommend, TargetPart, TargetKey, WriteAutocrypt, WriteGossip}
+use Rattle.outcomes.specs.OutcomesInC.{VienghulacCheck, VienghulacConvert, VienghulacProcess, VienghulacEntry, VienghulacRecommend, VienghulacTargetKey, VienghulacWriteAutocrypt, VienghulacWriteGossip}
+use Rattle.outcomes.specs.Outcomes.{Meets, Number, Index, Check, Convert, Process, Entry, Recommend, TargetPart, TargetKey, WriteAutocrypt, WriteGossip}
 
 pub one-answer : {A : Type 0} (defined r q : A) → r ≡ defined → q ≡ defined → r ≡ q
 one-answer defined r q h k = h ∙ sym k
@@ -45,6 +46,10 @@ index-unique refusal r q = one-answer _ r q
 
 pub check-unique : (table : List ℕ) (r q : Answer) → AllOf (Check table r) → AllOf (Check table q) → r ≡ q
 check-unique table r q = one-answer _ r q
+
+pub convert-unique : (table : List ℕ) (r q : Answer) (left other : List ℕ)
+    → AllOf (Convert table r left) → AllOf (Convert table q other) → (r ≡ q) × (left ≡ other)
+convert-unique table r q left other = one-outcome _ _ r q left other
 
 pub process-unique : (table : List ℕ) (receipt : ℕ) (outer payload : List ℕ) (gossip : Gossip) (r q : Answer) (left other : List ℕ)
     → AllOf (Process table receipt outer payload gossip r left) → AllOf (Process table receipt outer payload gossip q other) → (r ≡ q) × (left ≡ other)
@@ -78,6 +83,10 @@ write-gossip-unique address key out r q left other = one-outcome _ _ r q left ot
 pub vienghulac-check-unique : (table : List ℕ) (r q : AnswerInC) → AllOf (VienghulacCheck table r) → AllOf (VienghulacCheck table q) → r ≡ q
 vienghulac-check-unique table r q = one-answer _ r q
 
+pub vienghulac-convert-unique : (table : List ℕ) (r q : AnswerInC) (left other : List ℕ)
+    → AllOf (VienghulacConvert table r left) → AllOf (VienghulacConvert table q other) → (r ≡ q) × (left ≡ other)
+vienghulac-convert-unique table r q left other = one-outcome _ _ r q left other
+
 pub vienghulac-process-unique : (table : List ℕ) (receipt : ℕ) (outer payload : List ℕ) (gossip : ℕ) (r q : AnswerInC) (left other : List ℕ)
     → AllOf (VienghulacProcess table receipt outer payload gossip r left) → AllOf (VienghulacProcess table receipt outer payload gossip q other)
     → (r ≡ q) × (left ≡ other)
@@ -105,6 +114,9 @@ pub vienghulac-write-gossip-unique : (address key out : List ℕ) (r q : Written
 vienghulac-write-gossip-unique address key out r q left other = one-outcome _ _ r q left other
 
 -- R32: a refused call writes nothing
+pub convert-refusal : (table : List ℕ) (refusal : Refusal) (left : List ℕ) → AllOf (Convert table (Refused refusal) left) → left ≡ table
+convert-refusal table refusal left h = h .1 ∙ unconverted table refusal (sym (h .0))
+
 pub process-refusal : (table : List ℕ) (receipt : ℕ) (outer payload : List ℕ) (gossip : Gossip) (refusal : Refusal) (left : List ℕ)
     → AllOf (Process table receipt outer payload gossip (Refused refusal) left) → left ≡ table
 process-refusal table receipt outer payload gossip refusal left h =

@@ -3,6 +3,7 @@
 -- in proofs/Contracts.
 --     Meets                              an outcome of a function that is lent memory for writing: two equations
 --     Number, Index, Check               number, index, check
+--     Convert                            convert
 --     Process, Entry                     process, entry
 --     Recommend, TargetPart, TargetKey   recommend, target_part, target_key
 --     WriteAutocrypt, WriteGossip        write_autocrypt, write_gossip
@@ -19,6 +20,7 @@ use Rattle.refusals.specs.Rows.{firstOf, answerOf}
 use Rattle.refusals.specs.declared.Refusal.{Refusal}
 use Rattle.refusals.specs.declared.Answer.{Answer}
 use Rattle.inspect.specs.Inspecting.{tableRows, refusedShowing, leftByShowing}
+use Rattle.convert.specs.Converting.{refusedConverting, leftByConverting}
 use Rattle.process.specs.Processing.{refusedProcessing, leftByProcessing}
 use Rattle.settings.specs.declared.Gossip.{Gossip}
 use Rattle.recommend.specs.Recommending.{recommendedOf, targetPartOf, targetKeyOf}
@@ -42,6 +44,10 @@ Index refusal r = (r ≡ indexOf refusal) ∷ []
 -- T13: what `check` answers
 abbrev pub Check : List ℕ → Answer → List (Type 0)
 Check table r = (r ≡ answerOf (firstOf (tableRows table))) ∷ []
+
+-- T16, T17: what `convert` answers, and the table that it leaves
+abbrev pub Convert : List ℕ → Answer → List ℕ → List (Type 0)
+Convert table r left = Meets (answerOf (refusedConverting table)) (leftByConverting table) r left
 
 -- U2: what `process` answers, and the table that it leaves
 abbrev pub Process : List ℕ → ℕ → List ℕ → List ℕ → Gossip → Answer → List ℕ → List (Type 0)

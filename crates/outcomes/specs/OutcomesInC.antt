@@ -1,6 +1,7 @@
 -- SCOPE, C2: what the contracts of the functions of include/vienghulac.h ask of an outcome, in the words of cabi/src: as in Outcomes.antt, with the
 -- answers in numbers.
 --     VienghulacCheck, VienghulacProcess                 vienghulac_check, vienghulac_process
+--     VienghulacConvert                                  vienghulac_convert
 --     VienghulacEntry                                    vienghulac_entry
 --     VienghulacRecommend, VienghulacTargetKey           vienghulac_recommend, vienghulac_target_key
 --     VienghulacWriteAutocrypt, VienghulacWriteGossip    vienghulac_write_autocrypt, vienghulac_write_gossip
@@ -11,6 +12,7 @@ use mathlib.Core.List.{List, [], _∷_}
 use lib.ListN.{length}
 use Rattle.refusals.specs.Rows.{firstOf, answerOf}
 use Rattle.inspect.specs.Inspecting.{tableRows, refusedShowing, leftByShowing}
+use Rattle.convert.specs.Converting.{refusedConverting, leftByConverting}
 use Rattle.process.specs.Processing.{refusedProcessing, leftByProcessing}
 use Rattle.recommend.specs.Recommending.{recommendedOf, targetPartOf}
 use Rattle.names.specs.Names.{autocrypt as autocryptName, gossip as gossipName}
@@ -25,6 +27,10 @@ use Rattle.outcomes.specs.Outcomes.{Meets}
 -- T13, R33: what `vienghulac_check` answers
 abbrev pub VienghulacCheck : List ℕ → Answer → List (Type 0)
 VienghulacCheck table r = (r ≡ inNumbers (answerOf (firstOf (tableRows table)))) ∷ []
+
+-- T16, T17: what `vienghulac_convert` answers, and the table that it leaves
+abbrev pub VienghulacConvert : List ℕ → Answer → List ℕ → List (Type 0)
+VienghulacConvert table r left = Meets (inNumbers (answerOf (refusedConverting table))) (leftByConverting table) r left
 
 -- U2, G1: what `vienghulac_process` answers, and the table that it leaves, by the number that is given as the gossip setting
 abbrev pub VienghulacProcess : List ℕ → ℕ → List ℕ → List ℕ → ℕ → Answer → List ℕ → List (Type 0)

@@ -291,8 +291,17 @@ pub extern "C" fn probe_is_canonical(s: &[u8]) -> bool {
 }
 
 #[no_mangle]
-pub extern "C" fn probe_same_address(a: &[u8], b: &[u8]) -> bool {
-    address::same_address(a, b)
+pub extern "C" fn probe_was_canonical(s: &[u8]) -> bool {
+    address::was_canonical(s)
+}
+
+// what is not canonical is nobody's form
+#[no_mangle]
+pub extern "C" fn probe_has_form(s: &[u8], form: &[u8]) -> bool {
+    if address::is_canonical(form) {
+        return address::has_form(s, form);
+    }
+    false
 }
 
 // kind 0: so many octets; 2: too little room
@@ -399,7 +408,7 @@ fn slot_found(r: table::Found) -> Answer {
 #[no_mangle]
 pub extern "C" fn probe_find(t: &[u8], address: &[u8]) -> Answer {
     let mut tags = [0u32; Slot::MOST];
-    match lookup::check(t, &mut tags) {
+    match lookup::check(t, &mut tags, slots::Spelling::Canonical) {
         table::Checked::Sound => slot_found(lookup::find(t, &tags, address)),
         table::Checked::Length => Answer { kind: 2, value: 0 },
         table::Checked::Slot(_) => Answer { kind: 2, value: 0 },

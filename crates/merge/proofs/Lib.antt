@@ -1,0 +1,3 @@
+pub mod Later
+pub mod Parts
+mod Worked
