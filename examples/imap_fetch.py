@@ -13,7 +13,8 @@ first, the entries are the same in the end, unless the table was too small (refu
 one second. Encrypted mail is not opened here, so no gossip is taken; examples/openpgp.py does that.
 
 The table's file is locked meanwhile, so that no other program writes to it, and replaced when all is read. Where something
-fails before, that is one line on standard error and exit status 1, and the file is as it was: the next run begins anew.
+fails before, that is one line on standard error and exit status 1, and the file is as it was: the next run begins anew. A
+file that a version of the library before 0.4 wrote may be refused (2) until `vienghulac convert FILE` was run.
 """
 
 from __future__ import annotations

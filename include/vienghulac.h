@@ -35,7 +35,8 @@
  *
  * A table has 1 to 256 slots of VIENGHULAC_SLOT octets, one for each correspondent; slots count from 0. A new table is
  * all zeros. There are no pointers in it, so it may be stored, copied and moved as it is, and zeros for whole slots may
- * be added at its end (T13).
+ * be added at its end (T13). A table that a version before 0.4 stored may be refused with 2 by all but
+ * vienghulac_convert, which has to be called once for it (T20).
  *
  * What no call can check is the caller's to see to (C18):
  *
@@ -142,6 +143,21 @@ typedef struct {
  * Answers 0, 1 or 2. */
 vienghulac_answer vienghulac_check(const uint8_t *table, size_t table_length);
 
+/* Brings a table up to date that a version before 0.4 stored. Those versions told addresses apart by the case of
+ * letters with accents, and of Greek and Cyrillic letters; now such capitals become small letters, too (L21).
+ *
+ * Each used slot gets the canonical form of its address. Where several slots have one form, the lowest of them holds
+ * the merged entry from then on: the largest last seen, the direct half with the largest timestamp, and the gossip half
+ * with the largest timestamp, of equal ones that of the lowest slot (T18). The others become free. No other slot
+ * changes, and none moves (T17). A table that vienghulac_check answers with 0 stays octet by octet as it was (T19), so
+ * a program may make this call on every table that it loads.
+ *
+ * Lent: `table`. If the answer is 0, the table is one that the other calls take, and parts that were handed out before
+ * mean nothing any more.
+ * Answers 0, or 1, or 2 with the index, by the rule before accents: where an address has to be plain and without an
+ * ASCII capital (T16). */
+vienghulac_answer vienghulac_convert(uint8_t *table, size_t table_length);
+
 /* Takes one received mail into the table: the entry of its sender and, where gossip is asked for, those of the recipients
  * whom the gossip in its payload is about (pages U and G).
  *
@@ -196,8 +212,8 @@ vienghulac_answer vienghulac_entry(const uint8_t *table, size_t table_length, ui
  *     Autocrypt: addr=bob@b.example; prefer-encrypt=mutual; keydata=
  *      Zm9v
  *
- * with CRLF behind each line. `address` is the sender's; capitals of ASCII are written as small letters (L8). `key`
- * holds the octets of the key, which are written as Base64. Without `mutual` there is no prefer-encrypt.
+ * with CRLF behind each line. `address` is the sender's; it is written in its canonical form, in small letters (L8).
+ * `key` holds the octets of the key, which are written as Base64. Without `mutual` there is no prefer-encrypt.
  *
  * Borrowed: `address` and `key`. Lent: `out`. If the number is 0, the first `length` octets of it are the field. The
  * octets behind them, and with a refusal all of `out`, stay as they were; no zero is put behind the field.

@@ -1,8 +1,11 @@
-"""Mail for the tests: header blocks, their keys, and tables that hold them, with their lock files."""
+"""Mail for the tests: header blocks, their keys, and tables that hold them, with their lock files; and a table as
+versions before 0.4 stored it."""
 
 import base64
 import os
 from pathlib import Path
+
+from scope.table import Entry, table_of
 
 from vienghulac import Table, process
 
@@ -10,6 +13,25 @@ ROOT = Path(__file__).resolve().parents[2]
 EXAMPLES = ROOT / "examples"
 
 RECEIPT = 1_600_000_000
+
+# T16: two spellings of one address, which those versions told apart. The second is the form of both.
+CAPITAL, SMALL = "jÖrg@f.example".encode(), "jörg@f.example".encode()
+
+# What a table of theirs may hold. The two become one (T18): last seen and gossip of the second, the key of the first.
+OLD_ENTRIES = [
+    Entry(b"alice@a.example", RECEIPT, RECEIPT, b"alice"),
+    Entry(CAPITAL, RECEIPT, RECEIPT - 10, b"newer", True, RECEIPT, b"gone"),
+    Entry(SMALL, RECEIPT + 5, RECEIPT - 20, b"older", False, RECEIPT + 1, b"gossip"),
+    Entry("Éva@e.example".encode(), RECEIPT),
+]
+MERGED = Entry(SMALL, RECEIPT + 5, RECEIPT - 10, b"newer", True, RECEIPT + 1, b"gossip")
+OLD_SLOT = 2  # the lowest that is refused
+
+
+def old_table():
+    """The octets of such a table: eight slots, with gaps between the entries."""
+    alice, capital, small, eva = OLD_ENTRIES
+    return table_of([None, alice, capital, None, small, eva, None, None])
 
 
 def letter(sender, key=None, mutual=False, more=b""):

@@ -4,17 +4,19 @@ and exit status 1. The file stays as it was, and nothing new stands beside it bu
 import ctypes
 import errno
 import os
+import re
 import subprocess
 import sys
 import time
 from pathlib import Path
 
 import pytest
-from commands import INBOX, failure
-from letters import lock_of, table_with
+from commands import INBOX, answer, failure
+from letters import lock_of, old_table, table_with
 
 from vienghulac import SLOT, Refused, Table, open_table
 from vienghulac._command import main
+from vienghulac._shared import convert_file
 
 
 def all_below(folder, path):
@@ -151,6 +153,37 @@ def test_what_cannot_be_changed(table_file, line_of, make, kind, words):
     assert all_below(table_file.parent, path) == before
 
 
+def no_file(path):
+    return path
+
+
+UNCONVERTED = [*UNREADABLE, (a_pipe, OSError, "Not a regular file"), (no_file, FileNotFoundError, "No such file")]
+
+
+@pytest.mark.parametrize("make, kind, words", cases(UNCONVERTED))
+def test_what_cannot_be_converted(table_file, line_of, make, kind, words):
+    """No table is made, and no lock file."""
+    path = make(table_file)
+    before = all_below(table_file.parent, path)
+    with pytest.raises(kind, match=words):
+        convert_file(path)
+    for more in ((), ("--no-wait",)):
+        line = line_of("convert", *more, path)
+        assert path.name in line and re.search(words, line)
+    assert all_below(table_file.parent, path) == before and not os.path.isfile(lock_of(path))
+
+
+@pytest.mark.parametrize("make", [lock_is_a_folder, lock_is_a_link])
+def test_an_older_table_that_cannot_be_locked(table_file, line_of, make):
+    """A table of today is not written, and needs no lock."""
+    path = make(table_file)
+    assert answer("convert", path)
+    path.write_bytes(old_table())
+    before = all_below(table_file.parent, path)
+    assert "The lock file cannot be opened" in line_of("convert", path)
+    assert all_below(table_file.parent, path) == before
+
+
 @pytest.mark.parametrize("make", [a_folder, in_no_folder, in_a_file, no_path, a_pipe])
 def test_no_lock_file_where_no_table_can_be(table_file, make):
     path = make(table_file)
@@ -227,7 +260,8 @@ def test_a_table_that_may_not_be_read(table_file):
     assert changed(table_file) == f"PermissionError {table_file}"
     for command in (["list"], ["recommend", "a@x"], ["key", "a@x"], ["import", INBOX]):
         assert "Permission denied" in failure(1, *command, "--table", table_file, preexec_fn=held_to_modes)
-    assert "Permission denied" in failure(1, "check", table_file, preexec_fn=held_to_modes)
+    for command in ("check", "convert"):
+        assert "Permission denied" in failure(1, command, table_file, preexec_fn=held_to_modes)
     table_file.chmod(0o600)
     assert table_file.read_bytes() == octets
     assert changed(table_file) == "changed"
@@ -247,6 +281,18 @@ def test_a_folder_that_may_not_be_written(table_file):
     table_file.parent.chmod(0o700)
     assert table_file.read_bytes() == octets
     assert sorted(table_file.parent.iterdir()) == [lock_of(table_file), table_file]
+
+
+def test_an_older_table_in_a_folder_that_may_not_be_written(table_file):
+    """One of today is found up to date there."""
+    octets = good(table_file).read_bytes()
+    table_file.parent.chmod(0o500)
+    assert answer("convert", table_file, preexec_fn=held_to_modes)
+    table_file.write_bytes(old_table())
+    assert lock_of(table_file).name in failure(1, "convert", table_file, preexec_fn=held_to_modes)
+    table_file.parent.chmod(0o700)
+    assert table_file.read_bytes() == old_table() != octets
+    assert list(table_file.parent.iterdir()) == [table_file]
 
 
 def test_a_lock_file_that_may_not_be_opened(table_file):
@@ -338,9 +384,10 @@ def test_a_file_that_is_written_while_it_is_read(table_file, line_of, meddle, be
         with pytest.raises(OSError, match="The file was written while it was read") as caught:
             act(table_file)
         assert (caught.value.errno, caught.value.filename) == (errno.EBUSY, str(table_file))
-    for command in (["list"], ["recommend", "a@x"], ["key", "a@x"], ["import", INBOX]):
+    for command in (["list", "--table"], ["recommend", "a@x", "--table"], ["key", "a@x", "--table"],
+                    ["import", INBOX, "--table"], ["check"], ["convert"]):  # fmt: skip
         put()
-        line = line_of(*command, "--table", table_file)
+        line = line_of(*command, table_file)
         assert line == f"vienghulac: [Errno 16] The file was written while it was read: '{table_file}'\n"
     assert sorted(table_file.parent.iterdir()) == [lock_of(table_file), table_file, source]
 

@@ -3,11 +3,11 @@
 import array
 
 import pytest
-from letters import RECEIPT, letter, table_with
+from letters import RECEIPT, letter, old_table, table_with
 
 from vienghulac import (
-    Gossip, Refused, Table, autocrypt_field, autocrypt_header, check, entries, gossip_field, gossip_header, process,
-    recommend, target_key,
+    Gossip, Refused, Table, autocrypt_field, autocrypt_header, check, convert, entries, gossip_field, gossip_header,
+    process, recommend, target_key,
 )  # fmt: skip
 
 LIST = b"a@x"
@@ -22,6 +22,7 @@ CALLS = [
     (gossip_field, dict(address=LIST, key=b"k")),
     (gossip_header, dict(address=LIST, key=b"k")),
     (check, dict(table=bytes(4_392))),
+    (convert, dict(table=bytes(4_392))),
     (Table, dict(table=bytes(4_392))),
     (Table.new, dict(slots=1)),
 ]
@@ -86,6 +87,7 @@ def test_every_kind_of_octets(kind):
     assert recommend(table, kind(b"a@x")).name == "AVAILABLE"
     assert target_key(table, kind(b"a@x")) == b"key"
     assert autocrypt_field(kind(b"a@x"), kind(b"foo")) == b"Autocrypt: addr=a@x; keydata=\r\n Zm9v\r\n"
+    assert bytes(convert(kind(old_table()))) == bytes(convert(old_table()))
 
 
 def test_a_view_with_gaps_lends_the_octets_it_shows():
@@ -108,6 +110,7 @@ def test_a_class_that_lies_about_its_length(base):
             return bytearray(b"mallory@m.example")
 
     assert autocrypt_field(Liar(b"a@x"), Liar(b"foo")) == autocrypt_field(b"a@x", b"foo")
+    assert bytes(convert(Liar(old_table()))) == bytes(convert(old_table()))
     told, plain = Table(Liar(bytes(4_392 * 2))), Table.new(2)
     outer, payload = letter(b"a@x", b"key", more=b"To: b@x\r\n"), gossip_field(b"b@x", b"gossiped")
     process(told, RECEIPT, Liar(outer), Liar(payload), Gossip.TAKE)

@@ -6,13 +6,13 @@ import threading
 
 import pytest
 from cases import Cases
-from letters import RECEIPT, ROOT, gossip, letter, table_with
+from letters import MERGED, OLD_SLOT, RECEIPT, ROOT, gossip, letter, old_table, table_with
 from mails import GROUP, group_mail
-from scope import processing, recommending
+from scope import conversion, processing, recommending
 from scope import table as tables
 
 from vienghulac import (
-    REFUSALS, SLOT, Advice, Gossip, Refused, Table, check, entries, process, recommend, target_key,
+    REFUSALS, SLOT, Advice, Gossip, Refused, Table, check, convert, entries, process, recommend, target_key,
 )  # fmt: skip
 
 SEED = int(os.environ.get("VIENGHULAC_SEED", "1"))
@@ -34,6 +34,18 @@ def test_check_as_the_independent_program():
         assert (number, slot) == tables.check(table)
         seen.add(number)
     assert seen == {0, 1, 2}
+
+
+def test_convert_as_the_independent_program():
+    cases, seen = Cases(SEED), set()
+    for _ in range(1_000):
+        octets = cases.conversion()
+        given = bytearray(octets)
+        number, slot, table = answered(convert, octets)
+        assert (number, slot, octets if table is None else bytes(table)) == conversion.convert(bytes(given))
+        assert octets == given  # no one wrote to what was lent
+        seen.add((number, table is not None and bytes(table) != octets))
+    assert seen == {(0, False), (0, True), (1, False), (2, False)}
 
 
 def on_sound_tables(make, many):
@@ -114,6 +126,46 @@ def test_group_mail_on_a_telephone_G1_R8():
         seen = {answered(process, table, RECEIPT, outer, payload, *setting)[0] for outer, payload in group_mail()}
         assert (len(entries(table)), seen) == (stored, answers)
         assert {*GROUP} <= {entry.address for entry in entries(table)}
+
+
+def test_an_older_table_is_refused_until_it_is_converted_T16_T20():
+    old = old_table()
+    for call in (Table, check):
+        assert answered(call, old) == (2, OLD_SLOT, None)
+    table = convert(old)
+    assert type(table) is Table and table.slots == 8
+    assert [(entry.slot, entry.address.decode()) for entry in entries(table)] == [
+        (1, "alice@a.example"), (2, "jörg@f.example"), (5, "éva@e.example"),
+    ]  # fmt: skip
+    merged = entries(table)[1]
+    for name, value in vars(MERGED).items():
+        assert getattr(merged, name) == value, name
+    assert bytes(target_key(table, "JÖRG@F.Example".encode())) == b"newer"
+
+
+def test_converting_twice_is_converting_once_T19():
+    once = convert(old_table())
+    assert bytes(convert(bytes(once))) == bytes(once)
+    table, _ = table_with(b"a@x", "é@x".encode(), b"\xc3\x89\xff@x")
+    assert bytes(convert(bytes(table))) == bytes(table)
+    assert bytes(convert(bytes(SLOT))) == bytes(SLOT)
+
+
+def test_what_no_rule_takes_is_not_converted_R1_R2():
+    old, kept = bytearray(old_table()), old_table()
+    for octets in (b"", b"x", old[:-1], bytes(257 * SLOT)):
+        assert answered(convert, octets) == (1, 0, None)
+    old[5 * SLOT + 42] = ord("V")  # in `Éva`: a capital of ASCII stood in no table ever
+    assert answered(convert, old) == (2, 5, None)
+    old[5 * SLOT + 42] = ord("v")
+    assert bytes(old) == kept
+
+
+def test_one_person_in_each_spelling_L8():
+    table = Table.new(3)
+    for address in ("jörg@x", "JÖRG@X", "jÖrg@x", "ΆλφΑ@x", "Άλφα@X", "ЁЖ@x", "ёж@x"):
+        process(table, RECEIPT, letter(address.encode(), address.encode()))
+    assert [entry.address.decode() for entry in entries(table)] == ["jörg@x", "Άλφα@x", "ёж@x"]
 
 
 def test_numbers_beyond_the_width_are_beyond_the_limit_R3_A7():

@@ -215,7 +215,7 @@ def test_field(tmp_path):
     assert answer("field", ALICE, "--key", key, "--mutual") == autocrypt_field(ALICE.encode(), octets, True)
     assert answer("field", ALICE, "--key", key) == autocrypt_field(ALICE.encode(), octets)
     assert answer("field", ALICE, "--key", "-", "--gossip", input=octets) == gossip_field(ALICE.encode(), octets)
-    assert answer("field", b"\xc3\x89@X", "--key", key).startswith(b"Autocrypt: addr=\xc3\x89@x;")
+    assert answer("field", b"\xc3\x89@X", "--key", key).startswith(b"Autocrypt: addr=\xc3\xa9@x;")
     described = json.loads(answer("field", "a@x", "--key", "-", "--json", input=b"foo"))
     assert described == {"name": "Autocrypt", "value": "addr=a@x; keydata= Zm9v"}
     assert "refused 9" in failure(1, "field", "Alice <a@x>", "--key", key)
@@ -254,6 +254,7 @@ def test_check(imported, tmp_path):
         (), ("send",), ("list",), ("import", "--table", "t"), ("import", "mbox"), ("recommend", "--table", "t"),
         ("key", "--table", "t", "a@x", "--place", "-1"), ("key", "--table", "t", "a@x", "--place", "one"),
         ("import", "mbox", "--table", "t", "--receipt", "yesterday"), ("field", "a@x"), ("check",), ("list", "--table", "t", "more"),
+        ("convert",), ("convert", "--table", "t"), ("check", "t", "--no-wait"),
         ("field", "a@x", "--key", "k", "--mutual", "--gossip"), ("list", "--table", "t", "--xml"),
     ],
 )  # fmt: skip
@@ -261,7 +262,7 @@ def test_bad_usage(words):
     assert "usage: vienghulac" in failure(2, *words)
 
 
-@pytest.mark.parametrize("command", ["import", "list", "recommend", "field", "key", "check"])
+@pytest.mark.parametrize("command", ["import", "list", "recommend", "field", "key", "check", "convert"])
 def test_help(command):
     text = answer(command, "--help").decode()
     assert f"usage: vienghulac {command}" in text and "--json" in text
@@ -274,13 +275,13 @@ def test_help_names_the_keys_of_json(imported):
     key, table = EXAMPLES / "alice.key", ("--table", imported)
     for command, *words in (
         ("import", INBOX, *table), ("list", *table), ("recommend", BOB, *table), ("key", BOB, *table),
-        ("field", ALICE, "--key", key), ("check", imported),
+        ("field", ALICE, "--key", key), ("check", imported), ("convert", imported),
     ):  # fmt: skip
         answered = json.loads(answer(command, "--json", *words))
         keys = set(answered[0] if isinstance(answered, list) else answered)
         text = answer(command, "--help").decode().partition("With --json")[2].partition("positional arguments")[0]
         assert keys and keys <= set(re.findall(r"\w+", text))
-        assert ("number" in keys) == (command == "check")
+        assert ("number" in keys) == (command in ("check", "convert"))
 
 
 def test_help_of_import_tells_where_blocks_and_times_come_from():
@@ -292,6 +293,15 @@ def test_help_of_import_tells_where_blocks_and_times_come_from():
 def test_help_of_import_tells_of_the_lock():
     text = " ".join(answer("import", "--help").decode().split())
     for words in (".NAME.lock", "says so after a second", "with --no-wait it fails at once"):
+        assert words in text
+
+
+def test_help_of_convert_tells_what_it_counts_and_what_it_leaves():
+    text = " ".join(answer("convert", "--help").decode().split())
+    for words in (
+        "as renamed, those that hold an entry with another spelling", "as merged, those that became free",
+        "only where something changes", "What is refused stays as it is", "with --no-wait such a file fails at once",
+    ):  # fmt: skip
         assert words in text
 
 

@@ -16,9 +16,9 @@ from concurrent.futures import ThreadPoolExecutor
 from contextlib import contextmanager
 
 import pytest
-from letters import RECEIPT, gossip, letter, table_with
+from letters import RECEIPT, gossip, letter, old_table, table_with
 
-from vienghulac import Gossip, Refused, Table, _library, entries, process, recommend, target_key
+from vienghulac import Gossip, Refused, Table, _library, convert, entries, process, recommend, target_key
 
 THREADS = 4
 
@@ -136,13 +136,35 @@ def test_a_buffer_that_changes_during_the_call(lent, eager):
             assert (entry.address, entry.direct_key) in senders
 
 
-def test_a_table_takes_a_copy_of_its_octets():
+@pytest.mark.parametrize("made_of", [Table, convert])
+def test_a_table_takes_a_copy_of_its_octets(made_of):
     octets = bytearray(4_392)
-    table = Table(octets)
+    table = made_of(octets)
     octets[:] = b"x" * len(octets)
     octets.clear()
     process(table, RECEIPT, letter(b"a@x"))
     assert len(entries(table)) == 1
+
+
+@pytest.mark.parametrize("lent", [bytes, bytearray, lambda octets: memoryview(bytearray(octets))])
+def test_a_conversion_leaves_what_it_is_given(lent):
+    octets, expected = lent(old_table()), bytes(convert(old_table()))
+    converted = in_threads(lambda _: bytes(convert(octets)))
+    assert converted == [expected] * THREADS and octets == old_table() != expected
+
+
+def test_a_buffer_that_changes_during_a_conversion(eager):
+    """One of the two tables that were in the buffer by turns, never slots of both."""
+    tables = [old_table(), bytes(Table.new(8))]
+    by_turns, expected = itertools.cycle(tables), [bytes(convert(table)) for table in tables]
+    buffer = bytearray(tables[0])
+
+    def change():
+        buffer[:] = next(by_turns)
+
+    with meanwhile(change):
+        for _ in range(1_000):
+            assert bytes(convert(buffer)) in expected
 
 
 # Keys: views that the next write releases.

@@ -76,7 +76,7 @@ def test_the_library_calls_nothing_but_memory_functions():
 def test_the_library_has_the_functions_of_the_header():
     header = (ROOT / "include" / "vienghulac.h").read_text()
     declared = set(re.findall(r"^vienghulac_\w+ (vienghulac_\w+)\(", header, re.MULTILINE))
-    assert len(declared) == 7
+    assert len(declared) == 8
     symbols = output("readelf", "--dyn-syms", "--wide", LIBRARY)
     exported = set(re.findall(r"FUNC\s+GLOBAL\s+DEFAULT\s+\d+\s+(\w+)\n", symbols))
     assert exported == declared
@@ -115,9 +115,10 @@ def test_the_package_is_strictly_typed():
 
 USER = """
 from typing import Optional
-from vienghulac import Advice, Table, autocrypt_header, open_table, process, recommend, target_key
+from vienghulac import Advice, Table, autocrypt_header, convert, open_table, process, recommend, target_key
 
 table: Table = Table.new(slots=4)
+older: Table = convert(bytearray(bytes(table)))
 process(table, 0, b"From: a@x")
 advice: Advice = recommend(table, bytearray(b"a@x"), mutual=True)
 key: Optional[memoryview] = target_key(table, memoryview(b"a@x"))
@@ -133,6 +134,7 @@ def test_its_users_are_checked_too(tmp_path):
     words = [*MYPY, "--python-executable", sys.executable]
     (tmp_path / "good.py").write_text(USER)
     output(*words, "good.py", cwd=tmp_path)
-    (tmp_path / "bad.py").write_text(USER + "recommend(table, 'a@x')\nbytes(target_key(table, b'a@x'))\nopen_table('t').slots\n")
+    wrong = ["recommend(table, 'a@x')", "bytes(target_key(table, b'a@x'))", "open_table('t').slots", "convert(table)"]
+    (tmp_path / "bad.py").write_text(USER + "\n".join(wrong) + "\n")
     bad = subprocess.run([*words, "bad.py"], capture_output=True, text=True, cwd=tmp_path)
-    assert bad.returncode == 1 and "Found 3 errors" in bad.stdout
+    assert bad.returncode == 1 and "Found 4 errors" in bad.stdout

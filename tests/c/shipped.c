@@ -84,6 +84,69 @@ static void look_for_nothing(void) {
     expect("the struct is the numbers", sizeof(vienghulac_numbers) == VIENGHULAC_NUMBERS * sizeof(uint64_t));
 }
 
+/* A used slot by T3, with times of one octet: last seen, and a direct key of that time if there is one. */
+static void store(uint8_t *slot, const char *address, uint8_t seen, const char *key) {
+    memset(slot, 0, VIENGHULAC_SLOT);
+    memcpy(slot, "A1", 2);
+    slot[2] = (uint8_t)strlen(address);
+    slot[4] = VIENGHULAC_BIT_LAST_SEEN;
+    slot[8] = seen;
+    memcpy(slot + 40, address, strlen(address));
+    if (!key) return;
+    slot[4] |= VIENGHULAC_BIT_DIRECT;
+    slot[16] = seen;
+    slot[32] = (uint8_t)strlen(key);
+    memcpy(slot + 296, key, strlen(key));
+}
+
+/* T16 to T20: two spellings of one address as they were once told apart, with a free slot and Carol between them. */
+static void bring_up_to_date(void) {
+    static const char capital[] = "j\xc3\x96rg@f.example", small[] = "j\xc3\xb6rg@f.example";
+    static const char shouted[] = "J\xc3\x96RG@F.example";
+    static uint8_t table[4 * VIENGHULAC_SLOT], before[sizeof table], merged[sizeof table];
+    store(table, capital, 9, "foo");
+    store(table + 2 * VIENGHULAC_SLOT, "carol@c.example", 5, NULL);
+    store(table + 3 * VIENGHULAC_SLOT, small, 20, NULL);
+    memcpy(before, table, sizeof table);
+    memcpy(merged, table, 3 * VIENGHULAC_SLOT);
+    store(merged, small, 9, "foo");
+    merged[8] = 20;
+
+    vienghulac_answer a = vienghulac_check(table, sizeof table);
+    expect("an old spelling is refused", a.number == 2 && a.index == 0);
+    a = vienghulac_process(table, sizeof table, 1000, octets(from_bob), sizeof from_bob - 1, NULL, 0, 0);
+    expect("also by process", a.number == 2 && a.index == 0);
+    a = vienghulac_convert(table, sizeof table - 1);
+    expect("convert: no whole slots", a.number == 1 && a.index == 0);
+    a = vienghulac_convert(NULL, 0);
+    expect("convert: no table", a.number == 1 && a.index == 0);
+    table[3 * VIENGHULAC_SLOT + 40] = 'J';
+    a = vienghulac_convert(table, sizeof table);
+    expect("convert: a capital of ASCII", a.number == 2 && a.index == 3);
+    table[3 * VIENGHULAC_SLOT + 40] = 'j';
+    table[2 * VIENGHULAC_SLOT - 1] = 1;
+    a = vienghulac_convert(table, sizeof table);
+    expect("convert: a free slot with content", a.number == 2 && a.index == 1);
+    table[2 * VIENGHULAC_SLOT - 1] = 0;
+    expect("what is refused is not converted", memcmp(table, before, sizeof table) == 0);
+
+    a = vienghulac_convert(table, sizeof table);
+    expect("convert", a.number == 0 && a.index == 0);
+    expect("two entries became one", memcmp(table, merged, sizeof table) == 0);
+    a = vienghulac_check(table, sizeof table);
+    expect("what is converted is a table", a.number == 0 && a.index == 0);
+    a = vienghulac_convert(table, sizeof table);
+    expect("converting twice", a.number == 0 && a.index == 0 && memcmp(table, merged, sizeof table) == 0);
+    vienghulac_part part =
+        vienghulac_target_key(table, sizeof table, octets(shouted), sizeof shouted - 1, false, false, 0);
+    expect("the key of each spelling", leads_to(table, part.start, part.length, "foo"));
+    memset(table, 0, sizeof table);
+    a = vienghulac_convert(table, sizeof table);
+    expect("zeros stay", a.number == 0 && a.index == 0);
+    memset(before, 0, sizeof before);
+    expect("and nothing is written", memcmp(table, before, sizeof table) == 0);
+}
+
 /* Carol's mail for a new table of two slots, with a payload and a setting: the answer, and the table afterwards. */
 static vienghulac_answer hand_down(uint8_t *table, const char *block, size_t length, int value) {
     memset(table, 0, 2 * VIENGHULAC_SLOT);
@@ -170,6 +233,7 @@ int main(void) {
     talk();
     ask_for_gossip();
     look_for_nothing();
+    bring_up_to_date();
     const uint8_t *address = octets("Bob@b.Example"), *key = octets("foo");
     const size_t address_length = 13, length = sizeof field - 1;
     uint8_t out[128], before[128];

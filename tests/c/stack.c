@@ -128,6 +128,26 @@ static void make_own(block *address, block *key) {
 static block outer, payload, recipients, address, key, out;
 static uint8_t table[VIENGHULAC_SLOTS * VIENGHULAC_SLOT];
 
+/* T16: all slots full, and with spellings of one address: eight letters, each a capital where its bit of the index is
+ * set. Each slot is younger than those below it, so that its keys are moved. */
+static void make_old(void) {
+    for (unsigned index = 0; index < VIENGHULAC_SLOTS; index++) {
+        uint8_t *slot = table + index * VIENGHULAC_SLOT;
+        memset(slot, 0, 40 + 256);
+        memset(slot + 40 + 256, (int)index, 2 * 2048);
+        memcpy(slot, "A1", 2);
+        slot[2] = 8 * 2 + 2;
+        slot[4] = VIENGHULAC_BIT_LAST_SEEN | VIENGHULAC_BIT_DIRECT | VIENGHULAC_BIT_GOSSIP;
+        slot[8] = slot[16] = slot[24] = (uint8_t)index;
+        slot[33] = slot[35] = 2048 >> 8;
+        for (unsigned letter = 0; letter < 8; letter++) {
+            slot[40 + 2 * letter] = 0xc3;
+            slot[41 + 2 * letter] = (uint8_t)((index >> letter & 1 ? 0x80 : 0xa0) + letter);
+        }
+        memcpy(slot + 56, "@x", 2);
+    }
+}
+
 typedef struct {
     uint64_t numbers[3];
 } answer;
@@ -140,6 +160,11 @@ static answer process(void) {
 
 static answer check(void) {
     vienghulac_answer a = vienghulac_check(table, sizeof table);
+    return (answer){{a.number, a.index, 0}};
+}
+
+static answer convert(void) {
+    vienghulac_answer a = vienghulac_convert(table, sizeof table);
     return (answer){{a.number, a.index, 0}};
 }
 
@@ -285,6 +310,9 @@ int main(void) {
     same("entry", entry, 0, OTHERS);
     same("write_autocrypt", write_autocrypt, 0, OTHERS);
     same("write_gossip", write_gossip, 0, OTHERS);
+    make_old();
+    same("convert", convert, 0, OTHERS);
+    expect("one entry is left", table[0] == 'A' && table[VIENGHULAC_SLOT] == 0 && check().numbers[0] == 0);
     lend_closed();
     return counted();
 }

@@ -66,6 +66,14 @@ static bool check(void) {
     return right & unchanged(table);
 }
 
+static bool convert(void) {
+    block table = lend();
+    vienghulac_answer a = vienghulac_convert(table.lent, table.length);
+    bool right = a.number == number();
+    right &= a.index == number();
+    return right & now_holds(table);
+}
+
 static bool process(void) {
     block table = lend(), outer = lend(), payload = lend();
     uint64_t receipt = number(), gossip = number();
@@ -145,6 +153,7 @@ int main(int count, char **words) {
         case 5: expect("write_autocrypt", write_field(false)); break;
         case 6: expect("write_gossip", write_field(true)); break;
         case 7: expect("entry", entry()); break;
+        case 8: expect("convert", convert()); break;
         default: give_up("no such call");
         }
     }

@@ -12,9 +12,9 @@ from pathlib import Path
 sys.path.insert(0, str(Path(__file__).resolve().parents[1] / "independent"))
 
 from cases import Cases  # noqa: E402
-from scope import processing, recommending, table as tables, writing  # noqa: E402
+from scope import conversion, processing, recommending, table as tables, writing  # noqa: E402
 
-CHECK, PROCESS, RECOMMEND, TARGET_KEY, WRITE_AUTOCRYPT, WRITE_GOSSIP, ENTRY = range(1, 8)
+CHECK, PROCESS, RECOMMEND, TARGET_KEY, WRITE_AUTOCRYPT, WRITE_GOSSIP, ENTRY, CONVERT = range(1, 9)
 
 
 def number(value: int) -> bytes:
@@ -46,6 +46,8 @@ def made(cases: Cases) -> bytes:
     """One case of each call; of `process` one mail with three settings."""
     table = cases.table()
     one = case(CHECK, table, *tables.check(table))
+    table = cases.conversion()
+    one += case(CONVERT, table, *conversion.convert(table))
     table, receipt, outer, payload, gossip = cases.processing()
     for setting in (gossip, processing.UNSET, processing.TAKE):  # G1: the same mail, gossip not asked for and asked for
         after = processing.process(table, receipt, outer, payload, setting)

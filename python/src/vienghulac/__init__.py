@@ -24,6 +24,13 @@ taken only by a call that asks for them, since each new one takes a slot of the 
 
     process(table, receipt, header_block, payload, Gossip.TAKE)
 
+Older tables: a table that a version before 0.4 stored may be refused with 2. That version told
+names apart by the case of letters with accents, and of Greek and Cyrillic letters. `convert` takes
+the octets of such a table, puts together the entries that are one person's, and leaves a table of
+today as it is. `vienghulac convert FILE` does it to a file:
+
+    table = convert(octets)                                # Table(octets) would raise Refused (2)
+
 Rules: docs/SCOPE.md of the project says what each call does, for every input.
 
 Ownership: a call borrows what it is given and keeps nothing of it. `bytes` are handed down as
@@ -48,7 +55,9 @@ from ._arguments import Octets
 from ._fields import FieldValue, autocrypt_field, autocrypt_header, gossip_field, gossip_header
 from ._refusals import REFUSALS, Refused
 from ._shared import Locked, open_table
-from ._table import SLOT, SLOTS, Advice, Entry, Gossip, Table, check, entries, process, recommend, target_key
+from ._table import (
+    SLOT, SLOTS, Advice, Entry, Gossip, Table, check, convert, entries, process, recommend, target_key,
+)  # fmt: skip
 
 __all__ = [
     "Advice",
@@ -65,6 +74,7 @@ __all__ = [
     "autocrypt_field",
     "autocrypt_header",
     "check",
+    "convert",
     "entries",
     "gossip_field",
     "gossip_header",

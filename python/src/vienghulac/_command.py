@@ -12,6 +12,7 @@ import contextlib
 import io
 import json
 import os
+import shlex
 import sys
 import time
 from datetime import datetime, timezone
@@ -20,17 +21,38 @@ from typing import Any, Iterator, Optional, Sequence
 from ._fields import FieldValue, autocrypt_field, gossip_field
 from ._files import read_file, replace_file
 from ._mailbox import Mailbox, NoMailbox, open_mailbox
-from ._refusals import REFUSALS, Refused
-from ._shared import Locked, open_table
-from ._table import Entry, Gossip, Table, entries, process, recommend, target_key
+from ._refusals import BAD_SLOT, REFUSALS, Refused
+from ._shared import Locked, convert_file, open_table
+from ._table import SLOT, Entry, Gossip, Table, convert, entries, process, read_octets, recommend, target_key
 from ._usage import Command, parser
 
 _KEY_LIMIT = 2_048
 _ARMOR = b"-----BEGIN PGP"
+_ADDRESS_ROOM = slice(40, 296)  # of a slot (T3)
 
 
 class _Failure(Exception):
     """A failure that is one line on standard error."""
+
+
+class _NoTable(_Failure):
+    """A table file whose octets were refused. Where the command `convert` would take it, the line says so."""
+
+    def __init__(self, name: str, refused: Refused, octets: bytes) -> None:
+        way_out = ""
+        if refused.number == BAD_SLOT and os.path.isfile(name) and _is_convertible(octets):
+            named = "-- " * name.startswith("-") + shlex.quote(name)
+            way_out = f"; it is of an older version, and `vienghulac convert {named}` takes it"
+        super().__init__(f"{name}: {refused}{way_out}")
+        self.refused = refused
+
+
+def _is_convertible(octets: bytes) -> bool:
+    try:
+        convert(octets)
+    except Refused:
+        return False
+    return True
 
 
 def main(arguments: Optional[Sequence[str]] = None) -> int:
@@ -89,9 +111,18 @@ def _opened(options: argparse.Namespace) -> Iterator[Table]:
         with open_table(options.table, options.slots, not options.no_wait, _say_waiting) as table:
             yield table
     except Locked as locked:
-        raise _Failure(f"{options.table}: another program holds its lock, {locked.filename}") from None
+        raise _is_locked(options.table, locked) from None
     except Refused as refused:
-        raise _Failure(f"{options.table}: {refused}") from None
+        # 1 may be about a table that was to be made; with 2 the file was there, and it is no pipe
+        octets = b""
+        if refused.number == BAD_SLOT:
+            with contextlib.suppress(OSError):
+                octets = read_octets(options.table)
+        raise _NoTable(options.table, refused, octets) from None
+
+
+def _is_locked(name: str, locked: Locked) -> _Failure:
+    return _Failure(f"{name}: another program holds its lock, {locked.filename}")
 
 
 def _say_waiting(lock: str) -> None:
@@ -146,7 +177,7 @@ class _Progress:
         print(f"\r[{bar}] {100 * done // self._total:>3}% {self._name}", end="", file=sys.stderr, flush=True)
 
 
-# list, check
+# list, check, convert
 
 
 def _list(options: argparse.Namespace) -> int:
@@ -215,10 +246,10 @@ def _check(options: argparse.Namespace) -> int:
 def _judged(name: str, quiet: bool) -> dict[str, Any]:
     """What a file is, printed unless in JSON; the number is None where it cannot be read."""
     try:
-        table = Table.load(name)
-    except Refused as refused:
-        print(f"vienghulac: {name}: {refused}", file=sys.stderr)
-        return {"file": name, "number": refused.number, "slot": refused.slot}
+        table = _load(name)
+    except _NoTable as failure:
+        print(f"vienghulac: {failure}", file=sys.stderr)
+        return {"file": name, "number": failure.refused.number, "slot": failure.refused.slot}
     except OSError as failure:
         print(f"vienghulac: {failure}", file=sys.stderr)
         return {"file": name, "number": None, "slot": None}
@@ -229,6 +260,51 @@ def _judged(name: str, quiet: bool) -> dict[str, Any]:
 
 def _use(table: Table) -> str:
     return f"{len(entries(table))} of {table.slots} slots used"
+
+
+def _convert(options: argparse.Namespace) -> int:
+    done = [_converted(name, not options.no_wait, options.json) for name in options.file]
+    if options.json:
+        _print_json(done)
+    return 0 if all(one["number"] == 0 for one in done) else 1
+
+
+def _converted(name: str, wait: bool, quiet: bool) -> dict[str, Any]:
+    """What became of a file, printed unless in JSON; the number is None where it cannot be read, locked or replaced."""
+    left: dict[str, Any] = dict.fromkeys(("file", "number", "slot", "slots", "used", "renamed", "merged"))
+    left["file"] = name
+    try:
+        stored, table = convert_file(name, wait, _say_waiting)
+    except Refused as refused:
+        print(f"vienghulac: {name}: {refused}", file=sys.stderr)
+        return {**left, "number": refused.number, "slot": refused.slot}
+    except Locked as locked:
+        print(f"vienghulac: {_is_locked(name, locked)}", file=sys.stderr)
+        return left
+    except OSError as failure:
+        print(f"vienghulac: {failure}", file=sys.stderr)
+        return left
+    renamed, merged = _counted(stored, bytes(table))
+    if not quiet:
+        print(f"{name}: {_use(table)}, {renamed} renamed, {merged} merged")
+    counts = {"slots": table.slots, "used": len(entries(table)), "renamed": renamed, "merged": merged}
+    return {**left, "number": 0, **counts}
+
+
+def _counted(stored: bytes, converted: bytes) -> tuple[int, int]:
+    """How many slots hold an entry whose address is now spelled in another way, and how many became free.
+
+    The lowest slot of a group keeps its entry, whatever its spelling was (T17). So where something changed, one of the
+    two numbers at least is above 0.
+    """
+    free, renamed, merged = bytes(SLOT), 0, 0
+    for start in range(0, len(stored), SLOT):
+        before, after = stored[start : start + SLOT], converted[start : start + SLOT]
+        if after == free:
+            merged += before != free
+        else:
+            renamed += after[_ADDRESS_ROOM] != before[_ADDRESS_ROOM]
+    return renamed, merged
 
 
 # recommend, key
@@ -284,10 +360,12 @@ def _read_key(name: str) -> bytes:
 
 
 def _load(name: str) -> Table:
+    """The table of a file. The file is read once: what is a pipe would have nothing more to say about a conversion."""
+    octets = read_octets(name)
     try:
-        return Table.load(name)
+        return Table(octets)
     except Refused as refused:
-        raise _Failure(f"{name}: {refused}") from None
+        raise _NoTable(name, refused, octets) from None
 
 
 def _print_json(value: object) -> None:
@@ -301,4 +379,5 @@ _COMMANDS = {
     "field": _field,
     "key": _key,
     "check": _check,
+    "convert": _convert,
 }

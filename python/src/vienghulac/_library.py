@@ -103,6 +103,7 @@ def _declared(name: str, answer: type[ctypes.Structure], *arguments: Any) -> Cal
 
 
 check = _declared("vienghulac_check", Answer, *_BLOCK)
+convert = _declared("vienghulac_convert", Answer, *_BLOCK)  # it writes the block, so never lend it `bytes`
 process = _declared("vienghulac_process", Answer, *_TABLE, _NUMBER, *_BLOCK, *_BLOCK, _GOSSIP)
 recommend = _declared("vienghulac_recommend", AdviceAnswer, *_TABLE, *_BLOCK, _TRUTH, _TRUTH)
 target_key = _declared("vienghulac_target_key", Part, *_TABLE, *_BLOCK, _TRUTH, _TRUTH, _NUMBER)

@@ -24,7 +24,7 @@ _HINTS = {
     11: "export it as binary and with its newest signatures alone; Ed25519 and RSA-3072 keys then fit, RSA-4096 keys do not",
 }
 
-_BAD_SLOT = 2
+BAD_SLOT = 2
 
 
 class Refused(Exception):
@@ -54,4 +54,4 @@ class Refused(Exception):
 
 def refusal(number: int, index: int = 0) -> Refused:
     """What is raised for a number that the library answered, and an index."""
-    return Refused(number, index if number == _BAD_SLOT else None)
+    return Refused(number, index if number == BAD_SLOT else None)

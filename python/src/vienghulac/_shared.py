@@ -24,7 +24,7 @@ from typing import Callable, Iterator, Optional
 
 from ._arguments import number, truth
 from ._files import FilePath, sync_file
-from ._table import SLOTS, Table
+from ._table import SLOTS, Table, convert, read_octets
 
 _PATIENCE = 1.0  # seconds of waiting before a notice
 _PAUSE = 0.02  # seconds between two attempts, as long as a notice may be due
@@ -47,8 +47,9 @@ def open_table(
     The table is the file's, or a new one with `slots` slots where there is no file. Leaving the block replaces the file
     whole, as `Table.save` does; leaving it by an exception leaves the file as it was. A table that the block did not change
     is not written, unless it is new. What is changed after the block does not reach the file. Raises `Refused`: 1 or 2 where
-    the file holds no table, 1 where a new one would not have 1 to 256 slots. Raises OSError where the file cannot be read
-    or written, or its lock file cannot be made.
+    the file holds no table, 1 where a new one would not have 1 to 256 slots. A file of a version before 0.4 may have to
+    be converted first, which `vienghulac convert` does. Raises OSError where the file cannot be read or written, or its
+    lock file cannot be made.
 
     From before the table is read until the file is replaced, the block holds a lock: flock(2), exclusive, on the file
     `.NAME.lock` beside the table file NAME, where that stands when symbolic links are followed. It keeps out other threads,
@@ -75,6 +76,37 @@ def open_table(
             sync_file(target)  # whoever wrote this may have been killed before it was on the disk
         else:
             table.save(target)
+
+
+def convert_file(
+    path: FilePath, wait: bool = True, waiting: Optional[Callable[[str], object]] = None
+) -> tuple[bytes, Table]:
+    """Convert the table that a file holds, while no one else changes it: the octets that were there, and the table.
+
+    The file is replaced as by `open_table`, with the same lock, and only where the conversion changes something.
+    Whether it does is seen without the lock: most files are up to date or no tables, and no lock file is then made
+    beside them. Raises `Refused` (1, 2) and OSError, and leaves the file as it was.
+    """
+    patience = _Patience(wait, waiting)
+    target = os.path.realpath(os.fsdecode(path))
+    _need_file(target)
+    stored, table = _converted(target)
+    if bytes(table) == stored:
+        return stored, table
+    with _locked(target, patience) as lock:
+        stored, table = _converted(target)  # another may have replaced the file before the lock was free
+        lock.need()
+        if bytes(table) == stored:
+            sync_file(target)
+        else:
+            table.save(target)
+    return stored, table
+
+
+def _converted(target: str) -> tuple[bytes, Table]:
+    """The octets that a file holds, and the table that the conversion makes of them."""
+    stored = read_octets(target)
+    return stored, convert(stored)
 
 
 def _need_file(target: str) -> None:

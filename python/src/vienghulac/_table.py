@@ -61,6 +61,11 @@ class Advice(enum.IntEnum):
 _ADVICE = {advice.value: advice for advice in Advice}  # looked up in a fraction of the time of Advice(number)
 
 
+def read_octets(path: FilePath) -> bytes:
+    """The octets of a table file. Where it is longer than any table, there are enough of them to be refused."""
+    return read_file(path, SLOTS * SLOT)
+
+
 def check(table: Octets) -> None:
     """Raise `Refused` (1, 2) unless these octets are a table."""
     lent = octets(table, "table")
@@ -69,10 +74,30 @@ def check(table: Octets) -> None:
         raise refusal(answer.number, answer.index)
 
 
+def convert(table: Octets) -> Table:
+    """A table of today, made of octets that an older version may have stored.
+
+    Up to version 0.3 addresses differed by the case of letters with accents, and of Greek and Cyrillic letters. A table
+    with such a capital is refused (2) by every other call. Here each entry gets its address in small letters, and
+    entries that then have one address become one, in the lowest of their slots. It has the largest last seen of them,
+    the direct key with the largest timestamp, and the gossip key likewise. Octets that are a table already make just
+    that table.
+
+    The octets are copied, and stay as they are. Raises `Refused` (1, 2) if they are no table by the older rule either.
+    """
+    lent = octets(table, "table")
+    memory = ctypes.create_string_buffer(lent, len(lent))
+    answer: _library.Answer = _library.convert(memory, len(lent))
+    if answer.number:
+        raise refusal(answer.number, answer.index)
+    return Table(memory.raw)
+
+
 class Table:
     """A table of correspondents, one in each slot, that owns its octets.
 
     `Table(octets)` takes a copy of octets that were a table's before, and raises `Refused` (1, 2) if they are no table.
+    What a version before 0.4 stored may need `convert` instead.
     Nothing leads to the octets that it owns: `bytes(table)` is a copy, and a key is a view of a copy of that key, which the
     next write of the table releases. A table can be pickled and copied; the copy shares nothing with it. All calls may be
     made from any thread, but not from a signal handler: it would wait for the call that it interrupted.
@@ -96,7 +121,7 @@ class Table:
     @classmethod
     def load(cls, path: FilePath) -> Table:
         """The table that a file holds. Raises `Refused` (1, 2) if it holds none. The file stays as it is."""
-        return cls(read_file(path, SLOTS * SLOT))
+        return cls(read_octets(path))
 
     def save(self, path: FilePath) -> None:
         """Store the table as a file.

@@ -38,7 +38,7 @@ payloads are not read, so no gossip is taken.
 The table is written once, when all is read: a failure leaves the file as it
 was. Imports into one table file run one after the other, by a lock on the file
 .NAME.lock beside it, which stays there. One that waits says so after a second;
-with --no-wait it fails at once. The other commands never wait.
+with --no-wait it fails at once. Of the other commands convert alone may wait.
 
 The messages are counted by answer, 0 for those taken and the number of the
 refusal for the others; a message that is refused changes nothing, and is no
@@ -93,6 +93,31 @@ the lowest slot that is damaged. No file is changed.
 
 With --json, for each: file, its name; number, 0 for a table, else that of the
 refusal, or null where the file cannot be read; slot, that slot or null."""
+
+_CONVERT = """\
+Bring the tables of older versions up to date. Up to version 0.3 addresses
+differed by the case of letters with accents, and of Greek and Cyrillic letters.
+A table with such capitals is refused (2) by all other commands, whose line on
+standard error then names this one.
+
+Each entry gets its address in small letters. Entries that then have one address
+become one, in the lowest of their slots: with the latest time of last seen, and
+with the latest key of their own and by gossip. Every other slot stays as it is,
+and none moves.
+
+Each FILE is replaced whole, and only where something changes; a table of today
+stays as it is. What is refused stays as it is, too, and the exit status is 1;
+the other files are done all the same. Where a file has to be replaced, the lock
+of import is waited for; with --no-wait such a file fails at once.
+
+The line for a FILE counts slots: those in use now; as renamed, those that hold
+an entry with another spelling of its address than before; as merged, those that
+became free because their entry went into another one.
+
+With --json, for each: file, its name; number, 0 where all went well, else that
+of the refusal, or null where the file cannot be read, locked or replaced; slot,
+the lowest that is damaged, or null; slots, used, renamed and merged, these
+counts, or null where number is not 0."""
 
 
 def _natural(text: str) -> int:
@@ -149,4 +174,8 @@ def parser(commands: Mapping[str, Command]) -> argparse.ArgumentParser:
 
     made = command("check", _CHECK, "say whether files are tables")
     made.add_argument("file", metavar="FILE", nargs="+", help="a file")
+
+    made = command("convert", _CONVERT, "bring the tables of older versions up to date")
+    made.add_argument("file", metavar="FILE", nargs="+", help="a file that holds a table")
+    made.add_argument("--no-wait", action="store_true", help="fail at once where another program is changing the table")
     return whole
