@@ -5,8 +5,9 @@
 writes one file for each case, and `cases.tsv`, which names for each file the call, the programs that take it, the group
 of rows that it belongs to, the number that the group grows with, and the used slots of its table. A file holds a table and
 the arguments of calls, each with its length before it (four octets, little-endian): the table; the number of calls; for
-each call two texts (outer block and payload; recipients and nothing; address and key). `process` asks for gossip, and
-`process-unset` says nothing about it.
+each call two texts (outer block and payload; recipients and nothing; address and key; nothing at all where the call
+takes a table alone). `process` asks for gossip, and `process-unset` says nothing about it. `convert` has nothing to do,
+and `convert-old` has: its table is put back before each call.
 
 All messages of a case have the same instant as their Date, in many zones: an equal date replaces, so that a call writes
 the same key again each time and costs the same, however often it is repeated.
@@ -14,6 +15,7 @@ the same key again each time and costs the same, however often it is repeated.
 import random
 import sys
 import time
+from dataclasses import replace
 from pathlib import Path
 
 ROOT = Path(__file__).resolve().parents[1]
@@ -38,6 +40,11 @@ WORDS = "minutes of the meeting draft budget travel plan invoice question releas
 LIBRARIES = ["ours", "peer", "peer3"]
 BLOCKS = LIBRARIES + ["gmime", "memcpy"]
 CHECKS = LIBRARIES + ["read"]
+TABLE_ALONE = [(b"", b"")]
+
+# Small letters of two octets each: for the vowels, and for all letters.
+ACCENTS = str.maketrans("aeiou", "áéíöü")
+CYRILLIC = {ord("a") + i: 0x430 + i for i in range(26)}
 
 
 class Maker:
@@ -79,16 +86,37 @@ class Maker:
             entry.gossip_timestamp, entry.gossip_key = DATE - self.random.randrange(10_000_000), self.key()
         return entry
 
-    def table(self, used: int) -> bytes:
+    def held(self, used: int) -> list[Entry]:
         """A full table: the sender in its middle, the known people spread over it, so that all sizes take the same mail."""
         if used < 16:
             held = self.entries[16:15 + used]
             held.insert(used // 2, self.entries[8])
-            return table_of(held)
+            return held
         held = self.entries[16:used]
         for i in range(16):
             held.insert(i * used // 16, self.entries[i])
-        return table_of(held)
+        return held
+
+    def table(self, used: int) -> bytes:
+        return table_of(self.held(used))
+
+    def respelled(self, letters: dict[int, int]) -> list[Entry]:
+        """The full table of 256 slots, with other letters in the local parts."""
+        return [replace(entry, address=respelled(entry.address, letters)) for entry in self.held(256)]
+
+    def old(self) -> list[Entry]:
+        """A full table of the old rule. All addresses have accents. Every second one has a capital with an accent, and
+        every eighth is such a spelling of an address that stands in another slot, higher or lower."""
+        held = self.respelled(ACCENTS)
+        forms = [entry.address for entry in held]
+        for i in range(1, 256, 2):
+            held[i].address = with_capital(forms[(i + 129) % 256 if i % 8 == 7 else i])
+        return held
+
+    def old_at_last(self) -> list[Entry]:
+        """A full table in ASCII, but for a capital with an accent in its last slot."""
+        *held, last = self.held(256)
+        return held + [replace(last, address=with_capital(respelled(last.address, ACCENTS)))]
 
     # Header blocks.
 
@@ -196,6 +224,24 @@ def without_autocrypt(block: bytes) -> bytes:
     return before + b"\r\n".join(lines[rest:])
 
 
+def respelled(address: bytes, letters: dict[int, int]) -> bytes:
+    """The address with other letters in its local part."""
+    local, host = address.decode().split("@")
+    return f"{local.translate(letters)}@{host}".encode()
+
+
+def with_capital(address: bytes) -> bytes:
+    """The address with the capital of its first letter beyond ASCII."""
+    text = address.decode()
+    first = next(letter for letter in text if not letter.isascii())
+    return text.replace(first, first.upper(), 1).encode()
+
+
+def spellings(letters: int) -> list[bytes]:
+    """All spellings of one address that has so many letters of two octets."""
+    return ["".join("éÉ"[i >> k & 1] for k in range(letters)).encode() + b"@b" for i in range(2 ** letters)]
+
+
 def names_alike(pairs: int) -> list[bytes]:
     """Different addresses that all have the same tag: 33 times `a` plus `^` is 33 times `b` plus `=`."""
     return [b"".join((b"a^", b"b=")[i >> k & 1] for k in range(pairs)) + b"@c" for i in range(2 ** pairs)]
@@ -205,6 +251,11 @@ def short_names(n: int) -> list[bytes]:
     """Short addresses of one length."""
     letters = b"abcdefghijklmnopqrstuvwxyz"
     return [bytes([letters[i // 676 % 26], letters[i // 26 % 26], letters[i % 26]]) + b"@b" for i in range(n)]
+
+
+def long_local_parts(n: int, letters: int) -> list[bytes]:
+    """Addresses whose local parts have so many letters and differ in the last two of them only."""
+    return [b"a" * (letters - 2) + bytes([97 + i // 26 % 26, 97 + i % 26]) + b"@b" for i in range(n)]
 
 
 def long_names(n: int) -> list[bytes]:
@@ -230,7 +281,7 @@ def cases(few: bool):
         yield "gossip", used, used, "process", LIBRARIES + ["memcpy"], table, gossiping[used]
         for n in (1, 20):
             yield f"recommend-{n}", used, used, "recommend", LIBRARIES, table, lists[used, n]
-        yield "check", used, used, "check", CHECKS, table, [(b"", b"")]
+        yield "check", used, used, "check", CHECKS, table, TABLE_ALONE
     yield "write", 0, 0, "write", LIBRARIES, b"", [(make.one(make.addresses), make.key()) for _ in range(make.many)]
 
     # Growth.
@@ -243,7 +294,7 @@ def cases(few: bool):
     for used in (1, 4) if few else (1, 2, 4, 8, 16, 32, 64, 128, 192, 256):
         table = make.table(used)
         yield "grow-slots", used, used, "process", LIBRARIES + ["gmime"], table, with_key[:8]
-        yield "grow-check", used, used, "check", CHECKS, table, [(b"", b"")]
+        yield "grow-check", used, used, "check", CHECKS, table, TABLE_ALONE
     for fields in (0, 10) if few else (0, 1, 5, 10, 20, 50, 100, 200, 400, 700, 1000, 1500):
         # Fifteen recipients, all of the table, and many small fields about them.
         names = short_names(15)
@@ -272,7 +323,7 @@ def cases(few: bool):
         field = make.small_gossip(other)
         yield "hostile-tags", BLOCK_LIMIT // len(field), 256, "process", LIBRARIES, table, [(outer, field * (BLOCK_LIMIT // len(field)))]
         table = table_of([Entry(name) for name in long_names(256)])
-        yield "hostile-addresses", 256, 256, "check", CHECKS, table, [(b"", b"")]
+        yield "hostile-addresses", 256, 256, "check", CHECKS, table, TABLE_ALONE
 
     # Gossip that is there and is not asked for, and the same mails without it.
     alone, among = ([make.gossiping(known, 20) for _ in range(8)] for known in ([make.sender], make.known))
@@ -280,6 +331,26 @@ def cases(few: bool):
         told = among if used > 1 else alone
         yield "unasked", used, used, "process-unset", LIBRARIES, make.table(used), told
         yield "unasked-bare", used, used, "process-unset", LIBRARIES, make.table(used), [(outer, b"") for outer, _ in told]
+
+    # Addresses beyond ASCII, in the table of which `check` has the ASCII form.
+    for name, letters in (("accents", ACCENTS), ("cyrillic", CYRILLIC)):
+        table = table_of(make.respelled(letters))
+        yield f"check-{name}", 256, 256, "check", CHECKS, table, TABLE_ALONE
+        yield f"convert-{name}", 256, 256, "convert", CHECKS, table, TABLE_ALONE
+    # Conversions: of the tables that `check` takes, which stay as they are, and of tables of the old rule.
+    for used in SIZES:
+        yield "convert", used, used, "convert", CHECKS, make.table(used), TABLE_ALONE
+    yield "convert-old", 256, 256, "convert-old", CHECKS, table_of(make.old()), TABLE_ALONE
+    yield "convert-last", 256, 256, "convert-old", CHECKS, table_of(make.old_at_last()), TABLE_ALONE
+    # Local parts of 64 octets, of ASCII and of letters of two octets; and 256 spellings of one address, each younger than
+    # those below it, as a stranger could have made them who wrote to a program of the old rule.
+    if not few:
+        ascii_names, names = long_local_parts(256, 64), [respelled(name, CYRILLIC) for name in long_local_parts(256, 32)]
+        for what, chosen in (("ascii", ascii_names), ("letters", names)):
+            yield f"hostile-{what}", 256, 256, "check", CHECKS, table_of([Entry(name) for name in chosen]), TABLE_ALONE
+        key = make.key()
+        table = table_of([Entry(name, i, i, key, False, i, key) for i, name in enumerate(spellings(8))])
+        yield "hostile-spellings", 256, 256, "convert-old", CHECKS, table, TABLE_ALONE
 
 
 def counted(octets: bytes) -> bytes:

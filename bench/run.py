@@ -36,6 +36,13 @@ CALLS = {
     "recommend-1": "recommend, 1 recipient",
     "recommend-20": "recommend, 20 recipients",
     "check": "check of the whole table",
+    "check-accents": "check of the same with accents in each address",
+    "check-cyrillic": "check of the same with Cyrillic addresses",
+    "convert": "convert, nothing to do",
+    "convert-accents": "convert, nothing to do, accents in each address",
+    "convert-cyrillic": "convert, nothing to do, Cyrillic addresses",
+    "convert-old": "convert, half with capitals, 32 of them merged",
+    "convert-last": "convert, ASCII but for a capital in the last slot",
     "write": "write a field",
 }
 GROWTHS = {
@@ -52,6 +59,9 @@ HOSTILE = {
     "hostile-newcomers": "the same with more newcomers than free slots",
     "hostile-tags": "2,047 recipients of one tag, 64 KB of gossip about another address of that tag",
     "hostile-addresses": "check of 256 addresses of 254 octets that differ at their end",
+    "hostile-ascii": "check of 256 addresses with local parts of 64 octets, all ASCII",
+    "hostile-letters": "the same with local parts of 64 octets, none ASCII",
+    "hostile-spellings": "convert of 256 spellings of one address, each younger than those below it",
 }
 NAMES = {"ours": "ours", "peer": "C peer", "peer3": "C peer, -O3", "gmime": "GMime", "read": "plain read", "memcpy": "memcpy"}
 
@@ -298,6 +308,13 @@ def targets(times: Times, counts: Times) -> str:
     def between(name: str, above: str, below: str) -> float | None:
         return ratio(times.get((name, above)), times.get((name, below)))
 
+    def ours_between(found: Times, above: str, below: str) -> float | None:
+        return ratio(found.get((above, "ours")), found.get((below, "ours")))
+
+    def aim_at_both(words: str, used: int, above: str, below: str, limit: float) -> None:
+        for unit, found in (("time", times), ("instructions", counts)):
+            aim(words.format(unit), used, ours_between(found, above, below), limit, True)
+
     aim("process with a key: ours / C peer", 64, between("key.64", "ours", "peer"), 1.5, True)
     aim("process with a key: GMime's parse / ours", 64, between("key.64", "gmime", "ours"), 10, False)
     aim("process with a key: GMime's parse / ours", 256, between("key.256", "gmime", "ours"), 1, False)
@@ -309,7 +326,13 @@ def targets(times: Times, counts: Times) -> str:
         aim(f"process with a key: `email` ({form}) / ours through Python", 16, between("key.16", program, "ours-python"), 20, False)
     for used in SIZES:
         aim("gossip not asked for: instructions / those without a payload", used,
-            ratio(counts.get((f"unasked.{used}", "ours")), counts.get((f"unasked-bare.{used}", "ours"))), 1.02, True)
+            ours_between(counts, f"unasked.{used}", f"unasked-bare.{used}"), 1.02, True)
+    for name, words in (("accents", "addresses with accents"), ("cyrillic", "Cyrillic addresses")):
+        aim_at_both(f"check, {words}: {{}} / of ASCII ones", 256, f"check-{name}.256", "check.256", 2)
+    for used in SIZES:
+        aim_at_both("convert, nothing to do: {} / of check", used, f"convert.{used}", f"check.{used}", 1.1)
+    for name, words in (("accents", "addresses with accents"), ("cyrillic", "Cyrillic addresses")):
+        aim_at_both(f"convert, nothing to do, {words}: {{}} / of check", 256, f"convert-{name}.256", f"check-{name}.256", 1.1)
     return markdown(["target", "slots", "wanted", "measured", ""], rows)
 
 

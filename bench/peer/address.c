@@ -26,6 +26,82 @@ bool plain_address(const uint8_t *s, size_t n, unsigned *kinds) {
     return true;
 }
 
+static bool follows(const uint8_t *s, size_t n) {
+    for (size_t i = 0; i < n; i++) {
+        if ((s[i] & 0xc0) != 0x80) return false;
+    }
+    return true;
+}
+
+/* L20: how many octets the code point at the front of `s` has; 0 where it is not well formed. */
+static size_t point_length(const uint8_t *s, size_t n) {
+    if (s[0] < 0x80) return 1;
+    if (s[0] < 0xc2 || s[0] > 0xf4) return 0;
+    size_t length = s[0] < 0xe0 ? 2 : s[0] < 0xf0 ? 3 : 4;
+    if (n < length || !follows(s + 1, length - 1)) return 0;
+    if (s[0] == 0xe0 && s[1] < 0xa0) return 0; /* longer than needed */
+    if (s[0] == 0xed && s[1] > 0x9f) return 0; /* a surrogate */
+    if (s[0] == 0xf0 && s[1] < 0x90) return 0; /* longer than needed */
+    if (s[0] == 0xf4 && s[1] > 0x8f) return 0; /* above U+10FFFF */
+    return length;
+}
+
+static bool well_formed(const uint8_t *s, size_t n) {
+    while (n > 0) {
+        size_t length = point_length(s, n);
+        if (length == 0) return false;
+        s += length;
+        n -= length;
+    }
+    return true;
+}
+
+static unsigned point_of_two(const uint8_t *s) { return (s[0] & 31u) << 6 | (s[1] & 63u); }
+
+/* L21: the small letter of a code point above ASCII. */
+static unsigned small_letter(unsigned point) {
+    if (point >= 0xc0 && point <= 0xde && point != 0xd7) return point + 32;
+    if (point >= 0x391 && point <= 0x3ab && point != 0x3a2) return point + 32;
+    if (point >= 0x400 && point <= 0x40f) return point + 80;
+    if (point >= 0x410 && point <= 0x42f) return point + 32;
+    return point;
+}
+
+/* L21: small letters beyond ASCII in the local part, if it is well formed. They and their capitals have two octets. */
+static void small_local_part(uint8_t *s, size_t n) {
+    const uint8_t *at = memchr(s, '@', n);
+    uint8_t *end = s + (at - s);
+    if (!well_formed(s, (size_t)(end - s))) return;
+    for (size_t length; s < end; s += length) {
+        length = point_length(s, (size_t)(end - s));
+        if (length != 2) continue;
+        unsigned point = small_letter(point_of_two(s));
+        s[0] = (uint8_t)(0xc0 | point >> 6);
+        s[1] = (uint8_t)(0x80 | (point & 63));
+    }
+}
+
+void make_canonical(uint8_t *out, const uint8_t *s, size_t n) {
+    uint8_t octets = 0;
+    for (size_t i = 0; i < n; i++) {
+        octets |= s[i];
+        out[i] = lower(s[i]);
+    }
+    if (octets & 128) small_local_part(out, n);
+}
+
+bool canonical_address(const uint8_t *s, size_t n, unsigned kinds) {
+    bool capital = false;
+    if (kinds & CAPITAL) return false;
+    if (!(kinds & HIGH)) return true;
+    for (size_t length; *s != '@'; s += length, n -= length) {
+        length = point_length(s, n);
+        if (length == 0) return true; /* no UTF-8, so its capitals stay */
+        if (length == 2 && !capital) capital = small_letter(point_of_two(s)) != point_of_two(s);
+    }
+    return !capital;
+}
+
 /* Behind the comment that opens at `s`; NULL where it is unreadable. */
 static const uint8_t *skip_comment(const uint8_t *s, const uint8_t *end) {
     int depth = 0;

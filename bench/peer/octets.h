@@ -21,9 +21,10 @@ enum {
     CAPITAL = 16,
     CONTROL = 32,  /* below 32, and 127, but not tab */
     BLANK = 64,    /* space and tab */
-    NAME = 128     /* in a field name: 33 to 126, but not the colon */
+    NAME = 128,    /* in a field name: 33 to 126, but not the colon */
+    HIGH = 256     /* 128 and above */
 };
-extern const uint8_t octet_kind[256];
+extern const uint16_t octet_kind[256];
 
 static inline bool is(uint8_t octet, unsigned kinds) { return (octet_kind[octet] & kinds) != 0; }
 
@@ -76,10 +77,6 @@ static inline bool all_zero(const uint8_t *s, size_t n) {
 }
 
 static inline uint8_t lower(uint8_t octet) { return is(octet, CAPITAL) ? octet + 32 : octet; }
-
-static inline void lower_all(uint8_t *out, const uint8_t *s, size_t n) {
-    for (size_t i = 0; i < n; i++) out[i] = lower(s[i]);
-}
 
 static inline uint32_t hash(const uint8_t *s, size_t n) {
     const uint64_t prime = 0x9e3779b97f4a7c15u;

@@ -14,6 +14,8 @@ typedef struct { uint64_t number; uint64_t length; } peer_written;
 
 peer_answer peer_check(const uint8_t *table, size_t table_length);
 
+peer_answer peer_convert(uint8_t *table, size_t table_length);
+
 peer_answer peer_process(uint8_t *table, size_t table_length, uint64_t receipt,
                          const uint8_t *outer, size_t outer_length,
                          const uint8_t *payload, size_t payload_length, uint8_t gossip);

@@ -41,7 +41,7 @@ static void read_listed(struct listed *listed, struct values *outer) {
         long n = read_list(outer->text + value->at, value->length, found, LISTED_LIMIT - listed->count);
         for (long k = 0; k < n; k++) {
             found[k].at += value->at;
-            lower_all(outer->text + found[k].at, outer->text + found[k].at, found[k].length);
+            make_canonical(outer->text + found[k].at, outer->text + found[k].at, found[k].length);
         }
         if (n > 0) listed->count += n;
     }
@@ -70,7 +70,7 @@ static bool plan_gossip(struct book *book, struct values *outer, struct values *
         struct key_field field;
         if (!part_field(payload->text + payload->value[i].at, payload->value[i].length, &field)) continue;
         uint8_t *address = payload->text + (field.address - payload->text);
-        lower_all(address, address, field.address_length);
+        make_canonical(address, address, field.address_length);
         if (*listed_place(&listed, address, field.address_length) == 0) continue;
         size_t length = decode_key(field.keydata, field.keydata_length, keys);
         if (length == 0) continue;
@@ -153,7 +153,7 @@ peer_answer peer_process(uint8_t *table, size_t table_length, uint64_t receipt,
     }
 
     uint8_t *sender = outer.text + from->at + only.at;
-    lower_all(sender, sender, only.length);
+    make_canonical(sender, sender, only.length);
     uint8_t keys[2][KEY_LIMIT]; /* the counted key, and one that would be the second */
     size_t key_length = 0;
     bool mutual = false;
@@ -163,7 +163,7 @@ peer_answer peer_process(uint8_t *table, size_t table_length, uint64_t receipt,
         uint8_t address[ADDRESS_LIMIT];
         if (value->field != AUTOCRYPT || !part_field(outer.text + value->at, value->length, &field)) continue;
         if (field.address_length != only.length) continue;
-        lower_all(address, field.address, field.address_length);
+        make_canonical(address, field.address, field.address_length);
         if (memcmp(address, sender, only.length) != 0) continue;
         size_t length = decode_key(field.keydata, field.keydata_length, keys[valid]);
         if (length == 0) continue;

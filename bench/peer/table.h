@@ -27,10 +27,11 @@ enum { SEEN = 1, DIRECT = 2, GOSSIP = 4, MUTUAL = 8 };
 /* The addresses of a table by their hash: `place` holds 0, or a slot's number and one with the hash's upper half above.
  * A planned newcomer is in the book before it is in the table. */
 struct book {
-    uint32_t slots, mask, next_free;
+    uint32_t slots, mask, next_free, old_spellings;
     uint32_t place[2 * SLOTS_LIMIT];
     const uint8_t *address[SLOTS_LIMIT]; /* NULL: free */
     uint16_t length[SLOTS_LIMIT];
+    bool is_old[SLOTS_LIMIT]; /* not in canonical form, as only a table of the old rule has them */
 };
 
 /* Checks the table, and fills the book where the answer is 0. */

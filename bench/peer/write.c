@@ -43,7 +43,7 @@ static peer_written write_field(const char *opening, const char *preference, con
     if (out_length < length) return (peer_written){12, 0};
 
     out = put(out, opening);
-    lower_all(out, address, address_length);
+    make_canonical(out, address, address_length);
     out = put(out + address_length, ";");
     out = put(out, preference);
     out = put(out, " keydata=\r\n");

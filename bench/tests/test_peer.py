@@ -2,6 +2,7 @@
 
 VIENGHULAC_PEER_CASES sets how many cases there are of each call (the gate takes few), VIENGHULAC_SEED where they start.
 """
+import itertools
 import os
 import subprocess
 import sys
@@ -13,7 +14,7 @@ sys.path += [str(ROOT / "tests" / "independent"), str(ROOT / "tests" / "differen
 
 from cases import Cases  # noqa: E402
 from library import Library  # noqa: E402
-from scope import processing, recommending, table as tables, writing  # noqa: E402
+from scope import conversion, processing, recommending, table as tables, writing  # noqa: E402
 from probe import SEED  # noqa: E402
 
 CASES = int(os.environ.get("VIENGHULAC_PEER_CASES", "500"))
@@ -50,8 +51,27 @@ class PeerTest(unittest.TestCase):
     def test_target_key(self):
         self.same(self.cases.target, recommending.target_key, self.peer.target_key)
 
+    def test_each_code_point_L21(self):
+        """What is written for each code point, alone and beside a fault; and which is sound in a slot."""
+        for point in [*range(0x80, 0x800), 0xFFF, 0x1E9E, 0xD7FF, 0xE000, 0xFFFF, 0x10000, 0x10FFFF]:
+            for address in (chr(point).encode() + b"@b", b"A" + chr(point).encode() + b".a@B", chr(point).encode() + b"\xff@b"):
+                number, field = writing.write_gossip(address, b"k", 1 << 10)
+                self.assertEqual(self.peer.write_gossip(address, b"k", bytes(len(field))), (number, len(field), field), address)
+                slot = tables.slot_of(tables.Entry(address))
+                self.assertEqual(self.peer.check(slot), tables.check(slot), address)
+
+    def test_octets_that_may_be_utf8_L20(self):
+        for octets in itertools.product(range(128, 256), [0x41, 0x7E, 0x80, 0x8F, 0x90, 0x9F, 0xA0, 0xBF, 0xC3], [0x80, 0x41, 0xBF]):
+            for address in (bytes(octets[:1]) + "É@b".encode(), bytes(octets) + "É@b".encode(), bytes(octets) + b"\x80" + "É@b".encode()):
+                number, field = writing.write_gossip(address, b"k", 1 << 10)
+                self.assertEqual(self.peer.write_gossip(address, b"k", bytes(len(field))), (number, len(field), field), address)
+
     def test_check(self):
         self.same(lambda: (self.cases.table(),), tables.check, self.peer.check)
+
+    def test_convert(self):
+        seen = self.same(lambda: (self.cases.conversion(),), conversion.convert, self.peer.convert)
+        self.assertEqual(seen, {0, 1, 2})
 
     def test_write_autocrypt(self):
         for _ in range(CASES):

@@ -34,6 +34,9 @@ class Both:
     def check(self, *call):
         return self._same("check", *call)
 
+    def convert(self, *call):
+        return self._same("convert", *call)
+
     def process(self, *call):
         return self._same("process", *call)
 

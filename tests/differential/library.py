@@ -35,6 +35,12 @@ class Library(Bound):
         r = self._call("check", Answer, READ, table, len(table))
         return r.number, r.index
 
+    def convert(self, table: bytes) -> tuple[int, int, bytes]:
+        """The number, the index, and what the table then holds."""
+        lent = Lent(table)
+        r = self._call("convert", Answer, WRITE, *lent.words())
+        return r.number, r.index, lent.now()
+
     def process(self, table: bytes, receipt: int, outer: bytes, payload: bytes, gossip: int) -> tuple[int, int, bytes]:
         """The number, the index, and what the table then holds."""
         lent = Lent(table)

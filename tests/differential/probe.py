@@ -225,8 +225,11 @@ class Probe(Bound):
     def is_canonical(self, s: bytes) -> bool:
         return self._call("probe_is_canonical", ctypes.c_bool, _read, s, len(s))
 
-    def same_address(self, a: bytes, b: bytes) -> bool:
-        return self._call("probe_same_address", ctypes.c_bool, _read + _read, a, len(a), b, len(b))
+    def was_canonical(self, s: bytes) -> bool:
+        return self._call("probe_was_canonical", ctypes.c_bool, _read, s, len(s))
+
+    def has_form(self, s: bytes, form: bytes) -> bool:
+        return self._call("probe_has_form", ctypes.c_bool, _read + _read, s, len(s), form, len(form))
 
     def canonical(self, s: bytes, out: bytes) -> tuple[int, int, bytes]:
         lent = Lent(out)

@@ -7,7 +7,7 @@ from probe import SEED, Probe
 
 
 class Address(unittest.TestCase):
-    """L6 to L8: what is plain, what is canonical, and when two are the same."""
+    """L6 to L8: what is plain, what is canonical, and whose form it is."""
 
     def setUp(self):
         self.probe = Probe()
@@ -19,6 +19,7 @@ class Address(unittest.TestCase):
         self.assertEqual(self.probe.is_plain(s), plain, s)
         canonical = address.canonical(s)
         self.assertEqual(self.probe.is_canonical(s), plain and canonical == s, s)
+        self.assertEqual(self.probe.was_canonical(s), plain and s.lower() == s, s)
         for room in {0, max(0, len(canonical) - 1), len(canonical), len(canonical) + 3, 256}:
             out = b"?" * room
             fits = len(canonical) <= room
@@ -31,6 +32,30 @@ class Address(unittest.TestCase):
         for _ in range(20_000):
             answers.add(self.same(self.cases.address()))
         self.assertEqual(answers, {False, True})
+
+    def test_names_with_accents_L8_L20_L21(self):
+        """Code points at the edges of the map and of UTF-8, alike and nearly so, and names that are not well formed."""
+        answers = set()
+        for _ in range(20_000):
+            s = self.cases.accented() if self.cases.chance(0.6) else self.cases.peer()
+            self.assertTrue(self.same(s), s)
+            answers.add(self.probe.is_canonical(s))
+        self.assertEqual(answers, {False, True})
+
+    def test_each_code_point_L21(self):
+        for point in [*range(0x80, 0x800), 0xFFF, 0xD7FF, 0xE000, 0xFFFF, 0x10000, 0x10FFFF, 0x1E9E, 0x212A, 0x2126]:
+            letter = chr(point).encode()
+            for s in (letter + b"@b", b"A" + letter + b"a@B", letter + b"." + letter + b"@b", letter + b"\xff@b", b"\xc3" + letter + b"@b"):
+                self.same(s)
+
+    def test_octets_that_may_be_utf8_L20(self):
+        """Each octet from 128 on, alone and with up to three behind it out of those that matter, and a capital."""
+        behind = [b"A", b"\x7e", b"\x80", b"\x8f", b"\x90", b"\x9f", b"\xa0", b"\xbf", b"\xc3"]
+        texts = [bytes([first]) for first in range(128, 256)]
+        for _ in range(4):
+            for text in texts:
+                self.same("É".encode() + text + "Я@b".encode())
+            texts = [text + x for text in texts for x in (behind if len(text) < 3 else self.random.sample(behind, 2))]
 
     def test_limits_L6_L7(self):
         for local in (0, 1, 63, 64, 65):
@@ -55,12 +80,13 @@ class Address(unittest.TestCase):
             for text in texts:
                 self.assertEqual(self.probe.is_plain(text), address.is_plain(text), text)
 
-    def test_same_address_L8(self):
+    def test_has_form_L8(self):
         for _ in range(5_000):
             a = self.cases.address()
             for b in (a.upper(), a.swapcase(), self.cases.mutate(a), self.cases.address()):
-                expected = address.canonical(a) == address.canonical(b)
-                self.assertEqual(self.probe.same_address(a, b), expected, (a, b))
+                form = address.canonical(b)
+                expected = address.is_plain(form) and address.canonical(a) == form
+                self.assertEqual(self.probe.has_form(a, form), expected, (a, form))
 
 
 if __name__ == "__main__":

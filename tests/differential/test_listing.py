@@ -6,7 +6,7 @@ import unittest
 from pathlib import Path
 
 from against import Cases
-from scope import listing, table as tables
+from scope import conversion, listing, table as tables
 from probe import ROOT, SEED, Probe
 
 SLOT = tables.SLOT
@@ -90,6 +90,21 @@ class Program(unittest.TestCase):
             self.assertEqual(run.stdout, expected)
             answers.add(expected[:9] if expected.startswith(b"refused") else b"")
         self.assertEqual(answers, {b"", b"refused 1", b"refused 2"})
+
+    def test_the_stored_table_in_an_old_spelling_T20(self):
+        # the table that the crate's own run lists, one name with a capital as before change 2; converted it is that table again
+        stored = ROOT / "crates" / "listing"
+        given, expected = (stored / "stdin").read_bytes(), (stored / "stdout").read_bytes()
+        old = given.replace("dörte@".encode(), "dÖrte@".encode())
+        self.assertNotEqual(old, given)
+        self.assertEqual(tables.check(old)[0], 2)
+        self.assertEqual(self.printed(old), b"refused 2\n")
+        self.assertEqual(conversion.convert(old), (0, 0, given))
+        self.assertEqual(self.printed(given), expected)
+
+    @staticmethod
+    def printed(table: bytes) -> bytes:
+        return subprocess.run(program("listing"), input=table, capture_output=True, check=True).stdout
 
 
 if __name__ == "__main__":

@@ -43,7 +43,8 @@ def patches(table: bytes) -> bytes:
 
 
 def tables(cases: Cases) -> bytes:
-    table = cases.table()[: SLOTS * SLOT]
+    table = cases.conversion() if cases.chance(0.5) else cases.table()
+    table = table[: SLOTS * SLOT]
     return bytes([len(table) // SLOT, cases.random.choice([0, 0, 0, 0, 1, 2])]) + patches(table)
 
 

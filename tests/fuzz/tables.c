@@ -1,5 +1,6 @@
 /* Tables made of patches, given to the check of the library and to that of the C program of bench/: the answers are
- * compared, and the advice and keys for a list by each table that both take for sound.
+ * compared, and the advice and keys for a list by each table that both take for sound. Before that a copy for each is
+ * converted (T16): the answers and the whole tables are compared.
  *
  * The input: an octet for the number of slots, one by which the length is off, then patches: two octets for the place,
  * the lower one first, one for the length, and the octets. seeds.py writes such inputs. */
@@ -9,10 +10,11 @@
 
 enum { SLOTS = 4 };
 
-static const char list[] = "alice@a.example, Bob <bob@b.example>, g: carol@c.example, p=q+r@g.example;, x@y";
+static const char list[] =
+    "alice@a.example, Bob <bob@b.example>, g: carol@c.example, p=q+r@g.example;, x@y, \xc3\x89VA@f.example";
 static const uint8_t *const recipients = (const uint8_t *)list;
 
-static room table_room, list_room;
+static room table_room, own_room, other_room, list_room;
 
 /* Zeros, patched. */
 static block patched(input *in) {
@@ -36,13 +38,25 @@ static block patched(input *in) {
 int LLVMFuzzerInitialize(int *count, char ***words) {
     (void)count, (void)words;
     table_room = make_room(SLOTS * VIENGHULAC_SLOT + 1);
+    own_room = make_room(SLOTS * VIENGHULAC_SLOT + 1);
+    other_room = make_room(SLOTS * VIENGHULAC_SLOT + 1);
     list_room = make_room(sizeof list);
     return 0;
+}
+
+static void compare_convert(block table) {
+    block mine = lend(own_room, table.at, table.length), theirs = lend(other_room, table.at, table.length);
+    vienghulac_answer a = vienghulac_convert(mine.at, mine.length);
+    peer_answer b = peer_convert(theirs.at, theirs.length);
+    same("convert", a.number, b.number);
+    same("index of convert", a.index, b.index);
+    same_octets("converted table", mine.at, theirs.at, mine.length);
 }
 
 int LLVMFuzzerTestOneInput(const uint8_t *octets, size_t length) {
     input in = {octets, octets + length};
     block table = patched(&in), asked = lend(list_room, recipients, sizeof list - 1);
+    compare_convert(table);
     vienghulac_answer a = vienghulac_check(table.at, table.length);
     peer_answer b = peer_check(table.at, table.length);
 #ifdef SPOILED
@@ -55,7 +69,7 @@ int LLVMFuzzerTestOneInput(const uint8_t *octets, size_t length) {
     peer_advice d = peer_recommend(table.at, table.length, asked.at, asked.length, true, false);
     same("recommend", c.number, d.number);
     same("advice", c.advice, d.advice);
-    for (uint64_t place = 0; place < 5; place++) {
+    for (uint64_t place = 0; place < 6; place++) {
         vienghulac_part p = vienghulac_target_key(table.at, table.length, asked.at, asked.length, true, false, place);
         peer_part q = peer_target_key(table.at, table.length, asked.at, asked.length, true, false, place);
         same("start of a key", p.start, q.start);

@@ -41,12 +41,12 @@ def moment(seconds: int, zone: timezone) -> datetime:
 
 def address_of(number: int) -> bytes:
     """Capitals, signs and letters beyond ASCII among the addresses."""
-    form = ("p{}@one.example", "Ann.{}@Two.Example", "zoë{}@three.example", "a+b-{}=c@4.example", "X{}@FIVE")[number % 5]
+    form = ("p{}@one.example", "Ann.{}@Two.Example", "zoË{}@three.example", "a+b-{}=c@4.example", "X{}@FIVE")[number % 5]
     return form.format(number).encode()
 
 
 def canonical(address: bytes) -> bytes:
-    return address.lower()  # of ASCII letters alone
+    return address.decode().lower().encode()  # as L8 has it, for the letters of these addresses
 
 
 class Letters:

@@ -1,0 +1,63 @@
+"""The tables of the bench are what its rows say of them."""
+import sys
+import unittest
+from dataclasses import replace
+from pathlib import Path
+
+ROOT = Path(__file__).resolve().parents[2]
+sys.path += [str(ROOT / "bench"), str(ROOT / "tests" / "independent")]
+
+from messages import cases  # noqa: E402
+from scope import conversion, table as tables  # noqa: E402
+from scope.address import canonical  # noqa: E402
+
+
+class Tables(unittest.TestCase):
+    @classmethod
+    def setUpClass(cls):
+        cls.made = [(f"{group}.{number}", call, used, table) for group, number, used, call, _, table, _ in cases(few=True)]
+        cls.tables = {name: table for name, _, _, table in cls.made}
+
+    def entries(self, name: str) -> list[tables.Entry]:
+        return tables.entries(self.tables[name])
+
+    def test_full_and_sound(self):
+        for name, call, used, table in self.made:
+            if call not in ("write", "convert-old"):
+                self.assertEqual(tables.check(table), (0, 0), name)
+            self.assertEqual(sum(entry is not None for entry in tables.entries(table)), used, name)
+
+    def test_the_same_table_beyond_ascii_L8(self):
+        """Every local part has letters that are not ASCII, and all else is as in the table in ASCII."""
+        for name in ("check-accents.256", "check-cyrillic.256"):
+            for entry, plain in zip(self.entries(name), self.entries("check.256"), strict=True):
+                self.assertTrue(plain.address.isascii())
+                self.assertFalse(entry.address.isascii())
+                self.assertEqual(replace(entry, address=plain.address), plain)
+
+    def test_nothing_to_convert_T19(self):
+        for name, call, _, table in self.made:
+            if call == "convert":
+                self.assertEqual(conversion.convert(table), (0, 0, table), name)
+
+    def freed(self, name: str) -> list[int]:
+        """The slots that a conversion makes free."""
+        number, _, after = conversion.convert(self.tables[name])
+        self.assertEqual(number, 0)
+        return [i for i, entry in enumerate(tables.entries(after)) if entry is None]
+
+    def test_tables_of_the_old_rule_T16_T17(self):
+        # Each old spelling makes the table unsound, and the first of them is named.
+        self.assertEqual(tables.check(self.tables["convert-old.256"]), (2, 1))
+        self.assertEqual(tables.check(self.tables["convert-last.256"]), (2, 255))
+        self.assertEqual(self.freed("convert-last.256"), [])
+        held = self.entries("convert-old.256")
+        self.assertEqual(sum(canonical(entry.address) != entry.address for entry in held), 128)
+        free = self.freed("convert-old.256")
+        self.assertEqual(len(free), 32)
+        # Some of them had the capital, and with others the slot had it that they were merged into.
+        self.assertEqual({i % 8 for i in free}, {0, 7})
+
+
+if __name__ == "__main__":
+    unittest.main()
