@@ -40,6 +40,7 @@ use Rattle.merge.specs.Merging.{merged}
 use Rattle.merge.specs.Steps.{Merges}
 use Rattle.convert.specs.Converting.{formOf}
 use Rattle.convert.specs.Steps.{broughtAt, brought, Brings, Settles, Absorbs}
+use Rattle.convert.proofs.Tables.{free-long}
 use Rattle.convert.proofs.Stepwise as stepwise
 
 -- slot i is merged into slot j
@@ -56,9 +57,6 @@ module _ (t : List ℕ) (j i : ℕ) (h : Absorbs t j i) where
 
   -- and it is freed
   module _ (u : List ℕ) (eu : u ≡ withSlot t i freeSlot) where
-    free-long : length freeSlot ≡ slotLength
-    free-long = length-replicate {A = ℕ} 4392 0
-
     still : slots u ≡ slots t
     still = ap slots eu ∙ slotwise.slots-kept t freeSlot i (h .within) free-long
 

@@ -11,7 +11,7 @@ use mathlib.Core.Bool.{true, false, false≢true}
 use mathlib.Core.List.{List}
 use mathlib.Core.Option.{Option, some, none}
 use native.Mathlib.Omega.{arith}
-use lib.ListN.{length, length-replicate}
+use lib.ListN.{length}
 use Rattle.octets.specs.Octets.{AllOctets, sameOctets}
 use Rattle.octets.specs.Options.{isSome, IfSome}
 use Rattle.octets.proofs.Comparing.{same-true}
@@ -28,6 +28,7 @@ use Rattle.table.proofs.Lowest.{by-found, lowest-is}
 use Rattle.table.proofs.Finding.{lowest-at, lowest-nothing, lowest-none}
 use Rattle.table.proofs.Replaced.{made-has, made-has-not}
 use Rattle.convert.specs.Converting.{formOf, hasForm, gathered, leads, slotFor, convertedAt}
+use Rattle.convert.proofs.Tables.{free-long}
 use Rattle.convert.proofs.Groups.{form-used, form-is, form-has, gathered-some, leads-used, first-leads, gathered-good}
 
 -- the lowest slot of a group, and the entry in it
@@ -74,7 +75,7 @@ module _ (t : List ℕ) (w : TableBy Ascii t) (o : AllOctets t) where
     pub converted-long : length (convertedAt t n i) ≡ slotLength
     converted-long =
         by-test (leads t i) (λ h. let x = led h in rw (x .slot) (slot-long (x .entry) (x .good)))
-        (λ h. rw (follows-free t n i h) (length-replicate {A = ℕ} 4392 0))
+        (λ h. rw (follows-free t n i h) free-long)
 
     pub has-led : leads t i ≡ true → hasAddress (formOf (slotAt t i)) (convertedAt t n i) ≡ true
     has-led h = let x = led h in rw (x .slot, ← x .whose) (made-has (x .entry) (x .good))

@@ -34,7 +34,7 @@ use Rattle.table.specs.declared.Checked.the-variants.{Sound}
 use Rattle.table.proofs.Slots as slotwise
 use Rattle.table.proofs.Lowest.{by-found}
 use Rattle.table.proofs.Finding.{lowest-at, lowest-nothing}
-use Rattle.table.proofs.Keeping.{table-by, by-table, table-sound, sound-table, used-sound, unused-free, not-lower, alone}
+use Rattle.table.proofs.Keeping.{table-by, by-table, table-sound, sound-table, used-sound, unused-free, or-sound, not-lower, alone}
 use Rattle.table.proofs.Entries.{entry-at, entry-nothing}
 use Rattle.convert.specs.Converting.{formOf, hasForm, gathered, leads, slotFor, convertedAt, tableOf, converted}
 use Rattle.convert.proofs.Tables.{table-long, table-at, table-is, whole-long, slots-of, free-is}
@@ -113,10 +113,6 @@ module _ (t : List ℕ) (w : TableBy Ascii t) (o : AllOctets t) where
       (rw at (slot-sound (x .entry) (x .good))) no)
       (λ h. rw (converted-at i l, follows-free t (slots t) i h, free-free))
     where
-      or-sound : (f s n : Bool) → s ≡ true → n ≡ false → (f || s && not n) ≡ true
-      or-sound true s n p q = refl
-      or-sound false s n p q = rw (p, q)
-
       free-free : free freeSlot ≡ true
       free-free = zero-replicate 4392
 

@@ -14,7 +14,7 @@ use mathlib.Core.Option.{Option, some}
 use native.Mathlib.Omega.{arith}
 use borrow.Author.Tests.{lt-ltb, le-ltb, eqb-true, eqb-false}
 use lib.Dec.{eqb}
-use lib.ListN.{length, length-replicate}
+use lib.ListN.{length}
 use Rattle.octets.specs.Octets.{AllOctets}
 use Rattle.octets.proofs.Lists.{lt-or-le}
 use Rattle.octets.proofs.Tests.{by-test}
@@ -34,7 +34,7 @@ use Rattle.merge.specs.Merging.{merged}
 use Rattle.merge.proofs.Later.{good-merged}
 use Rattle.convert.specs.Converting.{formOf, hasForm, joined, leads, slotFor, convertedAt, converted}
 use Rattle.convert.specs.Steps.{partlyAt, partly, broughtAt, brought}
-use Rattle.convert.proofs.Tables.{table-long, table-at, table-is, table-same, whole-long, slots-of, free-is}
+use Rattle.convert.proofs.Tables.{table-long, table-at, table-is, table-same, whole-long, slots-of, free-long, free-is}
 use Rattle.convert.proofs.Groups.{form-used, form-is, form-has, form-good, gathered-on, gathered-past, gathered-none, leads-used, first-leads, unused-follows, lower-follows, leader-one}
 use Rattle.convert.proofs.Places.{Led, led, leads-slot, follows-free, converted-long, first-form, lowest-form}
 
@@ -205,9 +205,6 @@ module _ (t : List ℕ) (w : TableBy Ascii t) (o : AllOctets t) where
         -- slot n is freed first
         abbrev freed : List ℕ
         freed = withSlot (partly t n) n freeSlot
-
-        free-long : length freeSlot ≡ slotLength
-        free-long = length-replicate {A = ℕ} 4392 0
 
         freed-slots : slots freed ≡ slots t
         freed-slots = slotwise.slots-kept (partly t n) freeSlot n room free-long ∙ partly-slots n low

@@ -3,7 +3,7 @@
 --     table-at                   each of them
 --     table-is, table-same       a table with these slots is this one
 --     whole-long, slots-of       the length of whole slots, and back
---     free-is                    a slot that is free is the free slot
+--     free-long, free-is         the free slot, and that one which is free is this
 -- Assumes nothing.
 use Prim.Native.Nat.{ℕ, zero, suc, _+_, _-_, _*_, _/_, _%_, _<_, _≤_}
 use mathlib.Core.Path.{_≡_, refl, sym, _∙_}
@@ -13,7 +13,7 @@ use borrow.Author.Tests.{eqb-true}
 use lib.Dec.{leb, eqb}
 use mathlib.Core.List.{List, [], _∷_, _++_}
 use native.Mathlib.Omega.{arith}
-use lib.ListN.{length, take, drop, length-append, length-drop, take-append-drop}
+use lib.ListN.{length, length-replicate, take, drop, length-append, length-drop, take-append-drop}
 use lib.Seq.{drop-at, take-all, take-take, length-take-le, take-append-le, drop-append-le}
 use Rattle.octets.proofs.Lists.{lt-or-le}
 use Rattle.octets.proofs.Tests.{and-left}
@@ -82,6 +82,9 @@ whole-long t w =
 pub slots-of : (u : List ℕ) (n : ℕ) → length u ≡ n * 4392 → slots u ≡ n
 unfolding slots
 slots-of u n l = omega arith
+
+pub free-long : length freeSlot ≡ slotLength
+free-long = length-replicate {A = ℕ} 4392 0
 
 pub free-is : (s : List ℕ) → length s ≡ slotLength → free s ≡ true → s ≡ freeSlot
 unfolding free

@@ -5,7 +5,7 @@
 --     good-with-seen .. good-merged    the entry of two good ones is good
 -- Assumes nothing.
 use Prim.Native.Nat.{ℕ, _≤_, max}
-use mathlib.Core.Path.{_≡_, refl, sym, ap}
+use mathlib.Core.Path.{_≡_, refl, sym, ap, _∙_}
 use mathlib.Core.Bool.{Bool, true, false, not, _&&_, _||_, false≢true}
 use mathlib.Core.Option.{Option, some, none}
 use native.Mathlib.Omega.{arith}
@@ -20,20 +20,21 @@ use Rattle.slots.specs.Entry.{GoodDirect, GoodGossip, Good}
 use Rattle.merge.specs.Merging.{laterOf, merged}
 use Rattle.merge.specs.Steps.{withSeen, withLaterGossip}
 
-module _ {A : Type 0} (time : A → ℕ) (x y : A) where
-  pub later-taken : (p q : Bool) → (q && (not p || ltb (time x) (time y))) ≡ true → laterOf time (present p x) (present q y) ≡ some y
+-- b is what the code found out by bits and times
+module _ {A : Type 0} (time : A → ℕ) (x y : A) (b : Bool) where
+  pub later-taken : (p q : Bool) → b ≡ (q && (not p || ltb (time x) (time y))) → b ≡ true → some y ≡ laterOf time (present p x) (present q y)
   unfolding laterOf
-  later-taken true true h = rw (laterOf, h)
-  later-taken false true h = refl
-  later-taken true false h = absurd (false≢true h)
-  later-taken false false h = absurd (false≢true h)
+  later-taken true true e t = rw (laterOf, sym e ∙ t)
+  later-taken false true e t = refl
+  later-taken true false e t = absurd (false≢true (sym e ∙ t))
+  later-taken false false e t = absurd (false≢true (sym e ∙ t))
 
-  pub later-kept : (p q : Bool) → (q && (not p || ltb (time x) (time y))) ≡ false → laterOf time (present p x) (present q y) ≡ present p x
+  pub later-kept : (p q : Bool) → b ≡ (q && (not p || ltb (time x) (time y))) → b ≡ false → present p x ≡ laterOf time (present p x) (present q y)
   unfolding laterOf
-  later-kept true true h = rw (laterOf, h)
-  later-kept false true h = absurd (false≢true (sym h))
-  later-kept true false h = refl
-  later-kept false false h = refl
+  later-kept true true e f = rw (laterOf, sym e ∙ f)
+  later-kept false true e f = absurd (false≢true (sym f ∙ e))
+  later-kept true false e f = refl
+  later-kept false false e f = refl
 
 pub later-holds : {A : Type 0} (time : A → ℕ) (P : A → Type 0) (p q : Option A) → IfSome P p → IfSome P q → IfSome P (laterOf time p q)
 unfolding laterOf

@@ -9,7 +9,7 @@ use Prim.Native.Nat.{ℕ, _+_, _-_, _≤_}
 use mathlib.Core.Path.{_≡_, sym, ap, _∙_}
 use mathlib.Core.Bool.{Bool, true, false, not, _&&_, _||_}
 use mathlib.Core.List.{List}
-use mathlib.Core.Option.{some}
+use mathlib.Core.Option.{Option, some}
 use native.Mathlib.Omega.{arith}
 use borrow.Author.Needs.{needs}
 use mir.Syntax.{w8, w64}
@@ -32,6 +32,33 @@ use Rattle.slots.proofs.Made.{entry-back, slot-sound, slot-long}
 use Rattle.merge.specs.Merging.{merged}
 use Rattle.merge.specs.Steps.{withSeen, withLaterGossip, withLaterDirect, Merges}
 use Rattle.merge.proofs.Later.{later-taken, later-kept, later-none, later-seen, good-with-seen, good-with-gossip}
+
+-- a key, as the code cuts it out of its room
+cut-out : (o : List ℕ) (at n count : ℕ) → n ≡ count → count ≤ 2048 → take (at + n - at) (drop at o) ≡ take count (take 2048 (drop at o))
+cut-out o at n count e l =
+    let a : at + n - at ≡ count = omega arith in
+    rw a (sym (take-take count 2048 (drop at o) l))
+
+-- the halves that stand in a slot, present or not
+abbrev directIn : List ℕ → Direct
+directIn s = record { timestamp = timestamp s; key = directKeyOf s; «mutual» = isMutual s }
+
+abbrev gossipIn : List ℕ → Gossip
+gossipIn s = record { timestamp = gossipTimestamp s; key = gossipKeyOf s }
+
+-- the slot of an entry, one part of which is said in another way
+module _ (e : Entry) where
+  same-seen : (x y : Option ℕ) → x ≡ y
+      → slotOf (record { address = e .address; lastSeen = x; direct = e .direct; gossip = e .gossip }) ≡ slotOf (record { address = e .address; lastSeen = y; direct = e .direct; gossip = e .gossip })
+  same-seen x y p = ap (λ (z : Option ℕ). slotOf (record { address = e .address; lastSeen = z; direct = e .direct; gossip = e .gossip })) p
+
+  same-direct : (x y : Option Direct) → x ≡ y
+      → slotOf (record { address = e .address; lastSeen = e .lastSeen; direct = x; gossip = e .gossip }) ≡ slotOf (record { address = e .address; lastSeen = e .lastSeen; direct = y; gossip = e .gossip })
+  same-direct x y p = ap (λ (z : Option Direct). slotOf (record { address = e .address; lastSeen = e .lastSeen; direct = z; gossip = e .gossip })) p
+
+  same-gossip : (x y : Option Gossip) → x ≡ y
+      → slotOf (record { address = e .address; lastSeen = e .lastSeen; direct = e .direct; gossip = x }) ≡ slotOf (record { address = e .address; lastSeen = e .lastSeen; direct = e .direct; gossip = y })
+  same-gossip x y p = ap (λ (z : Option Gossip). slotOf (record { address = e .address; lastSeen = e .lastSeen; direct = e .direct; gossip = z })) p
 
 -- two slots, as they are lent
 module _ (s o : List ℕ) (m : Merges s o) where
@@ -77,15 +104,11 @@ module _ (s o : List ℕ) (m : Merges s o) where
 
     direct-key : take (296 + n .«direct_length» - 296) (drop 296 o) ≡ directKeyOf o
     unfolding directKeyOf
-    direct-key =
-        let a : 296 + n .«direct_length» - 296 ≡ directLength o = omega (arith, direct-long) in
-        rw a (sym (take-take (directLength o) 2048 (drop 296 o) direct-room))
+    direct-key = cut-out o 296 (n .«direct_length») (directLength o) direct-long direct-room
 
     gossip-key : take (2344 + n .«gossip_length» - 2344) (drop 2344 o) ≡ gossipKeyOf o
     unfolding gossipKeyOf
-    gossip-key =
-        let a : 2344 + n .«gossip_length» - 2344 ≡ gossipLength o = omega (arith, gossip-long) in
-        rw a (sym (take-take (gossipLength o) 2048 (drop 2344 o) gossip-room))
+    gossip-key = cut-out o 2344 (n .«gossip_length») (gossipLength o) gossip-long gossip-room
 
     pub direct-key-room : length (take (296 + n .«direct_length» - 296) (drop 296 o)) ≤ keyLimit
     direct-key-room = rw (direct-key, direct-count o (m .other-long) other-parts) direct-room
@@ -103,13 +126,13 @@ module _ (s o : List ℕ) (m : Merges s o) where
       unfolding entryOf headOf seenBy withSeen
       seen-taken out t q =
           let h : hasLastSeen o ≡ true = ap (λ (x : Head). x .seen) (sym e) ∙ t in
-          q ∙ rw (e, h) (ap slotOf (λ i. record { address = entryOf s .address; lastSeen = sym (later-seen (entryOf s .lastSeen) (lastSeen o)) i; direct = entryOf s .direct; gossip = entryOf s .gossip }))
+          q ∙ rw (e, h) (same-seen (entryOf s) _ _ (sym (later-seen (entryOf s .lastSeen) (lastSeen o))))
 
       pub seen-left : n .seen ≡ false → s ≡ slotOf (withSeen (entryOf o) (entryOf s))
       unfolding entryOf headOf withSeen
       seen-left f =
           let h : hasLastSeen o ≡ false = ap (λ (x : Head). x .seen) (sym e) ∙ f in
-          sym back ∙ rw h (ap slotOf (λ i. record { address = entryOf s .address; lastSeen = later-none (λ (t : ℕ). t) (entryOf s .lastSeen) i; direct = entryOf s .direct; gossip = entryOf s .gossip }))
+          sym back ∙ rw h (same-seen (entryOf s) _ _ (later-none (λ (t : ℕ). t) (entryOf s .lastSeen)))
 
       module _ (own : Head) (b : Bool) (eo : own ≡ headOf s) where
         module _ (eb : b ≡ (n .gossip && (not (own .gossip) || ltb (own .«gossip_timestamp») (n .«gossip_timestamp»)))) where
@@ -124,32 +147,16 @@ module _ (s o : List ℕ) (m : Merges s o) where
           unfolding entryOf headOf withGossip withLaterGossip
           gossip-taken out t q =
               q
-              ∙ ap slotOf
-              (λ i.
-              record {
-                address = entryOf s .address;
-                lastSeen = entryOf s .lastSeen;
-                direct = entryOf s .direct;
-                gossip =
-                    ((λ j. some (record { timestamp = e j .«gossip_timestamp»; key = gossip-key n e j }))
-                    ∙ sym (later-taken (λ (x : Gossip). x .timestamp) (record { timestamp = gossipTimestamp s; key = gossipKeyOf s }) (record { timestamp = gossipTimestamp o; key = gossipKeyOf o })
-                    (hasGossip s) (hasGossip o) (sym gossip-test ∙ t))) i;
-              })
+              ∙ same-gossip (entryOf s) _ _
+              ((λ j. some (record { timestamp = e j .«gossip_timestamp»; key = gossip-key n e j }))
+              ∙ later-taken (λ (x : Gossip). x .timestamp) (gossipIn s) (gossipIn o) b (hasGossip s) (hasGossip o) gossip-test t)
 
           pub gossip-left : b ≡ false → s ≡ slotOf (withLaterGossip (entryOf o) (entryOf s))
           unfolding entryOf withLaterGossip
           gossip-left f =
               sym back
-              ∙ ap slotOf
-              (λ i.
-              record {
-                address = entryOf s .address;
-                lastSeen = entryOf s .lastSeen;
-                direct = entryOf s .direct;
-                gossip =
-                    sym (later-kept (λ (x : Gossip). x .timestamp) (record { timestamp = gossipTimestamp s; key = gossipKeyOf s }) (record { timestamp = gossipTimestamp o; key = gossipKeyOf o })
-                    (hasGossip s) (hasGossip o) (sym gossip-test ∙ f)) i;
-              })
+              ∙ same-gossip (entryOf s) _ _
+              (later-kept (λ (x : Gossip). x .timestamp) (gossipIn s) (gossipIn o) b (hasGossip s) (hasGossip o) gossip-test f)
 
         module _ (eb : b ≡ (n .direct && (not (own .direct) || ltb (own .timestamp) (n .timestamp)))) where
           direct-test : b ≡ (hasDirect o && (not (hasDirect s) || ltb (timestamp s) (timestamp o)))
@@ -162,34 +169,16 @@ module _ (s o : List ℕ) (m : Merges s o) where
           unfolding entryOf headOf withDirect withLaterDirect
           direct-taken out t q =
               q
-              ∙ ap slotOf
-              (λ i.
-              record {
-                address = entryOf s .address;
-                lastSeen = entryOf s .lastSeen;
-                direct =
-                    ((λ j. some (record { timestamp = e j .timestamp; key = direct-key n e j; «mutual» = e j .«mutual» }))
-                    ∙ sym (later-taken (λ (x : Direct). x .timestamp) (record { timestamp = timestamp s; key = directKeyOf s; «mutual» = isMutual s })
-                    (record { timestamp = timestamp o; key = directKeyOf o; «mutual» = isMutual o })
-                    (hasDirect s) (hasDirect o) (sym direct-test ∙ t))) i;
-                gossip = entryOf s .gossip;
-              })
+              ∙ same-direct (entryOf s) _ _
+              ((λ j. some (record { timestamp = e j .timestamp; key = direct-key n e j; «mutual» = e j .«mutual» }))
+              ∙ later-taken (λ (x : Direct). x .timestamp) (directIn s) (directIn o) b (hasDirect s) (hasDirect o) direct-test t)
 
           pub direct-left : b ≡ false → s ≡ slotOf (withLaterDirect (entryOf o) (entryOf s))
           unfolding entryOf withLaterDirect
           direct-left f =
               sym back
-              ∙ ap slotOf
-              (λ i.
-              record {
-                address = entryOf s .address;
-                lastSeen = entryOf s .lastSeen;
-                direct =
-                    sym (later-kept (λ (x : Direct). x .timestamp) (record { timestamp = timestamp s; key = directKeyOf s; «mutual» = isMutual s })
-                    (record { timestamp = timestamp o; key = directKeyOf o; «mutual» = isMutual o })
-                    (hasDirect s) (hasDirect o) (sym direct-test ∙ f)) i;
-                gossip = entryOf s .gossip;
-              })
+              ∙ same-direct (entryOf s) _ _
+              (later-kept (λ (x : Direct). x .timestamp) (directIn s) (directIn o) b (hasDirect s) (hasDirect o) direct-test f)
 
 pub ruleset taking = (direct-sum, direct-order, direct-end, gossip-sum, gossip-order, gossip-end, direct-key-room, gossip-key-room, seen-taken, seen-left, gossip-taken, gossip-left, direct-taken, direct-left, needs)
 

@@ -91,7 +91,7 @@ free-or true s l h e = refl
 free-or false true l h e = absurd (false≢true (sym e))
 free-or false false l h e = absurd (false≢true h)
 
-or-sound : (f s l : Bool) → s ≡ true → l ≡ false → (f || s && not l) ≡ true
+pub or-sound : (f s l : Bool) → s ≡ true → l ≡ false → (f || s && not l) ≡ true
 or-sound true s l p q = refl
 or-sound false s l p q = rw (p, q)
 
