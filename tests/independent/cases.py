@@ -10,10 +10,11 @@ same cases in the same order; nothing is stored.
 
 import random
 
-from scope import base64, utf8
-from scope.address import is_canonical
+from scope import base64, punycode, utf8
+from scope.address import ADDRESS_LIMIT, LABEL_LIMIT, PREFIX, canonical, is_canonical, is_plain, label_form
 from scope.date import DAY, DAY_NAMES, HOUR, MINUTE, MONTH_NAMES, ZONE_HOURS, days_in_month
 from scope.date import days_in_year
+from scope.displaying import display, shown_label
 from scope.header import BLOCK_LIMIT
 from scope.processing import SKIP, TAKE, UNSET
 from scope.recommending import GAP_LIMIT, RECIPIENTS_LIMIT
@@ -30,7 +31,11 @@ ASCII_PEERS = [b"alice@a.example", b"bob@b.example", b"carol@c.example", b"p=q+r
 ACCENTED_PEERS = ["éva@f.example".encode(), "ёжик@h.example".encode(), "σοφία.÷ÿß@i.example".encode(),
                   b"\xc3\x89v\xff@k.example"]
 
-PEERS = ASCII_PEERS + ACCENTED_PEERS
+# L22: domains in other scripts, by their forms: one label and two, and one that is the code of a capital, so that
+# nobody can type it in another way.
+DOMAIN_PEERS = [canonical("dora@bücher.example".encode()), canonical("ёж@сад.пример".encode()), b"\xc3\xa9@xn--dca"]
+
+PEERS = ASCII_PEERS + ACCENTED_PEERS + DOMAIN_PEERS
 
 # L21: the capital of each letter that has one.
 CAPITALS = {utf8.small(point): point for point in range(0x500) if utf8.small(point) != point}
@@ -50,6 +55,20 @@ FAULTS = [b"\x80", b"\xbf", b"\xfe", b"\xff", b"\xf8\x88\x80\x80\x80", b"\xc3", 
           b"\xc3.\x89", b"\xc0\x80", b"\xc1\x81", b"\xe0\x83\x89", b"\xe0\x9f\xbf", b"\xf0\x80\x83\x89",
           b"\xf0\x8f\xbf\xbf",
           b"\xed\xa0\x80", b"\xed\xbf\xbf", b"\xf4\x90\x80\x80", b"\xf5\x80\x80\x80"]
+
+# L22: what labels in other scripts are made of, and code points that stand for no letter: the least and the largest, a
+# full stop that is no dot, noncharacters, and an accent of its own.
+SCRIPTS = ["éÉüÜøØßÿàÀ", "σΣςωΩάΆ", "жЖяЯёЁџЏ", "他们为什么", "नमस्ते", "\U00010400\U0001f600", "aAbB09-é", "xn-é"]
+STRANGE = [0x80, 0x81, 0x3002, 0xFF0E, 0xFDD0, 0xFFFE, 0xFFFF, 0x1FFFF, 0x10FFFE, 0x10FFFF, 0x301, 0x200D, 0x130,
+           0x212A]
+
+# L7: labels whose form is about as long as it may be: how many times the letters may stand.
+LABELS_AT_THE_LIMIT = [("é", 57), ("É", 57), ("他", 57), ("\x80", 59), ("\U0010ffff", 55), ("b", 63)]
+
+# L23: what decodes to nothing: surrogates, past the last code point, sums larger than 32 and 64 bits, no digits, cut
+# short. What cannot be typed: capitals, hyphens at the ends. And what is shown: at the ends of what there is.
+CODES = [b"ib9b", b"zy0c", b"en32g", b"zzzzzzzz", b"9" * 13 + b"a", b"9" * 59, b"z" * 59, b"99999b", b"-abc", b"b",
+         b"9c", b"a-b-z", b"dca", b"a-hea", b"--bga", b"--9fa", b"a", b"hb9b", b"0y0c", b"dn32g"]
 
 # Times that messages and tables share, so that dates are equal, older and newer, and
 # gaps fall on both sides of 35 days (A3).
@@ -409,10 +428,10 @@ class Cases:
 
     def peer(self) -> bytes:
         """One of the few, in any spelling; seldom someone else with nearly the same name."""
-        address = self.one(PEERS)
-        if self.chance(0.65):
+        address = self.one(ASCII_PEERS if self.chance(0.5) else ACCENTED_PEERS + DOMAIN_PEERS)
+        if self.chance(0.6):
             return address
-        return self.near_miss(address) if self.chance(0.2) else self.spelled(address)
+        return self.near_miss(address) if self.chance(0.3) else self.spelled(address)
 
     def respelled(self, address: bytes) -> bytes:
         """An address that stands elsewhere: mostly as it is there, else in another spelling or nearly the same."""
@@ -420,20 +439,53 @@ class Cases:
             return address
         return self.near_miss(address) if self.chance(0.06) else self.spelled(address)
 
+    def someone(self) -> bytes:
+        """Mostly one of the few; seldom anybody, with a domain in another script."""
+        return self.international() if self.chance(0.06) else self.peer()
+
     def spelled(self, address: bytes) -> bytes:
-        """The address with letters in their other case, wherever they have one by L21; so it stays the same."""
+        """The address with letters in their other case, wherever they have one by L21, and labels coded or not by L22;
+        so it stays the same."""
         local, at, domain = address.partition(b"@")
         points = utf8.points(local)
+        labels = b".".join(self.spelled_label(label) for label in domain.split(b"."))
         if points is None:
-            return self.any_case(address)
-        return utf8.encoded([self.other_case(point) for point in points]) + at + self.any_case(domain)
+            return self.any_case(local) + at + labels
+        return utf8.encoded([self.other_case(point) for point in points]) + at + labels
+
+    def spelled_label(self, label: bytes) -> bytes:
+        """A label of the same form; the label itself where it has none."""
+        form = label_form(label)
+        if form is None:
+            return label
+        text = shown_label(form)
+        if text.isascii() or self.chance(0.4):
+            return self.any_case(form)
+        return utf8.encoded([self.other_case(point) for point in utf8.points(text)])
 
     def other_case(self, point: int) -> int:
         return self.one([point, CAPITALS.get(point, utf8.small(point))])
 
+    def near_label(self, domain: bytes) -> bytes:
+        """The domain with one letter of NEAR_MISSES in the place of another, if some label has such a letter."""
+        labels = [shown_label(label_form(label) or label) for label in domain.split(b".")]
+        places = [(at, place) for at, label in enumerate(labels)
+                  for place, point in enumerate(utf8.points(label) or []) if point in NEAR_MISSES]
+        if not places:
+            return domain
+        at, place = self.one(places)
+        points = utf8.points(labels[at])
+        points[place] = NEAR_MISSES[points[place]]
+        labels[at] = utf8.encoded(points)
+        return b".".join(labels)
+
     def near_miss(self, address: bytes) -> bytes:
         """Another address that looks much like the given one: by a letter of NEAR_MISSES, or by a fault."""
         local, at, domain = address.partition(b"@")
+        if self.chance(0.25):
+            near = local + at + self.near_label(domain)
+            if is_plain(near) and canonical(near) != canonical(address):
+                return near
         points = utf8.points(local)
         if points is None:
             # L21: the capitals beyond ASCII stay here, and what the longer map would make of them is another address.
@@ -462,6 +514,81 @@ class Cases:
         address = b".".join(utf8.encoded(points) for points in atoms) + b"@" + self.any_case(self.one([b"b", b"x.y"]))
         return self.faulty(address) if self.chance(0.3) else address
 
+    # Domains in other scripts.
+
+    def script_label(self) -> bytes:
+        """A label of one script, or of strange code points; as a rule one that has a form."""
+        if self.chance(0.2):
+            points = [self.one(STRANGE + EDGES) for _ in range(self.random.randint(1, 4))]
+        else:
+            script = self.one(SCRIPTS)
+            points = [ord(self.one(script)) for _ in range(self.random.randint(1, 6))]
+        return utf8.encoded(points)
+
+    def coded_label(self) -> bytes:
+        """A label that opens with `xn--`: a code, one that was changed, or none."""
+        kind = self.random.randrange(6)
+        if kind == 0:
+            code = self.one(CODES)
+        elif kind == 1:
+            code = self.some(punycode.DIGITS, 1, 8)
+        elif kind == 2:
+            # Anything that can be coded, surrogates, hyphens at the ends and what lies above U+10FFFF among it.
+            code = punycode.encode([self.one([self.random.randrange(0x80, 0x500), self.random.randrange(0x80, 0x120000),
+                                              self.one([0x2D, 0x41, 0x61, 0xD800, 0xDFFF, 0xC9, 0xE9])])
+                                    for _ in range(self.one([1, 2, 4]))])
+        else:
+            code = punycode.encode([utf8.small(point) for point in utf8.points(self.script_label())])
+            if kind == 3:
+                at = self.random.randrange(len(code))
+                code = code[:at] + self.some(punycode.DIGITS + b"-", 0, 2) + code[at + 1:]
+        return self.any_case(PREFIX + code)
+
+    def limit_label(self) -> bytes:
+        """A label whose form is about as long as it may be."""
+        letter, many = self.one(LABELS_AT_THE_LIMIT)
+        if self.chance(0.3):
+            # L22: the form of one letter of this kind among others in ASCII.
+            rest = LABEL_LIMIT - len(label_form(b"b" + letter.encode())) + 1
+            return b"b" * self.near(rest) + letter.encode()
+        return letter.encode() * self.near(many)
+
+    def bad_label(self) -> bytes:
+        """A label that is none: ill formed, hyphens at its ends, other signs, or nothing."""
+        label = self.script_label()
+        at = self.random.randint(0, len(label))
+        return self.one([label[:at] + self.one(FAULTS) + label[at:], label[:-1], b"-" + label, label + b"-",
+                         label + b"_", label + b" ", b"", PREFIX, b"_" + label, label + b"@" + label])
+
+    def international(self) -> bytes:
+        """An address with labels in other scripts, coded or not; plain as a rule."""
+        if self.chance(0.15):
+            return self.grown()
+        labels = []
+        for _ in range(self.one([1, 1, 2, 2, 3])):
+            kind = self.random.randrange(12)
+            if kind < 5:
+                labels.append(self.script_label())
+            elif kind < 8:
+                labels.append(self.coded_label())
+            elif kind == 8:
+                labels.append(self.limit_label())
+            elif kind == 9 and self.chance(0.6):
+                labels.append(self.bad_label())
+            else:
+                labels.append(self.any_case(self.one([b"b", b"example", b"x-y"])))
+        local = self.one([b"a", b"A", "É".encode(), "Ж.σ".encode(), b"\xc3\xff", b"a" * self.near(64)])
+        return local + b"@" + b".".join(labels)
+
+    def grown(self) -> bytes:
+        """An address whose form is about as long as it may be, and its own length another (L6)."""
+        label = self.one(["é", "éa", "É" * 20, "他们", "\U0010ffff" * 55, "é" * 57, "b" * 63, "xn--9ca"]).encode()
+        labels = [label] * (self.random.randint(190, 252) // (len(label_form(label)) + 1))
+        if self.chance(0.3):
+            labels[self.random.randrange(len(labels))] = self.any_case(label_form(label))
+        missing = ADDRESS_LIMIT - sum(len(label_form(one)) + 1 for one in labels)
+        return b"a" * self.near(missing) + b"@" + b".".join(labels)
+
     def edge_address(self) -> bytes:
         """An address at or beside one of its limits."""
         kind = self.random.randrange(5)
@@ -482,9 +609,11 @@ class Cases:
 
     def address(self) -> bytes:
         """An address argument: one of the few, any plain one, at a limit, or mutated."""
-        kind = self.random.randrange(12)
+        kind = self.random.randrange(16)
         if kind < 4:
             return self.peer()
+        if kind >= 12:
+            return self.sometimes_mutated(self.international(), 0.1)
         if kind >= 10:
             return self.accented()
         if kind < 6:
@@ -556,7 +685,7 @@ class Cases:
         count = self.one([1, 1, 1, 2, 2, 3, 4, 6])
         if kind == 1:
             return self.list_of([self.address() for _ in range(count)])
-        text = self.list_of([self.peer() for _ in range(count)])
+        text = self.list_of([self.someone() for _ in range(count)])
         return self.mutate(text) if kind == 2 else text
 
     def recipients(self) -> bytes:
@@ -577,7 +706,7 @@ class Cases:
     def field_value(self, address: bytes | None = None) -> bytes:
         """The value of an Autocrypt or Autocrypt-Gossip field, unfolded."""
         if address is None:
-            address = self.peer()
+            address = self.someone()
         pieces = [(b"addr", address)]
         if self.chance(0.4):
             value = self.one([b"mutual", b"mutual", b"mutual", b"nopreference", b"Mutual", b"", b"mutual x"])
@@ -742,7 +871,7 @@ class Cases:
         if self.chance(0.01):
             size = self.one([SLOTS_LIMIT - 1, SLOTS_LIMIT])
         else:
-            size = self.one([1, 1, 2, 2, 3, 4, 6, 8, 10, 12, 14])
+            size = self.one([1, 1, 2, 3, 4, 6, 8, 10, 12, 13, 14])
         full = self.chance(0.3)
         held: list[Entry | None] = []
         for place in range(size):
@@ -756,8 +885,8 @@ class Cases:
 
     def known(self) -> list[bytes]:
         """Canonical addresses for the slots of a table, in any order: the few, sometimes with a near miss of one."""
-        near = self.near_miss(self.one(ACCENTED_PEERS))
-        addresses = PEERS + [near] if self.chance(0.3) and is_canonical(near) else list(PEERS)
+        near = canonical(self.near_miss(self.one(2 * ACCENTED_PEERS + DOMAIN_PEERS)))
+        addresses = PEERS + [near] if self.chance(0.9) and is_canonical(near) else list(PEERS)
         self.random.shuffle(addresses)
         return addresses
 
@@ -800,7 +929,7 @@ class Cases:
             forms = self.one([["àáâãäåæç@x".encode()], ["éв%dа@x".encode() % place for place in range(32)]])
             addresses = [one for form in forms for one in self.old_spellings(form, SLOTS_LIMIT // len(forms))]
         else:
-            forms = self.random.sample(ACCENTED_PEERS, self.one([1, 1, 2, 3]))
+            forms = self.random.sample(ACCENTED_PEERS + DOMAIN_PEERS, self.one([1, 1, 2, 3]))
             addresses = [one for form in forms for one in self.old_spellings(form, self.one([1, 2, 2, 3, 3, 4, 5]))]
             addresses += self.random.sample(ASCII_PEERS, self.one([0, 1, 2]))
         self.random.shuffle(addresses)
@@ -829,9 +958,11 @@ class Cases:
             # Broken, as a rule by either rule.
             return octets[:at] + self.broken_slot() + octets[at + SLOT:]
         if kind == 3:
-            # An ASCII capital, which neither rule has; here and there beside one that is broken.
-            capital = self.entry(self.one([b"Alice@a.example", b"x@Y", "éVa@f.example".encode(),
-                                           "ÉVA@f.example".encode(), b"\xc3\x89V\xff@k.example"]))
+            # An ASCII capital, or a domain in another script, which neither rule has; here and there beside one that is
+            # broken.
+            capital = self.entry(self.one([b"Alice@a.example", b"x@Y", "éVa@f.example".encode(), "a@é".encode(),
+                                           "ÉVA@f.example".encode(), b"\xc3\x89V\xff@k.example",
+                                           "dora@bücher.example".encode(), b"dora@XN--bcher-kva.example"]))
             octets = octets[:at] + slot_of(capital) + octets[at + SLOT:]
             return octets + self.broken_slot() if self.chance(0.3) else octets
         if kind == 4:
@@ -845,12 +976,15 @@ class Cases:
     def broken_slot(self) -> bytes:
         """A slot that breaks one condition of soundness (T8), as a rule exactly one."""
         entry = self.entry(self.one(PEERS))
-        kind = self.random.randrange(16)
+        kind = self.random.randrange(17)
         if kind == 0:
             entry.address = self.address()[:256]
         elif kind == 15:
             # T20: a spelling of the old form; in one of a few cases it is the canonical one.
             entry.address = self.one(self.old_spellings(self.one(ACCENTED_PEERS), 8))
+        elif kind == 16:
+            # T8.2: a domain in another script as it is typed, which neither rule has; a code is canonical.
+            entry.address = self.one([self.spelled(self.one(DOMAIN_PEERS)), self.international()[:256]])
         elif kind == 12:
             # Mutual without a direct key.
             entry = Entry(entry.address, entry.last_seen, mutual=True)
@@ -923,7 +1057,7 @@ class Cases:
 
     def message(self) -> tuple[int, bytes, bytes, int]:
         """Receipt time, outer block, payload block and gossip setting."""
-        sender = self.peer()
+        sender = self.someone()
         lines = [self.field(b"From", self.list_of([sender]))]
         kind = self.random.randrange(24)
         if kind == 0:
@@ -933,7 +1067,7 @@ class Cases:
         dates = [self.spaced(self.date_of(self.close_moment()))] if self.chance(0.7) else self.dates()
         lines += [self.field(b"Date", value) for value in dates]
         lines += [self.field(b"Autocrypt", value) for value in self.field_values(sender)]
-        listed = [self.peer() for _ in range(self.random.randint(1, 4))]
+        listed = [self.someone() for _ in range(self.random.randint(1, 4))]
         if self.chance(0.8):
             lines.append(self.field(self.one([b"To", b"To", b"Cc", b"Reply-To"]), self.list_of(listed)))
         for name in (b"To", b"Cc", b"Reply-To"):
@@ -1039,3 +1173,9 @@ class Cases:
         """Address, key and length of the output."""
         address, key = self.address(), self.key()
         return address, key, self.room(len(write_gossip(address, key, 1 << 20)[1]))
+
+    def displaying(self) -> tuple[bytes, int]:
+        """Address and length of the output."""
+        kind = self.random.randrange(8)
+        address = self.address() if kind < 2 else self.peer() if kind < 4 else self.international()
+        return address, self.one([self.room(len(display(address, 1 << 20)[1])), 1024])

@@ -17,8 +17,9 @@ def octets(*texts: str) -> list[bytes]:
 
 # L8: an address, and its canonical form. The first ones had to be converted, the others are as they were.
 FORMS = [octets("zoË@x", "zoë@x"), octets("ÀÞ×ß@x", "àþ×ß@x"), octets("ΑΩΫ@x", "αωϋ@x"), octets("АЯЀЏ@x", "аяѐџ@x"),
-         octets("É.é@x-y.z", "é.é@x-y.z")]
-SAME = [b"a@b", *octets("é@x", "Ā@x", "×@x", "÷@x", "ẞ@x", "Ÿ@x", "Ά@x", "\u03a2@x", "Ѡ@x"), "Ö.".encode() + b"\xffa@x",
+         octets("É.é@x-y.z", "é.é@x-y.z"), octets("É@xn--9ca.xn--dca", "é@xn--9ca.xn--dca")]
+SAME = [b"a@b", b"a@xn--9ca", b"a@xn--dca", b"a@xn----bga", b"a@xn--zzzzzzzz",
+        *octets("é@x", "Ā@x", "×@x", "÷@x", "ẞ@x", "Ÿ@x", "Ά@x", "\u03a2@x", "Ѡ@x"), "Ö.".encode() + b"\xffa@x",
         "É".encode() + b"\xed\xa0\x80@x", "É".encode() + b"\xc1\x81@x", b"\xf4\x90\x80\x80" + "É@x".encode()]
 
 # One form, and spellings of it without an ASCII capital.
@@ -194,6 +195,9 @@ class Conversions:
         good, group = slot_of(Entry(A)), [slot_of(Entry(ONE, 1)), slot_of(Entry(FORM, 2))]
         for bad in (slot_of(Entry(b"A@b")), slot_of(Entry("éЖΩ@X".encode())), slot_of(Entry("éЖA@x".encode())),
                     slot_of(Entry(b"\xffA@x")), slot_of(Entry("a@é".encode())), slot_of(Entry(b"a")),
+                    slot_of(Entry("É@bücher".encode())), slot_of(Entry("É@XN--9ca".encode())),
+                    slot_of(Entry(b"a@\xff")), slot_of(Entry(b"a@" + b"b" * 64)),
+                    slot_of(Entry(b"a" * 63 + b"@" + b".".join([b"b" * 63] * 3))),
                     slot_of(Entry(TWO, 1, 2, b"k")), slot_of(Entry(TWO, TIME_LIMIT + 1)),
                     slot_of(Entry(TWO))[:-1] + b"\1", b"\0\0" + slot_of(Entry(TWO))[2:], bytes(SLOT - 1) + b"\1",
                     b"\xff" * SLOT, group[0], group[1], good):

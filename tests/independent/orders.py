@@ -16,10 +16,14 @@ ONE, TWO = b"one", b"two"
 # Someone whose name has accents, and two spellings from before change 2 (L8, T16).
 ZOE, OLD_ZOE, OTHER_ZOE = [text.encode() for text in ("zoëя@x.example", "zoËя@x.example", "zoëЯ@x.example")]
 
+# Someone whose domain is in another script, and how it is typed (L22).
+JAN = b"jan@xn--bcher-kva.example"
+TYPED_JAN = "jan@bücher.example".encode()
+
 
 def loud(address: bytes) -> bytes:
-    """The address in capitals, those beyond ASCII included."""
-    return address.decode().upper().encode()
+    """The address in capitals, those beyond ASCII included, its domain as it is typed."""
+    return (TYPED_JAN if address == JAN else address).decode().upper().encode()
 
 
 @dataclass
@@ -143,6 +147,20 @@ class EachPremise:
             for order in itertools.permutations(calls):
                 self.assertEqual(fetch(self.program, table, list(order)), ([number, number], table))
 
+    def test_two_spellings_of_one_domain_C11_L22(self):
+        # One person, in every order; and two keys at one date disagree, however the domain is spelled.
+        calls = [keyed(JAN, 1000, ONE), keyed(TYPED_JAN, 2000, TWO, True), telling(A, 1500, (loud(JAN), ONE)),
+                 telling(B, 1400, (TYPED_JAN, TWO))]
+        for order in itertools.permutations(calls):
+            numbers, table = fetch(self.program, table_of([None] * 3), list(order))
+            self.assertEqual(numbers, [0] * 4)
+            self.assertEqual(by_address(table), {JAN: Entry(JAN, 2000, 2000, TWO, True, 1500, ONE), A: Entry(A, 1500),
+                                                 B: Entry(B, 1400)})
+            for spelling in (JAN, TYPED_JAN, loud(JAN)):
+                self.assertEqual(advice(self.program, table, [spelling]), ((0, 0, 4), [TWO, b""]))
+        (_, table), (_, other) = self.orders([keyed(JAN, 1000, ONE), keyed(loud(JAN), 1000, TWO)], [None])
+        self.assertEqual((by_address(table)[JAN].direct_key, by_address(other)[JAN].direct_key), (TWO, ONE))
+
     def test_a_converted_table_C11(self):
         # T20: one from before change 2 is converted first; then the order does not matter.
         old = table_of([Entry(OLD_ZOE, 500, 500, ONE), Entry(ZOE, 900, gossip_timestamp=700, gossip_key=TWO), None])
@@ -156,7 +174,7 @@ class EachPremise:
                                                  A: Entry(A, 2000, 2000, ONE)})
 
 
-PEOPLE = (A, B, C, ZOE)
+PEOPLE = (A, B, C, ZOE, JAN)
 STRANGER = b"e@x.example"
 
 
@@ -174,22 +192,26 @@ class Agreeing:
         date = self.random.randrange(1, 6)
         sender = self.random.choice(PEOPLE)
         about = self.random.sample(PEOPLE, self.random.randrange(4))
-        to, payload = told(*((loud(address), b"told %d " % date + address) for address in about))
+        to, payload = told(*((self.spelled(address), b"told %d " % date + address) for address in about))
         # Its last field counts, and a field about someone else is not accepted.
         if about and self.one_in(3):
-            payload = gossip_field(about[0], b"unlike the next") + payload
+            payload = gossip_field(self.spelled(about[0]), b"unlike the next") + payload
         if self.one_in(4):
             payload += gossip_field(STRANGER, b"never heard")
         # The effective date is the Date, the receipt time without one, or the receipt time before it.
         sent, receipt = self.random.choice([(date, RECEIPT), (date, RECEIPT), (None, date), (date + 9, date)])
-        outer = mail(self.random.choice([sender, loud(sender)]), sent, to, *self.key_fields(sender, date))
+        outer = mail(self.spelled(sender), sent, to, *self.key_fields(sender, date))
         gossip = self.random.choice([UNSET, SKIP, 3, 255]) if self.one_in(6) else TAKE
         call = Call(outer, payload, gossip, receipt)
         return self.refused(call) if self.one_in(4) else call
 
+    def spelled(self, address: bytes) -> bytes:
+        """The address as it is stored, in capitals, or its domain coded in capitals; the same in every message (L8)."""
+        return self.random.choice([address, loud(address), address.decode().upper().encode()])
+
     def key_fields(self, sender: bytes, date: int) -> list[bytes]:
         """None, one that counts, alone or beside one that is not valid, or two, of which none counts."""
-        good = key_field(sender, b"sent %d " % date + sender, (date + sender[0]) % 2 == 0)
+        good = key_field(self.spelled(sender), b"sent %d " % date + sender, (date + sender[0]) % 2 == 0)
         return self.random.choice([[], [good], [good], [key_field(STRANGER, ONE), good], [good, good]])
 
     def refused(self, call: Call) -> Call:
@@ -228,9 +250,10 @@ class Agreeing:
         return table_of(slots)
 
     def lists(self) -> list[list[bytes]]:
-        """Recipients: one, all, and some with a stranger among them."""
-        return [[self.random.choice(PEOPLE)], self.random.sample(PEOPLE, len(PEOPLE)),
-                self.random.sample(PEOPLE + (STRANGER,), 2)]
+        """Recipients: one, all, and some with a stranger among them, in any spelling."""
+        return [[self.spelled(address) for address in some] for some in (
+            [self.random.choice(PEOPLE)], self.random.sample(PEOPLE, len(PEOPLE)),
+            self.random.sample(PEOPLE + (STRANGER,), 2))]
 
 
 class AnyOrder:

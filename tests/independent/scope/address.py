@@ -1,12 +1,15 @@
 """Plain addresses, their canonical form, and lists of them."""
 
-from scope import utf8
+from scope import punycode, utf8
 from scope.tokens import (QUOTE, atom_end, is_atom_octet, is_digit, is_letter, quoted, skip)
 
-# L6, L7: no more octets than these in an address, its local part and a label.
-ADDRESS_LIMIT = 254
+# L6, L7: no more octets than these in a local part, in the form of a label and in that of an address.
 LOCAL_LIMIT = 64
 LABEL_LIMIT = 63
+ADDRESS_LIMIT = 254
+
+# L22: what the form of a label opens with that is not in ASCII.
+PREFIX = b"xn--"
 
 LESS, GREATER, COMMA, COLON, SEMICOLON, DOT, AT = b"<>,:;.@"
 HYPHEN = ord("-")
@@ -14,14 +17,14 @@ HYPHEN = ord("-")
 
 def is_plain(octets: bytes) -> bool:
     """Whether the octets are a plain address and nothing else."""
-    # L6: an address is not longer than this.
-    if len(octets) > ADDRESS_LIMIT:
-        return False
     # L6: one `@`; neither side may hold another.
     if octets.count(b"@") != 1:
         return False
     local, domain = octets.split(b"@")
-    return is_local_part(local) and is_domain(domain)
+    if not is_local_part(local) or not is_domain(domain):
+        return False
+    # L6: the canonical form is not longer than this; the address itself may have any length.
+    return len(form_of(local, domain)) <= ADDRESS_LIMIT
 
 
 def is_local_part(octets: bytes) -> bool:
@@ -41,19 +44,42 @@ def is_domain(octets: bytes) -> bool:
 
 
 def is_label(octets: bytes) -> bool:
-    # L7: 1 to 63 letters, digits and hyphens, where the hyphens stand inside.
-    if not 1 <= len(octets) <= LABEL_LIMIT:
+    # L7: as it stands, one octet or more, and the hyphens stand inside.
+    if len(octets) == 0 or octets[0] == HYPHEN or octets[-1] == HYPHEN:
         return False
-    if octets[0] == HYPHEN or octets[-1] == HYPHEN:
+    # L7: letters, digits, hyphens, and what is beyond ASCII.
+    if not all(is_label_octet(octet) or octet >= 128 for octet in octets):
         return False
-    return all(is_letter(octet) or is_digit(octet) or octet == HYPHEN for octet in octets)
+    # L7: it has a form, and that one is not longer than this.
+    form = label_form(octets)
+    return form is not None and len(form) <= LABEL_LIMIT
+
+
+def is_label_octet(octet: int) -> bool:
+    return is_letter(octet) or is_digit(octet) or octet == HYPHEN
+
+
+def label_form(octets: bytes) -> bytes | None:
+    """The form of a label; None where it has none."""
+    # L22: in ASCII the capitals become small, also behind `xn--`, whether or not the rest decodes.
+    if all(octet < 128 for octet in octets):
+        return small_ascii(octets)
+    # L22: any other label is well formed (L20), as a whole and apart from its neighbours.
+    points = utf8.points(octets)
+    if points is None:
+        return None
+    # L22: Punycode of the code points in lower case. Nothing else is asked of them.
+    return PREFIX + punycode.encode([utf8.small(point) for point in points])
 
 
 def canonical(octets: bytes) -> bytes:
-    """The canonical form of a plain address."""
-    # L8: the local part by L20 and L21; of the domain the ASCII capitals alone.
-    local, at, domain = octets.partition(b"@")
-    return small_local_part(local) + at + small_ascii(domain)
+    """The canonical form of a plain address; any other text as it is."""
+    return form_of(*octets.split(b"@")) if is_plain(octets) else octets
+
+
+def form_of(local: bytes, domain: bytes) -> bytes:
+    # L8: the local part in lower case, the forms of the labels, and the dots between them.
+    return small_local_part(local) + b"@" + b".".join(label_form(label) for label in domain.split(b"."))
 
 
 def small_local_part(octets: bytes) -> bytes:
@@ -73,13 +99,29 @@ def small_ascii(octets: bytes) -> bytes:
 
 def is_canonical(octets: bytes) -> bool:
     # L8: a plain address that is its own canonical form.
-    return is_plain(octets) and canonical(octets) == octets
+    return is_plain(octets) and form_of(*octets.split(b"@")) == octets
 
 
 def is_old_canonical(octets: bytes) -> bool:
     """Whether the octets were a canonical address while only ASCII capitals were made small."""
-    # T16: a plain address without an ASCII capital; whatever becomes of L6 to L8, this stays.
-    return is_plain(octets) and small_ascii(octets) == octets
+    # T16: whatever becomes of L6 to L8, this stays. The address itself has 254 octets at most, and
+    # no ASCII capital.
+    if len(octets) > 254 or small_ascii(octets) != octets:
+        return False
+    # T16: one `@`, a local part of L6, and labels in ASCII.
+    if octets.count(b"@") != 1:
+        return False
+    local, domain = octets.split(b"@")
+    return is_local_part(local) and all(is_old_label(label) for label in domain.split(b"."))
+
+
+def is_old_label(octets: bytes) -> bool:
+    # T16: ASCII alone, hyphens inside, of one octet up to 63.
+    if not 1 <= len(octets) <= 63:
+        return False
+    if octets[0] == HYPHEN or octets[-1] == HYPHEN:
+        return False
+    return all(is_label_octet(octet) for octet in octets)
 
 
 def addresses(value: bytes) -> list[bytes] | None:
@@ -149,8 +191,8 @@ def address_end(s: bytes, at: int) -> int:
 
 
 def bare_address(s: bytes, at: int) -> Read | None:
-    # L12: the run is taken whole, and all of it has to be a plain address; the caller
-    # sees to what ends it. L11: so neither blank nor comment stands inside. L16: where it
+    # L12: the run is taken whole, octets of 128 and above in the domain too, and all of it has to be
+    # a plain address; the caller sees to what ends it. L11: so neither blank nor comment stands inside. L16: where it
     # is not plain the whole list is unreadable.
     end = address_end(s, at)
     if not is_plain(s[at:end]):

@@ -122,9 +122,9 @@ def is_sound_alone(slot: bytes, is_address: AddressTest = is_canonical) -> bool:
     # T8.1: it opens with the mark.
     if octets(slot, MARK_AT) != USED:
         return False
-    # T8.2: the address passes the test, that of a canonical one or the old one (T16). T9: both
-    # ask for a plain address, so it ends at 254 octets, though the room has 256; a length beyond
-    # the room gives all of the room, which is no plain address.
+    # T8.2: the address passes the test, that of a canonical one or the old one (T16). T9: by both
+    # it ends at 254 octets, though the room has 256; a length beyond the room gives all of the
+    # room, which is too long.
     if not is_address(address_of(slot)):
         return False
     # T8.4: no other bit is set, and the unused octets are zero.

@@ -13,22 +13,25 @@ class Form:
     most: int
 
 
+# L20: these are no code points of a text.
+FIRST_SURROGATE = 0xD800
+LAST_SURROGATE = 0xDFFF
+
+# L20: nor is any above this one.
+LAST_POINT = 0x10_FFFF
+
 # L20: one to four octets. No code point is written in more than it needs, and none lies above
 # U+10FFFF.
 FORMS = (
     Form(1, 0b0, 7, 0x0, 0x7F),
     Form(2, 0b110, 5, 0x80, 0x7FF),
     Form(3, 0b1110, 4, 0x800, 0xFFFF),
-    Form(4, 0b11110, 3, 0x1_0000, 0x10_FFFF),
+    Form(4, 0b11110, 3, 0x1_0000, LAST_POINT),
 )
 
 # Each octet behind the first one has these upper bits, and six lower ones of the code point.
 BEHIND = 0b10
 BEHIND_BITS = 6
-
-# L20: these are no code points of a text.
-FIRST_SURROGATE = 0xD800
-LAST_SURROGATE = 0xDFFF
 
 # L21: the first and the last of each range of capitals, and how far off their small letters are.
 CAPITALS = (

@@ -1,4 +1,4 @@
-"""L2 to L21: plain addresses, their canonical form, and lists."""
+"""L2 to L22: plain addresses, their canonical form, and lists."""
 
 import unittest
 
@@ -20,6 +20,7 @@ class Plain(unittest.TestCase):
 
     def test_plain_addresses_L6_L7(self):
         for text in [b"a@b", b"a@b.example", b"A.B@C.D", b"1@2", b"a+b@c", b"a=b@c", b"a@b--c",
+                     b"a@\xc3\xa9", b"a@x.\xc3\xa9-y",
                      b"a@1-2.x", b"\xc3\xa9@b", b"\xff@b", b"!#$%&'*+-/=?^_`{|}~@b", b"a.b.c@d",
                      b"-@b", b"-a-@b"]:
             self.assertTrue(is_plain(text), text)
@@ -27,7 +28,8 @@ class Plain(unittest.TestCase):
     def test_others_L6_L7(self):
         for text in [b"", b"a", b"@", b"a@", b"@b", b"a@b@c", b"a@@b", b".a@b", b"a.@b", b"a..b@c",
                      b"a@.b", b"a@b.", b"a@b..c", b"a@-b", b"a@b-", b"a@b-.c", b"a@b.-c", b"a@-",
-                     b"a@b_c", b"a@\xc3\xa9", b"a@[1.2.3.4]", b'"a"@b', b"a b@c", b" a@b", b"a@b ",
+                     b"a@b_c", b"a@\xc3\xa9_", b"a@-\xc3\xa9", b"a@\xc3\xa9-", b"a@\xc3\xa9..b", b"a@\xc3",
+                     b"a@xn--", b"a@[1.2.3.4]", b'"a"@b', b"a b@c", b" a@b", b"a@b ",
                      b"<a@b>", b"a(c)@b", b"a@b(c)", b"a@b\r", b"a\x00@b", b"a@b\n", b"a,b@c",
                      b"a:b@c", b"a;b@c", b"a\\b@c", b"a[b@c", b"a)b@c"]:
             self.assertFalse(is_plain(text), text)
@@ -45,6 +47,8 @@ class Plain(unittest.TestCase):
             good = octet in LETTERS + DIGITS
             self.assertEqual(is_plain(b"a@" + one), good, octet)
             self.assertEqual(is_plain(b"a@x" + one + b"y"), good or octet in b"-.", octet)
+            # L20: behind an octet that asks for one more, those that may follow.
+            self.assertEqual(is_plain(b"a@\xc3" + one), 128 <= octet < 192, octet)
 
     def test_local_part_of_64_and_65_octets_L6(self):
         self.assertTrue(is_plain(b"a" * 64 + b"@b"))
@@ -81,6 +85,8 @@ class Canonical(unittest.TestCase):
             expected = bytes([octet + 32]) if 65 <= octet <= 90 else one
             self.assertEqual(canonical(one + b"@b"), expected + b"@b", octet)
             self.assertEqual(canonical(b"a@b" + one), b"a@b" + expected, octet)
+            # A text that is not plain is left as it is.
+            self.assertEqual(canonical(b"A@B_" + one), b"A@B_" + one, octet)
 
     def test_the_table_of_L8(self):
         for given, form in [(b"Bob.B@X.Example", b"bob.b@x.example"),
@@ -88,7 +94,9 @@ class Canonical(unittest.TestCase):
                             ("ΑΩΫ@x".encode(), "αωϋ@x".encode()),
                             ("АЯЀЏ@x".encode(), "аяѐџ@x".encode()),
                             ("Ā@x".encode(), "Ā@x".encode()),
-                            ("Ö.".encode() + b"\xffA@x", "Ö.".encode() + b"\xffa@x")]:
+                            ("Ö.".encode() + b"\xffA@x", "Ö.".encode() + b"\xffa@x"),
+                            ("A@BÜCHER.Example".encode(), b"a@xn--bcher-kva.example"),
+                            ("Ö@Ö".encode(), "ö@xn--nda".encode())]:
             self.assertTrue(is_plain(given), given)
             self.assertEqual(canonical(given), form, given)
             self.assertTrue(is_canonical(form), form)
@@ -126,7 +134,8 @@ class Canonical(unittest.TestCase):
 
     def test_ascii_addresses_are_as_ever_L8(self):
         cases = Cases(8)
-        drawn = [address for address in (cases.address() for _ in range(3000)) if address.isascii()]
+        drawn = [address for address in (cases.address() for _ in range(4000)) if address.isascii()]
+        drawn = [address for address in drawn if is_plain(address)]
         self.assertGreater(len(drawn), 1000)
         for address in drawn:
             self.assertEqual(canonical(address), address.lower(), address)
@@ -140,6 +149,8 @@ class Canonical(unittest.TestCase):
         for _ in range(6000):
             address = cases.accented() if cases.chance(0.7) else cases.peer()
             local, _, domain = address.partition(b"@")
+            if not domain.isascii() or not is_plain(address):
+                continue
             try:
                 form = local.decode("utf-8").translate(letters).encode("utf-8") + b"@" + domain.lower()
             except UnicodeDecodeError:
@@ -154,10 +165,13 @@ class Canonical(unittest.TestCase):
         self.assertEqual(answers, {(False, False), (False, True), (True, True)})
 
     def test_the_old_rule_T16(self):
-        for text in [b"a@b", "é@b".encode(), "É@b".encode(), "ΑЯ.ß@b".encode(), b"\xff@b", b"a" * 64 + b"@b"]:
+        domain = b".".join([b"b" * 63] * 3)
+        for text in [b"a@b", "é@b".encode(), "É@b".encode(), "ΑЯ.ß@b".encode(), b"\xff@b", b"a" * 64 + b"@b",
+                     b"a@" + b"b" * 63, b"a" * 62 + b"@" + domain, b"a@xn--9ca", b"a@xn--dca", b"a@b--c"]:
             self.assertTrue(is_old_canonical(text), text)
-        for text in [b"A@b", b"a@B", "Éa.Z@b".encode(), b"\xffA@b", b"", b"a", b"a@b.", b"a" * 65 + b"@b",
-                     "a@é".encode()]:
+        for text in [b"A@b", b"a@B", "Éa.Z@b".encode(), b"\xffA@b", b"", b"a", b"a@b.", b"a" * 65 + b"@b", b"a@b@c",
+                     b"a@" + b"b" * 64, b"a" * 63 + b"@" + domain, b"a@-b", b"a@b-", b"a@b_", b"a@", b"@b",
+                     "a@é".encode(), "a@bücher.example".encode(), b"a@\xff", b"a@xn--"]:
             self.assertFalse(is_old_canonical(text), text)
 
 
@@ -194,9 +208,11 @@ class Single(unittest.TestCase):
 
     def test_what_ends_an_address_L12(self):
         for text in [b'a@b"x"', b"a@b_", b"a@b.", b"a@b<c@d>", b"a@b:", b"a@b;", b"a@b>", b"a@b[x]",
-                     b"a@b@c", b"a@b\\x", b"a@b)", b"a@b\r", b"a@b\x00", b"a@b\xc3\xa9", b"a@b-",
+                     b"a@b@c", b"a@b\\x", b"a@b)", b"a@b\r", b"a@b\x00", b"a@b\xc3", b"a@b\xc3\xa9-", b"a@b-",
                      b"<a@b"]:
             self.assertIsNone(addresses(text), text)
+        # Octets of 128 and above go on with the domain.
+        self.assertEqual(addresses(b"a@b\xc3\xa9"), [b"a@b\xc3\xa9"])
         for octet in range(256):
             # A letter or a digit goes on with the label.
             good = octet in LETTERS + DIGITS
@@ -212,7 +228,7 @@ class Single(unittest.TestCase):
 
     def test_forms_that_are_unreadable_L15(self):
         for text in [b"<>", b"< >", b"Bob <>", b"<@r:a@b>", b"<@r,@s:a@b>", b'"a"@b', b'<"a"@b>',
-                     b'"a".b@c', b'a."b"@c', b"a@[1.2.3.4]", b"<a@[1.2.3.4]>", b"a@\xc3\xa9",
+                     b'"a".b@c', b'a."b"@c', b"a@[1.2.3.4]", b"<a@[1.2.3.4]>", b"a@\xc3",
                      b"<a>", b"<a@>", b"<@b>", b"<a@b", b"a@b>", b"<<a@b>>", b"<a@b>>", b"<a@b,c@d>",
                      b"<Bob a@b>", b"a..b@c", b".a@b", b"a.@b", b"a@-b", b"<a@b>x", b"<a@b>.", b"@",
                      b"<", b">", b"\"", b"(", b")", b"\\", b"a", b".", b"Bob <a@b", b"\"Bob <a@b>",
@@ -220,7 +236,7 @@ class Single(unittest.TestCase):
             self.assertIsNone(addresses(text), text)
 
     def test_one_address_that_is_no_plain_one_hides_the_rest_L16(self):
-        for bad in [b"a" * 65 + b"@b", b'"q"@b', b"a@[1.2.3.4]", b"a@\xc3\xa9.x",
+        for bad in [b"a" * 65 + b"@b", b'"q"@b', b"a@[1.2.3.4]", b"a@\xc3.x", b"a@" + b"\xc3\xa9" * 58,
                     b"a@" + b"b" * 64]:
             self.assertIsNone(addresses(b"x@y, " + bad))
             self.assertIsNone(addresses(bad + b", x@y"))

@@ -11,8 +11,8 @@ from collections import Counter
 
 import scope
 from cases import CAPITALS, NEAR_MISSES, PEERS, Cases
-from scope import (address, base64, conversion, date, header, keyfield, listing, processing, recommending, table,
-                   tokens, utf8, writing)
+from scope import (address, base64, conversion, date, displaying, header, keyfield, listing, processing, punycode,
+                   recommending, table, tokens, utf8, writing)
 from scope.processing import SKIP, TAKE, UNSET
 from scope.table import SLOT
 
@@ -23,7 +23,8 @@ class Determinism(unittest.TestCase):
     METHODS = ["base64_text", "comment_text", "quoted_text", "runs", "date_value", "dates",
                "header_block", "content_type", "address", "accented", "address_list", "recipients", "field_value",
                "key", "table", "broken_slot", "old_table", "listing_input", "message", "processing", "recommending",
-               "target", "one_slot", "writing", "writing_gossip", "conversion"]
+               "target", "one_slot", "writing", "writing_gossip", "conversion", "international", "grown",
+               "script_label", "coded_label", "limit_label", "bad_label", "someone", "displaying"]
 
     def drawn(self, seed: int) -> list:
         cases = Cases(seed)
@@ -281,6 +282,21 @@ class Calls(unittest.TestCase):
         for spare in (-1, 0, 1):
             self.assertGreater(room[spare], 3)
 
+    def test_displaying(self):
+        cases = Cases(SEED)
+        answers, rooms = Counter(), Counter()
+        for _ in range(2500):
+            octets, room = cases.displaying()
+            number, text = displaying.display(octets, room)
+            if number != 0:
+                answers[number] += 1
+                continue
+            answers["decoded" if text != address.canonical(octets) else "as the form"] += 1
+            rooms[min(room - len(text), 2)] += 1
+        self.assertEqual(set(answers), {9, 12, "decoded", "as the form"})
+        self.assertGreater(min(answers.values()), 200, answers)
+        self.assertGreater(min(rooms[spare] for spare in (0, 1, 2)), 20, rooms)
+
     def test_listing(self):
         cases = Cases(SEED)
         inputs = [cases.listing_input() for _ in range(600)]
@@ -296,8 +312,12 @@ class Calls(unittest.TestCase):
 
 
 def sort_of(octets: bytes) -> str:
-    """Which sort of spelling an address is, as the rules of names with accents tell them apart (L8, L20, L21)."""
-    local = octets.split(b"@")[0]
+    """Which sort of spelling an address is, as the rules of names and domains tell them apart (L8, L20 to L22)."""
+    local, domain = octets.split(b"@")
+    if not domain.isascii():
+        return "another script"
+    if b"xn--" in domain.lower():
+        return "coded"
     points = utf8.points(local)
     if points is None:
         return "ill formed"
@@ -308,7 +328,7 @@ def sort_of(octets: bytes) -> str:
     return "ASCII" if octets.isascii() else "accents"
 
 
-SORTS = {"ill formed", "near miss", "equal by the longer map", "ASCII", "accents"}
+SORTS = {"ill formed", "near miss", "equal by the longer map", "ASCII", "accents", "another script", "coded"}
 
 
 class Spellings(unittest.TestCase):
@@ -414,8 +434,8 @@ class Spellings(unittest.TestCase):
             if table.check(octets)[0] == 2:
                 slot = table.slots(octets)[table.check(octets)[1]]
                 broken[address.is_old_canonical(table.address_of(slot)), table.check_by_old_rule(octets)[0]] += 1
-        self.assertEqual(set(sound), SORTS - {"equal by the longer map"})
-        self.assertEqual(set(old), SORTS - {"near miss"})
+        self.assertEqual(set(sound), SORTS - {"equal by the longer map", "another script"})
+        self.assertEqual(set(old), SORTS - {"near miss", "another script"})
         self.assertGreater(min(sound.values()), 40, sound)
         self.assertGreater(min(old.values()), 40, old)
         # T20: tables that the old rule alone has for sound.
@@ -432,6 +452,124 @@ class Spellings(unittest.TestCase):
         points = {point for octets in accented for point in utf8.points(octets.split(b"@")[0]) or []}
         self.assertLessEqual({0xC0, 0xD7, 0xDE, 0xDF, 0x390, 0x391, 0x3A2, 0x3AB, 0x3AC, 0x3FF, 0x400, 0x40F, 0x410,
                               0x42F, 0x430, 0x178, 0x386, 0x460, 0x1E9E, 0xD7FF, 0xE000, 0x10FFFF}, points)
+
+
+def decoded_to(label: bytes) -> str:
+    """What becomes of the form of a label where an address is shown (L23, W12)."""
+    form = address.label_form(label)
+    if not form.startswith(b"xn--"):
+        return "no code"
+    points = punycode.decode(form[4:])
+    if points is None:
+        return "nothing"
+    if displaying.shown_label(form) != form:
+        return "shown"
+    if points[0] == ord("-") or points[-1] == ord("-"):
+        return "a hyphen at an end"
+    return "a capital" if any(utf8.small(point) != point for point in points) else "other"
+
+
+def without_form(label: bytes) -> str:
+    """Why a label is none (L7, L20, L22)."""
+    if label[:1] == b"-" or label[-1:] == b"-" or label == b"":
+        return "hyphens, or nothing"
+    form = address.label_form(label)
+    if form is None:
+        return "ill formed"
+    return "too long" if len(form) > 63 else "other signs"
+
+
+class Domains(unittest.TestCase):
+    """L6, L7, L22, L23, W12: each sort of label is met, and both sides of each limit."""
+
+    def test_labels(self):
+        cases = Cases(SEED)
+        codes, faults, lengths, beyond = Counter(), Counter(), Counter(), Counter()
+        for _ in range(4000):
+            octets = cases.international()
+            for label in octets.split(b"@", 1)[1].split(b"."):
+                if not address.is_label(label):
+                    faults[without_form(label)] += 1
+                    continue
+                codes[decoded_to(label)] += 1
+                lengths[len(address.label_form(label))] += 1
+                beyond[label.isascii(), label.lower().startswith(b"xn--")] += 1
+        self.assertEqual(set(codes), {"no code", "nothing", "shown", "a hyphen at an end", "a capital"})
+        self.assertGreater(min(codes.values()), 40, codes)
+        self.assertEqual(set(faults), {"hyphens, or nothing", "ill formed", "too long", "other signs"})
+        self.assertGreater(min(faults.values()), 40, faults)
+        self.assertGreater(min(lengths[length] for length in (5, 7, 62, 63)), 10, lengths)
+        # L22: labels beyond ASCII that open with `xn--` themselves are seldom, but there.
+        self.assertGreater(beyond[False, False], 1000)
+        self.assertGreater(beyond[True, True], 1000)
+
+    def test_labels_at_the_limit_L7(self):
+        cases = Cases(SEED)
+        lengths = Counter(len(address.label_form(cases.limit_label())) for _ in range(600))
+        self.assertGreater(min(lengths[length] for length in (62, 63, 64)), 60, lengths)
+
+    def test_addresses_at_the_limit_L6(self):
+        cases = Cases(SEED)
+        lengths, changed = Counter(), Counter()
+        for _ in range(800):
+            octets = cases.grown()
+            local, domain = octets.split(b"@")
+            form = local + b"@" + b".".join(address.label_form(label) for label in domain.split(b"."))
+            lengths[len(form)] += 1
+            changed[(len(form) > len(octets)) - (len(form) < len(octets))] += 1
+        self.assertGreater(min(lengths[length] for length in (253, 254, 255)), 60, lengths)
+        self.assertGreater(min(changed[one] for one in (-1, 0, 1)), 60, changed)
+
+    def test_what_code_points_are_met_L22(self):
+        cases = Cases(SEED)
+        points = {point for _ in range(3000) for point in utf8.points(cases.script_label())}
+        self.assertLessEqual({0x80, 0x3002, 0xFFFE, 0x10FFFF, 0xD7FF, 0xE000, 0xC9, 0xE9, 0x4ED6, 0x2D}, points)
+
+    def test_another_spelling_is_the_same_address_L22(self):
+        cases = Cases(SEED)
+        changed = Counter()
+        for _ in range(3000):
+            octets = cases.international()
+            other = cases.spelled(octets)
+            if address.is_plain(octets):
+                self.assertEqual(address.canonical(other), address.canonical(octets), octets)
+                coded = octets.split(b"@")[1].isascii(), other.split(b"@")[1].isascii()
+                changed[coded] += 1
+        self.assertEqual(len(changed), 4)
+        self.assertGreater(min(changed.values()), 100, changed)
+
+    def test_both_spellings_in_one_message_L22(self):
+        """Fields that count, and gossip that is accepted, where the domain is coded in one place alone."""
+        met = Counter()
+        cases = Cases(SEED)
+        for _ in range(3000):
+            _, outer, payload, _ = cases.message()
+            outer, payload = header.fields(outer), header.fields(payload)
+            sender = None if outer is None else processing.sender_of(outer)
+            if sender is None or payload is None:
+                continue
+            spelled = address.addresses(header.values_of(outer, b"From")[0])[0]
+            field = keyfield.counted(header.values_of(outer, b"Autocrypt"), sender)
+            values = b";".join(header.values_of(outer, b"Autocrypt"))
+            if field is not None and not spelled.split(b"@")[1].isascii():
+                met["addr coded" if b"xn--" in values.lower() else "both typed"] += 1
+            for field in processing.accepted_gossip(outer, payload):
+                met["gossip about a domain"] += b"xn--" in field.address
+        self.assertGreater(min(met[kind] for kind in ("addr coded", "both typed")), 10, met)
+        self.assertGreater(met["gossip about a domain"], 100, met)
+
+    def test_stored_domains_T8(self):
+        # T8.2: as they are typed, they make a slot broken, by the old rule too.
+        cases = Cases(SEED)
+        met = Counter()
+        for _ in range(3000):
+            slot = cases.broken_slot()
+            domain = table.address_of(slot).partition(b"@")[2]
+            if b"xn--" in domain or not domain.isascii():
+                met[domain.isascii(), table.check(slot)[0], table.check_by_old_rule(slot)[0]] += 1
+        self.assertGreater(met[False, 2, 2], 40, met)
+        self.assertGreater(met[True, 0, 0], 40, met)
+        self.assertEqual(met[False, 0, 0] + met[False, 2, 0], 0, met)
 
 
 class Conversions(unittest.TestCase):
@@ -538,6 +676,11 @@ class EveryLine(unittest.TestCase):
             (200, recommending.target_key, cases.target),
             (60, table.entry_numbers, cases.one_slot),
             (100, address.is_canonical, lambda: (cases.accented(),)),
+            (300, displaying.display, cases.displaying),
+            (300, displaying.display, lambda: (cases.international(), 1024)),
+            (200, address.is_old_canonical, lambda: (cases.edge_address(),)),
+            (300, punycode.decode, lambda: (cases.coded_label()[4:],)),
+            (20, punycode.decode, lambda: (cases.script_label() + b"-9ca",)),
             (100, conversion.convert, lambda: (cases.conversion(),)),
             (60, writing.write_autocrypt, cases.writing),
             (60, writing.write_gossip, cases.writing_gossip),

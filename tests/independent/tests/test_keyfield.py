@@ -126,7 +126,7 @@ class Values(unittest.TestCase):
 
     def test_addr_is_a_plain_address_F6(self):
         for text in [b"", b"a", b"a@", b"@b", b"a@b, c@d", b"Bob <a@b>", b"a @b", b"a@b.", b'"a"@b',
-                     b"a" * 65 + b"@b", b"a@" + b"b" * 64, b"a@\xc3\xa9"]:
+                     b"a" * 65 + b"@b", b"a@" + b"b" * 64, b"a@\xc3", b"a@" + b"\xc3\xa9" * 58]:
             self.assertIsNone(read(b"addr=" + text + b"; keydata=Zm9v"), text)
         self.assertEqual(read(b"addr=" + b"a" * 64 + b"@b; keydata=Zm9v"),
                          Field(b"a" * 64 + b"@b", False, b"foo"))
@@ -134,6 +134,8 @@ class Values(unittest.TestCase):
     def test_addr_is_canonical_F11(self):
         self.assertEqual(read(b"addr=A.\xc3\x89@B.C; keydata=Zm9v").address, b"a.\xc3\xa9@b.c")
         self.assertEqual(read(b"addr=A.\xc3\x89.\xff@B.C; keydata=Zm9v").address, b"a.\xc3\x89.\xff@b.c")
+        self.assertEqual(read("addr=A@BÜCHER.C; keydata=Zm9v".encode()).address, b"a@xn--bcher-kva.c")
+        self.assertEqual(len(read(b"addr=a@" + b"\xc3\xa9" * 57 + b"; keydata=Zm9v").address), 65)
 
     def test_prefer_encrypt_F7(self):
         for value, mutual in [(b"mutual", True), (b"Mutual", False), (b"MUTUAL", False), (b"", False),
@@ -184,6 +186,10 @@ class Counting(unittest.TestCase):
         for addr, sender in [("É@b", "é@b"), ("é@b", "É@b"), ("ЁΣ@b", "ёσ@B"), ("×@b", "×@b")]:
             field = counted([f"addr={addr}; keydata=Zm9v".encode()], sender.encode())
             self.assertEqual(field, Field(sender.lower().encode(), False, b"foo"))
+        # L22: in domains too, coded or not.
+        for addr, sender in [("a@É", "a@xn--9ca"), ("A@XN--9CA", "a@é"), ("a@é", "a@É")]:
+            field = counted([f"addr={addr}; keydata=Zm9v".encode()], sender.encode())
+            self.assertEqual(field, Field(b"a@xn--9ca", False, b"foo"))
         for addr, sender in [("×@b", "÷@b"), ("Ÿ@b", "ÿ@b"), ("ẞ@b", "ß@b"), ("Σ@b", "ς@b"), ("Ά@b", "ά@b")]:
             self.assertIsNone(counted([f"addr={addr}; keydata=Zm9v".encode()], sender.encode()), addr)
         self.assertIsNone(counted([b"addr=\xc3\x89\xff@b; keydata=Zm9v"], b"\xc3\xa9\xff@b"))

@@ -159,6 +159,11 @@ class Soundness(unittest.TestCase):
             self.broken(slot_of(Entry(text)))
         for text in [b"a@b", b"a" * 64 + b"@b", b"a@" + b"b" * 63, b"\xc3\xa9@b", b"\xff@b"] + NEAR:
             self.sound(slot_of(Entry(text)))
+        # L22: behind the `@` it is in ASCII; what the labels decode to is not asked.
+        for text in [b"a@\xc3\xa9", b"a@\xc3", b"a@b.\xc3\xa9", b"a@XN--9ca", b"a@xn--", "a@他".encode()]:
+            self.broken(slot_of(Entry(text)))
+        for text in [b"a@xn--9ca", b"a@xn--dca", b"a@xn----bga", b"a@xn--zzzzzzzz", b"a@xn--" + b"b" * 59]:
+            self.sound(slot_of(Entry(text)))
 
     def test_the_address_length_T9(self):
         domain = b".".join([b"b" * 63] * 3)
@@ -331,7 +336,8 @@ class Tables(unittest.TestCase):
         self.assertEqual(check_by_old_rule(table_of([Entry(text) for text in OLD + NEAR])), (0, 0))
         self.assertEqual(check_by_old_rule(table_of([Entry("é@b".encode()), None, Entry("É@b".encode())])), (0, 0))
         self.assertEqual(check_by_old_rule(table_of([Entry("É@b".encode()), None, Entry("É@b".encode())])), (2, 2))
-        for text in [b"A@b", "É@B".encode(), "ÉA@b".encode(), b"a", b"a@b.", b"\xffA@b", "a@é".encode()]:
+        for text in [b"A@b", "É@B".encode(), "ÉA@b".encode(), b"a", b"a@b.", b"\xffA@b", "a@é".encode(),
+                     b"a@" + b"b" * 64, b"a" * 63 + b"@" + b".".join([b"b" * 63] * 3), b"a@xn--", b"a@\xff"]:
             self.assertEqual(check_by_old_rule(table_of([SENDER, Entry(text)])), (2, 1), text)
         # R1
         for length in (0, 1, SLOT - 1, SLOT + 1, 257 * SLOT):
@@ -381,6 +387,12 @@ class Tables(unittest.TestCase):
         self.assertIsNone(find(held, "é".encode() + b"\xff@b"))
         self.assertIsNone(find(held, "Жê@b".encode()))
         self.assertEqual(free_slots(held), [0, 2])
+
+    def test_finding_a_domain_in_another_script_T15_L22(self):
+        held = [Entry(b"a@xn--9ca"), None, Entry(b"a@xn--dca")]
+        for spelling, index in [("a@é", 0), ("A@É", 0), ("a@XN--9CA", 0), ("a@xn--DCA", 2), ("a@ê", None),
+                                ("a@é-", None)]:
+            self.assertEqual(find(held, spelling.encode()), index, spelling)
 
     def test_there_and_back_T3(self):
         source = random.Random(3)

@@ -28,7 +28,9 @@ class Fields(unittest.TestCase):
         self.assertEqual(write_gossip(b"BOB@B.Example", b"foo", 1000), (0, GOSSIP))
         # L8: letters beyond ASCII too, where the local part is well formed.
         for given, form in [(b"\xc3\x89@B", b"\xc3\xa9@b"), ("ЖΣ×Ÿ@b".encode(), "жσ×Ÿ@b".encode()),
-                            (b"\xc3\x89\xffA@B", b"\xc3\x89\xffa@b")]:
+                            (b"\xc3\x89\xffA@B", b"\xc3\x89\xffa@b"),
+                            ("A@BÜCHER.Example".encode(), b"a@xn--bcher-kva.example"),
+                            (b"a@XN--BCHER-KVA", b"a@xn--bcher-kva")]:
             self.assertEqual(write_gossip(given, b"foo", 1000),
                              (0, b"Autocrypt-Gossip: addr=" + form + b"; keydata=\r\n Zm9v\r\n"))
             self.assertEqual(write_autocrypt(given, b"foo", False, 1000),
@@ -62,7 +64,7 @@ class Refusals(unittest.TestCase):
 
     def test_9_for_both_writers_R9(self):
         for address in [b"", b"a", b"a@", b"a@b@c", b"a" * 65 + b"@b", b"a@" + b"b" * 64,
-                        b"a@\xc3\xa9", b'"a"@b', b"a@[1.2.3.4]"]:
+                        b"a@\xc3", b"a@" + b"\xc3\xa9" * 58, b"a@-\xc3\xa9", b'"a"@b', b"a@[1.2.3.4]"]:
             self.assertEqual(write_autocrypt(address, b"foo", True, 1000), (9, b""), address)
             self.assertEqual(write_gossip(address, b"foo", 1000), (9, b""), address)
 
@@ -98,6 +100,13 @@ class Refusals(unittest.TestCase):
                 self.assertEqual(write(0), (12, b""))
         self.assertEqual(write_autocrypt(b"bob@b.example", b"foo", True, 71), (0, EXAMPLE))
         self.assertEqual(write_autocrypt(b"bob@b.example", b"foo", True, 70), (12, b""))
+        # L8: the form is what is written, be it longer than the address or shorter.
+        for label, length in (("é", 7), ("他" * 57, 63)):
+            number, field = write_gossip(b"a@" + label.encode(), b"k", 9000)
+            rest = len(b"Autocrypt-Gossip: addr=a@; keydata=\r\n aw==\r\n")
+            self.assertEqual((number, len(field)), (0, rest + length))
+            self.assertEqual(write_gossip(b"a@" + label.encode(), b"k", len(field)), (0, field))
+            self.assertEqual(write_gossip(b"a@" + label.encode(), b"k", len(field) - 1), (12, b""))
 
     def test_the_longest_field_W6(self):
         address = b"a" * 62 + b"@" + b".".join([b"b" * 63] * 3)
