@@ -8,7 +8,8 @@ from pathlib import Path
 ROOT = Path(__file__).resolve().parents[2]
 sys.path.insert(0, str(ROOT / "tests" / "independent"))
 
-from scope import base64, date, listing, table, tokens  # noqa: E402
+import rfc3492  # noqa: E402
+from scope import base64, date, listing, punycode, table, tokens, utf8  # noqa: E402
 
 CRATES = ROOT / "crates"
 
@@ -52,6 +53,47 @@ DATES = [
     b"(a)1(b)Jan(c)2001(d)00(e):(f)00(g):(h)00(i)+0000(j)", b"1 Jan 2001 00:00 GMT (\x01)", b"1 Jan 2001 00:00 GMT\r", b"",
 ]
 
+# How many code points a case may have, and how many octets their code.
+ROOM = 256
+
+# L20, L21, L23: texts that are coded
+SCRIPTS = [utf8.encoded(rfc3492.points(letter)) for letter in rfc3492.SAMPLES] + [text.encode() for text in [
+    "", "a", "-", "--", "A", "bücher", "BÜCHER", "ö", "é", "É", "ÉÉ", "é-é", "-é", "xn--é", "straße", "STRAẞE", "i\u0307", "\u0130",
+    # both ends of each range of capitals, and what stands beside and between them
+    "@AZ[", "¿ÀÞß", "Ö×Ø", "ΐΑΫά", "Ρ\u03a2Σ", "ϿЀЏАЯа", "ѐџ", "Ā", "\uff21", "\U00010400",
+    # both ends of each number of octets, and beside the surrogates
+    "\x01", "\x7f", "\x80", "\u07ff", "\u0800", "\ud7ff", "\ue000", "\uffff", "\U00010000", "\U0010ffff", "\U0010ffff\x01",
+    # L22: 59 octets are the longest code of a label
+    "é" * 57, "é" * 58, "他" * 57,
+    # both ends of the room, for code points and for their code
+    "a" * 255, "a" * 256, "\x80" * 256, "\x80" * 257, "é" * 254, "é" * 255, "\U0010ffff" * 252, "\U0010ffff" * 253,
+]] + [
+    # cut short, and no first octet
+    b"\xc3", b"b\xc3", b"\xc3b", b"\xe2\x82", b"\xf0\x9f\x98", b"\x80", b"\xbf", b"\xff", b"b\xfccher", b"\xc3\xc3\xa9", b"\xc3\xa9\xa9",
+    # more octets than needed, surrogates, and past U+10FFFF
+    b"\xc0\x80", b"\xc1\xbf", b"\xe0\x9f\xbf", b"\xf0\x8f\xbf\xbf", b"\xed\xa0\x80", b"\xed\xbf\xbf", b"\xf4\x90\x80\x80", b"\xf5\x80\x80\x80",
+]
+
+# L23: texts that are decoded
+CODES = [rfc3492.text(letter) for letter in rfc3492.SAMPLES] + [
+    b"", b"a-", b"--", b"---", b"a", b"aa", b"ba", b"9ca", b"bcher-kva", b"nda", b"xn---epa", b"--9fab", b"dca", b"--bga", b"--a",
+    # digits in any case
+    b"BCHER-KVA", b"NDA", b"--9FAB", b"B1ABFAAEPDRNNBGEFBADOTCWATMQ2G4L", b"b1abfaaepdrnnbgefbadotcwatmq2g4l",
+    # no digit, which a delimiter in the first place is not either
+    b"-abc", b"-", b"-a", b"a-b_", b"a-\xc3", b"!", b"a b", b"a-b.", b"-> $1.00 <-x",
+    # the last octet of ASCII before the delimiter, and beyond it
+    b"\x7f-a", b"\x80-a", b"\xc3\xa9-9ca",
+    # it ends inside a number
+    b"b", b"z", b"9", b"9c", b"a-b-z", b"dn32", b"bcher-kv",
+    # beside the surrogates, both ends of them, U+10FFFF, and past it
+    b"hb9b", b"0y0c", b"ib9b", b"zy0c", b"dn32g", b"en32g",
+    # far past it, also where a sum of 32 or 64 bits would come to U+00E9 again
+    b"zzzzzzzz", b"99999a", b"99999999a", b"9" * 59, b"9" * 59 + b"a", b"z" * 256,
+    *(punycode.variable_length((1 << bits) + 0xE9 - 0x80, punycode.INITIAL_BIAS) for bits in (32, 64)),
+    # both ends of the room
+    b"a" * 256, b"a" * 257, b"a" * 255 + b"-", b"a" * 256 + b"-", b"dn32g" + b"a" * 251, b"dn32g" + b"a" * 252,
+]
+
 
 def answer(kind: bytes, text: bytes) -> bytes:
     """What the program must print for a case."""
@@ -63,12 +105,24 @@ def answer(kind: bytes, text: bytes) -> bytes:
     if kind in (b"k", b"q"):
         place = tokens.skip(text, 0) if kind == b"k" else tokens.quoted(text, 0)
         return (b"unreadable" if place is None else b"%d" % place) + b"\n"
+    if kind == b"p":
+        points = utf8.points(text)
+        if points is None:
+            return b"ill-formed\n"
+        code = punycode.encode([utf8.small(point) for point in points])
+        return (b"no room" if len(code) > ROOM else code) + b"\n"
+    if kind == b"u":
+        if len(text) > ROOM:
+            return b"no room\n"
+        points = punycode.decode(text)
+        return (b"nothing" if points is None else utf8.encoded(points).hex().encode()) + b"\n"
     seconds = date.seconds(text)
     return (b"unavailable" if seconds is None else b"%d" % seconds) + b"\n"
 
 
 def cases() -> list[tuple[bytes, bytes]]:
-    return [(kind, text) for kind, texts in ((b"b", TEXTS), (b"e", KEYS), (b"k", COMMENTS), (b"q", QUOTED), (b"d", DATES)) for text in texts]
+    kinds = ((b"b", TEXTS), (b"e", KEYS), (b"k", COMMENTS), (b"q", QUOTED), (b"d", DATES), (b"p", SCRIPTS), (b"u", CODES))
+    return [(kind, text) for kind, texts in kinds for text in texts]
 
 
 # W8, W9: a key with a preference, a free slot, an address alone, and both halves at both ends of their limits

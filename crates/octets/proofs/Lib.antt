@@ -4,6 +4,7 @@ pub mod Without
 pub mod Lists
 pub mod Writing
 pub mod Putting
+pub mod Puts
 pub mod Letters
 pub mod Comparing
 pub mod Zeros

@@ -1,4 +1,5 @@
 -- Laws on what may be absent, and on lists, over any type.
+--     by-option                             it is absent, or there
 --     some-front, else-front, front-some    an element in front of a list that may be absent
 --     some-else                             what is there is what `orElse` gives
 --     only-one, only-listed, only-two       the element of a list of exactly one
@@ -16,6 +17,10 @@ use lib.ListN.{length}
 use Rattle.octets.specs.Options.{isSome, orElse, inFront, onlyOne, IfSome, Each, total}
 
 module _ {A : Type 0} where
+  pub by-option : {P : Type 0} (o : Option A) → (o ≡ none → P) → ((x : A) → o ≡ some x → P) → P
+  by-option none f g = f refl
+  by-option (some x) f g = g x refl
+
   pub some-front : (x : A) (o : Option (List A)) → isSome (inFront x o) ≡ isSome o
   unfolding isSome inFront
   some-front x none = refl

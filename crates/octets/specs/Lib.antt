@@ -4,3 +4,4 @@ pub mod Written
 pub mod Numbers
 pub mod Finding
 pub mod Options
+pub mod Puts

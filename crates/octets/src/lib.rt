@@ -10,6 +10,12 @@ ghost use Rattle.octets.specs.Finding.{holds, lengthBefore, Skipped};
 ghost use Rattle.octets.specs.Numbers.{number, digits};
 ghost use Rattle.octets.specs.Written.{putAt};
 
+// Where a text ends that was written from a place on; or it has no room there.
+pub enum Laid {
+    At(usize),
+    NoRoom,
+}
+
 // Is it a space or a tab (L1)?
 pub fn is_blank(x: u8) -> bool
     ensures { λ r. ⌜ r ≡ blank x ⌝ }

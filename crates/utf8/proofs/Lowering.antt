@@ -1,4 +1,5 @@
 -- Lower case of a text (L21).
+--     text-some                   by its code points
 --     text-formed, text-broken    by whether it is well formed
 --     alike-text                  a text and its lower case are alike
 --     formed-front                what stands in front of code points makes no difference
@@ -10,7 +11,7 @@ use Prim.Native.Nat.{ℕ, zero, suc, _+_, _-_, _*_, _<_, _≤_}
 use mathlib.Core.Path.{_≡_, refl, sym, ap, _∙_}
 use mathlib.Core.Bool.{true, false, _&&_, false≢true}
 use mathlib.Core.List.{List, [], _∷_}
-use mathlib.Core.Option.{Option, some, none}
+use mathlib.Core.Option.{some, none}
 use mathlib.Core.Logic.{⊎-elim}
 use native.Mathlib.Omega.{arith}
 use borrow.Author.Tests.{lt-leb}
@@ -21,7 +22,7 @@ use Rattle.octets.proofs.Lists.{lt-or-le}
 use Rattle.octets.proofs.Tests.{by-test}
 use Rattle.octets.proofs.Letters.{by-case, lower-above, lowered-twice}
 use Rattle.octets.proofs.Comparing.{same-refl, same-true}
-use Rattle.octets.proofs.Options.{some-front}
+use Rattle.octets.proofs.Options.{by-option, some-front}
 use Rattle.utf8.specs.Utf8.{leadOf, tails, points, wellFormed, encoded}
 use Rattle.utf8.specs.Lowering.{lowerPoints, lowerText}
 use Rattle.utf8.specs.Steps.{allAscii, octetwise}
@@ -35,16 +36,12 @@ use Rattle.utf8.proofs.Mapping.{lower-points-twice, lower-points-scalar
 use Rattle.utf8.proofs.Octetwise.{octetwise-form, octetwise-ascii, steady-small}
 use Rattle.utf8.proofs.Alike.{Alike, alike-lowered, alike-octetwise}
 
-by-option : {P : Type 0} (o : Option (List ℕ)) → (o ≡ none → P) → ((ps : List ℕ) → o ≡ some ps → P) → P
-by-option none f g = f refl
-by-option (some ps) f g = g ps refl
-
 module _ (s : List ℕ) where
   text-none : points s ≡ none → lowerText s ≡ lowered s
   unfolding lowerText
   text-none e = rw (lowerText, e)
 
-  text-some : (ps : List ℕ) → points s ≡ some ps → lowerText s ≡ encoded (lowerPoints ps)
+  pub text-some : (ps : List ℕ) → points s ≡ some ps → lowerText s ≡ encoded (lowerPoints ps)
   unfolding lowerText
   text-some ps e = rw (lowerText, e)
 

@@ -2,18 +2,21 @@
 --     point-high                  nothing changes from U+0800 on; all below is computed
 --     lower-point-twice, lower-points-twice      what is small stays as it is
 --     lower-point-scalar, lower-points-scalar    a code point becomes one
+--     point-low, point-past       what is ASCII stays ASCII, and what is not stays not
+--     lower-points-length         as many code points as before
 -- Assumes nothing.
 use Prim.Native.Nat.{ℕ, _<_, _≤_}
-use mathlib.Core.Path.{_≡_, refl, ap}
-use mathlib.Core.Bool.{Bool, true, _&&_}
+use mathlib.Core.Path.{_≡_, refl, ap, _∙_}
+use mathlib.Core.Bool.{Bool, true, _&&_, Bool·beq}
 use mathlib.Core.List.{List, [], _∷_}
 use mathlib.Core.Logic.{⊎-elim}
 use native.Mathlib.Omega.{arith}
-use borrow.Author.Tests.{ltb-true, eqb-true, lt-ltb, le-leb, lt-leb}
+use borrow.Author.Tests.{ltb-true, ltb-false, eqb-true, lt-ltb, le-ltb, le-leb, lt-leb}
 use lib.Dec.{ltb, eqb}
+use lib.ListN.{length, length-map}
 use Rattle.octets.specs.Tests.{every}
 use Rattle.octets.proofs.Lists.{lt-or-le}
-use Rattle.octets.proofs.Tests.{and-left, and-right, all-below}
+use Rattle.octets.proofs.Tests.{and-left, and-right, same-bool, all-below}
 use Rattle.utf8.specs.Utf8.{scalar, scalars}
 use Rattle.utf8.specs.Lowering.{lowerPoint, lowerPoints}
 
@@ -34,29 +37,59 @@ point-high p h =
     )
 
 kept : ℕ → Bool
-kept p = eqb (lowerPoint (lowerPoint p)) (lowerPoint p) && ltb (lowerPoint p) 0x800
+kept p =
+    eqb (lowerPoint (lowerPoint p)) (lowerPoint p)
+    && ltb (lowerPoint p) 0x800
+    && Bool·beq (ltb (lowerPoint p) 0x80) (ltb p 0x80)
 
 all-kept : (p : ℕ) → p < 0x800 → kept p ≡ true
 unfolding kept lowerPoint
 all-kept = all-below kept 0x800 refl
 
+-- each of the three, below U+0800
+module _ (p : ℕ) (h : p < 0x800) where
+  abbrev twice : Bool
+  twice = eqb (lowerPoint (lowerPoint p)) (lowerPoint p)
+
+  kept-two : (twice && ltb (lowerPoint p) 0x800) ≡ true
+  unfolding kept
+  kept-two = and-left (twice && ltb (lowerPoint p) 0x800) _ (all-kept p h)
+
+  kept-twice : lowerPoint (lowerPoint p) ≡ lowerPoint p
+  kept-twice = eqb-true _ _ (and-left twice (ltb (lowerPoint p) 0x800) kept-two)
+
+  kept-below : lowerPoint p < 0x800
+  kept-below = ltb-true (lowerPoint p) 0x800 (and-right twice (ltb (lowerPoint p) 0x800) kept-two)
+
+  kept-ascii : ltb (lowerPoint p) 0x80 ≡ ltb p 0x80
+  unfolding kept
+  kept-ascii = same-bool _ _ (and-right (twice && ltb (lowerPoint p) 0x800) _ (all-kept p h))
+
 pub lower-point-twice : (p : ℕ) → lowerPoint (lowerPoint p) ≡ lowerPoint p
-unfolding kept
 lower-point-twice p =
-    ⊎-elim
-    (λ (h : p < 0x800). eqb-true _ _ (and-left _ (ltb (lowerPoint p) 0x800) (all-kept p h)))
-    (λ (h : 0x800 ≤ p). ap lowerPoint (point-high p h))
-    (lt-or-le p 0x800)
+    ⊎-elim (λ (h : p < 0x800). kept-twice p h) (λ (h : 0x800 ≤ p). ap lowerPoint (point-high p h)) (lt-or-le p 0x800)
 
 pub lower-point-scalar : (p : ℕ) → scalar p ≡ true → scalar (lowerPoint p) ≡ true
-unfolding kept scalar
+unfolding scalar
 lower-point-scalar p e =
     ⊎-elim
-    (λ (h : p < 0x800).
-    let k : lowerPoint p < 0x800 = ltb-true (lowerPoint p) 0x800 (and-right (eqb (lowerPoint (lowerPoint p)) (lowerPoint p)) _ (all-kept p h)) in
-    rw (lt-ltb (lowerPoint p) 0xD800 (omega arith)))
+    (λ (h : p < 0x800). rw (lt-ltb (lowerPoint p) 0xD800 (omega (arith, kept-below p h))))
     (λ (h : 0x800 ≤ p). rw (point-high p h) e)
     (lt-or-le p 0x800)
+
+point-ascii : (p : ℕ) → ltb (lowerPoint p) 0x80 ≡ ltb p 0x80
+point-ascii p =
+    ⊎-elim (λ (h : p < 0x800). kept-ascii p h) (λ (h : 0x800 ≤ p). rw (point-high p h)) (lt-or-le p 0x800)
+
+pub point-low : (p : ℕ) → p < 0x80 → lowerPoint p < 0x80
+point-low p l = ltb-true (lowerPoint p) 0x80 (point-ascii p ∙ lt-ltb p 0x80 l)
+
+pub point-past : (p : ℕ) → 0x80 ≤ p → 0x80 ≤ lowerPoint p
+point-past p l = ltb-false (lowerPoint p) 0x80 (point-ascii p ∙ le-ltb p 0x80 l)
+
+pub lower-points-length : (ps : List ℕ) → length (lowerPoints ps) ≡ length ps
+unfolding lowerPoints
+lower-points-length ps = length-map ps lowerPoint
 
 pub lower-points-twice : (ps : List ℕ) → lowerPoints (lowerPoints ps) ≡ lowerPoints ps
 unfolding lowerPoints

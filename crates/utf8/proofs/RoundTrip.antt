@@ -2,6 +2,7 @@
 --     tails-none         no octet is missing: the code point, and then the rest
 --     tails-one          one octet that lies in its range
 --     points-lead        a first octet
+--     scalar-most        no code point lies above U+10FFFF
 --     points-one         the octets of one code point in front of a text
 --     points-encoded     the octets of code points stand for them
 -- Assumes nothing.
@@ -90,6 +91,13 @@ four-parts b c a p x y z =
     let w : 0x80 + p % 64 - 0x80 ≡ p % 64 = omega arith in
     rw (u, v, w, x, y, z)
 
+pub scalar-most : (p : ℕ) → scalar p ≡ true → p < 0x110000
+unfolding scalar
+scalar-most p v =
+    by-test (ltb p 0xD800)
+    (λ t. omega (arith, ltb-true p 0xD800 t))
+    (λ t. ltb-true p 0x110000 (and-right (leb 0xE000 p) (ltb p 0x110000) (rw t at v)))
+
 -- one code point in front of a text, by its number of octets
 module _ (p : ℕ) (s : List ℕ) where
   one : p < 0x80 → points (p ∷ s) ≡ inFront p (points s)
@@ -151,13 +159,6 @@ module _ (p : ℕ) (s : List ℕ) where
       ∙ tails-none s 0x80 0xBF _
       ∙ rw e
 
-  scalar-most : scalar p ≡ true → p < 0x110000
-  unfolding scalar
-  scalar-most v =
-      by-test (ltb p 0xD800)
-      (λ t. omega (arith, ltb-true p 0xD800 t))
-      (λ t. ltb-true p 0x110000 (and-right (leb 0xE000 p) (ltb p 0x110000) (rw t at v)))
-
   pub points-one : scalar p ≡ true → points (encodedOne p ++ s) ≡ inFront p (points s)
   unfolding encodedOne
   points-one v =
@@ -169,7 +170,7 @@ module _ (p : ℕ) (s : List ℕ) where
       (λ (b : 0x800 ≤ p).
       ⊎-elim
       (λ (c : p < 0x10000). rw (le-ltb p 0x80 a, le-ltb p 0x800 b, lt-ltb p 0x10000 c) (three b c v))
-      (λ (c : 0x10000 ≤ p). rw (le-ltb p 0x80 a, le-ltb p 0x800 b, le-ltb p 0x10000 c) (four c (scalar-most v)))
+      (λ (c : 0x10000 ≤ p). rw (le-ltb p 0x80 a, le-ltb p 0x800 b, le-ltb p 0x10000 c) (four c (scalar-most p v)))
       (lt-or-le p 0x10000))
       (lt-or-le p 0x800))
       (lt-or-le p 0x80)

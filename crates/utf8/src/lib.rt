@@ -12,7 +12,7 @@ ghost use Rattle.utf8.specs.Steps.{allAscii, secondOf, firstOf, lowerAt,
 
 // What the first octet of a code point tells: how many octets follow, the range of the next of them, and its own part of the
 // number. Or it is no first octet.
-enum Lead {
+pub enum Lead {
     First(u8, u8, u8, u8),
     Bad,
 }
@@ -23,7 +23,8 @@ enum Next {
     Never,
 }
 
-fn lead_of(x: u8) -> Lead
+// What an octet tells, if it is the first of a code point (L20).
+pub fn lead_of(x: u8) -> Lead
     ensures { λ r. ⌜ r ≡ leadOf x ⌝ }
 {
     if x <= 0x7F {

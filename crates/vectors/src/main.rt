@@ -4,10 +4,25 @@
 //     k TEXT   the place behind the spaces, tabs and comments that open the text (L2); or unreadable
 //     q TEXT   the place behind the quoted string whose opening quote opens the text (L3); or unreadable
 //     d TEXT   a Date value (page D), in seconds since 1970; or unavailable
+//     p TEXT   the Punycode of the code points of a text in UTF-8, put into lower case (L21, L23); or ill-formed, or no room
+//     u TEXT   the code points that a Punycode text decodes to (L23), as octets of UTF-8 in hexadecimal; or nothing, or no room
 // What it must print stands in `stdout`, as the independent program printed it.
 ghost use Prim.Native.Nat.{_≤_};
+ghost use mathlib.Core.Path.{_≡_};
+ghost use mathlib.Core.Bool.{true};
 ghost use lib.ListN.{length};
+ghost use Rattle.utf8.specs.Utf8.{scalars};
+ghost use Rattle.coder.specs.Steps.{Points};
+use codepoints::Read;
+use decoder::Decoded;
 use libc::STDOUT_FILENO;
+use octets::Laid;
+
+// How many code points a case may have. Their code has room for as many octets.
+const MOST_POINTS: usize = 256;
+
+// Four octets for each of them (L20).
+const MOST_OCTETS: usize = 1024;
 
 fn print(text: &[u8]) {
     io::write_all(STDOUT_FILENO, text);
@@ -77,6 +92,51 @@ fn run_date(text: &[u8]) {
     }
 }
 
+fn print_line(s: &[u8]) {
+    print(s);
+    print(b"\n");
+}
+
+fn print_code(points: &[u32])
+    requires { ⌜ Points 256 (now points) ⌝ }
+{
+    let mut out = [0u8; MOST_POINTS];
+    match coder::encode(points, &mut out) {
+        Laid::At(n) => print_line(&out[..n]),
+        Laid::NoRoom => print(b"no room\n"),
+    }
+}
+
+fn run_code(text: &[u8]) {
+    let mut points = [0u32; MOST_POINTS];
+    match codepoints::read_small(text, &mut points) {
+        Read::Points(n) => print_code(&points[..n]),
+        Read::Bad => print(b"ill-formed\n"),
+        Read::Full => print(b"no room\n"),
+    }
+}
+
+fn print_text(points: &[u32])
+    requires { ⌜ scalars (now points) ≡ true ⌝ }
+{
+    let mut out = [0u8; MOST_OCTETS];
+    match codepoints::write(points, &mut out, 0) {
+        Laid::At(n) => print_octets(&out[..n]),
+        Laid::NoRoom => print(b"no room\n"),
+    }
+}
+
+fn run_points(text: &[u8]) {
+    if MOST_POINTS < text.len() {
+        return print(b"no room\n");
+    }
+    let mut points = [0u32; MOST_POINTS];
+    match decoder::decode(text, &mut points) {
+        Decoded::Points(n) => print_text(&points[..n]),
+        Decoded::Nothing => print(b"nothing\n"),
+    }
+}
+
 fn run(line: &[u8]) {
     if line.len() < 2 {
         return;
@@ -89,6 +149,8 @@ fn run(line: &[u8]) {
         b'k' => print_place(tokens::skip(text, 0)),
         b'q' => print_place(tokens::quoted(text, 1)),
         b'd' => run_date(text),
+        b'p' => run_code(text),
+        b'u' => run_points(text),
         _ => print(b"?\n"),
     }
 }

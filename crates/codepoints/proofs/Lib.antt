@@ -1,0 +1,5 @@
+pub mod Bounds
+pub mod Mapping
+pub mod Reading
+pub mod Walking
+pub mod Encoding

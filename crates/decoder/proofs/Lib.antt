@@ -1,0 +1,5 @@
+pub mod Fronting
+pub mod Inserting
+pub mod Landing
+pub mod Stepping
+pub mod Resting

@@ -1,0 +1,11 @@
+pub mod Leaves
+pub mod Scaling
+pub mod Integers
+pub mod Below
+pub mod Turns
+pub mod Lengths
+pub mod Coded
+pub mod RoundTrip
+pub mod Enough
+pub mod Sound
+pub mod Worked

@@ -1,0 +1,2 @@
+pub mod Punycode
+pub mod Steps
