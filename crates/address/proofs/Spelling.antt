@@ -1,110 +1,226 @@
 -- The canonical form, as callers ask for it.
---     canonical-length                     it is as long as the text
+--     Owns, own-pieces                     forms of labels, and the domain that they make
+--     forms-own, forms-back                the forms of a domain's labels are such, and its pieces
+--     before-form, behind-form, from-form  the two sides of a form
+--     short, left, right                   what a plain address is
+--     form-twice, plain-form               its form is a plain address, and its own form
+--     canonical-form, not-plain            the canonical form of a plain address, and of another text
 --     canonical-octets                     octets stay octets
---     before-canonical, from-canonical     its two sides
 --     canonical-twice                      it is its own canonical form
---     lowered-sides                        ASCII capitals made small on both sides
---     canonical-ascii                      that of a text in ASCII
 --     plain-canonical                      that of a plain address is a plain address
 --     plain-is-canonical                   and is canonical
---     canonical-same                       what is canonical is its own canonical form
---     canonical-most                       that of a plain address is within the limit of L6, too
+--     canonical-plain                      what is canonical is a plain address
+--     canonical-same                       and its own canonical form
+--     canonical-most                       the form of a plain address is within the limit of L6
+--     own-most                             so is what is canonical
 -- Assumes nothing.
-use Prim.Native.Nat.{ℕ, _≤_}
-use mathlib.Core.Path.{_≡_, refl, sym, ap, _∙_}
-use mathlib.Core.Bool.{true, not}
-use mathlib.Core.List.{List, [], _∷_, _++_, append-nil}
+use Prim.Native.Nat.{ℕ, suc, _≤_}
+use mathlib.Core.Path.{_≡_, refl, ap, _∙_}
+use mathlib.Core.Bool.{true, false, not, _&&_}
+use mathlib.Core.List.{List, [], _∷_, _++_, map, append-nil}
 use native.Mathlib.Omega.{arith}
-use lib.Dec.{ltb, eqb}
+use borrow.Author.Tests.{leb-true, le-leb}
+use lib.Dec.{leb, eqb}
 use lib.ListN.{length}
-use Rattle.octets.specs.Octets.{AllOctets, sameOctets, lowered}
+use Rattle.octets.specs.Octets.{AllOctets, sameOctets}
 use Rattle.octets.specs.Tests.{every}
-use Rattle.octets.proofs.Tests.{and-left, and-right}
-use Rattle.octets.proofs.Every.{every-append}
-use Rattle.octets.proofs.Letters.{lowered-twice}
+use Rattle.octets.proofs.Joined.{more-octets, append-octets}
+use Rattle.octets.proofs.Tests.{by-test, and-left, and-right}
 use Rattle.octets.proofs.Comparing.{same-refl, same-true}
 use Rattle.utf8.specs.Lowering.{lowerText}
-use Rattle.utf8.specs.Steps.{allAscii}
-use Rattle.utf8.proofs.Alike.{Alike, nothing, alike-lowered, alike-length, alike-at, alike-every, alike-append, near-sign, near-octet}
-use Rattle.utf8.proofs.Lowering.{alike-text, text-twice, text-ascii}
-use Rattle.address.specs.Pieces.{before, from}
-use Rattle.address.specs.Address.{plain, canonical, isCanonical}
-use Rattle.address.proofs.Pieces.{before-from, before-free, from-opens, before-into, from-into}
-use Rattle.address.proofs.Alike.{alike-before, plain-alike}
-use Rattle.address.proofs.Sides.{plain-most}
+use Rattle.utf8.proofs.Alike.{alike-at, near-octet}
+use Rattle.utf8.proofs.Lowering.{alike-text, text-twice}
+use Rattle.pieces.specs.Pieces.{pieces, before, behind, from, following, joined}
+use Rattle.pieces.proofs.Pieces.{others, pieces-first, pieces-into, before-into, behind-into, from-into}
+use Rattle.asciiaddress.specs.Ascii.{localPart}
+use Rattle.asciiaddress.proofs.Alike.{local-alike}
+use Rattle.asciiaddress.proofs.Lowered.{local-free}
+use Rattle.labels.specs.Labels.{label, labelled}
+use Rattle.labels.proofs.Forming.{formOctet, form-low, form-free, Own, own-labelled, own-label, label-own}
+use Rattle.address.specs.Address.{domain, domainForm, addressForm, plain, canonical, isCanonical}
 
-pub alike-canonical : (s : List ℕ) → Alike s (canonical s)
-unfolding canonical
-alike-canonical s = rw (before-from 64 s) at (alike-append (alike-text (before 64 s)) (alike-lowered (from 64 s)))
+pub data Owns : List (List ℕ) → Type 0 where
+  no-own : Owns []
+  an-own : {w : List ℕ} {ws : List (List ℕ)} → Own w → Owns ws → Owns (w ∷ ws)
 
-pub canonical-length : (s : List ℕ) → length (canonical s) ≡ length s
-canonical-length s = alike-length (alike-canonical s)
+labels-own : (ps : List (List ℕ)) → every label ps ≡ true → Owns (map labelled ps)
+unfolding every
+labels-own [] e = no-own
+labels-own (p ∷ ps) e = an-own (label-own p (and-left (label p) (every label ps) e)) (labels-own ps (and-right (label p) (every label ps) e))
 
-pub canonical-octets : (s : List ℕ) → AllOctets s → AllOctets (canonical s)
-canonical-octets s h i = near-octet (alike-at (alike-canonical s) i) (h i)
+owns-label : {ws : List (List ℕ)} → Owns ws → every label ws ≡ true
+unfolding every
+owns-label no-own = refl
+owns-label (an-own {w} o r) = rw (own-label w o) (owns-label r)
 
-alike-empty : {t : List ℕ} → Alike [] t → t ≡ []
-alike-empty nothing = refl
+owns-labelled : {ws : List (List ℕ)} → Owns ws → map labelled ws ≡ ws
+owns-labelled no-own = refl
+owns-labelled (an-own {w} o r) = rw (own-labelled w o, owns-labelled r)
+
+-- forms with dots between them are cut into these forms again
+module _ (w t : List ℕ) (ws : List (List ℕ)) (o : Own w) (b : before 46 t ≡ []) (r : others 46 t ≡ ws) where
+  piece-more : pieces 46 (w ++ t) ≡ w ∷ ws
+  piece-more = pieces-into (λ x. not (eqb x 46)) 46 refl w t (form-free w (o .octets)) ∙ rw (b, r, append-nil)
+
+following-before : (ws : List (List ℕ)) → before 46 (following 46 ws) ≡ []
+unfolding following before
+following-before [] = refl
+following-before (w ∷ ws) = refl
+
+following-others : {ws : List (List ℕ)} → Owns ws → others 46 (following 46 ws) ≡ ws
+unfolding following others
+following-others no-own = refl
+following-others (an-own {w} {ws} o r) = piece-more w (following 46 ws) ws o (following-before ws) (following-others r)
+
+pub own-pieces : {w : List ℕ} {ws : List (List ℕ)} → Owns (w ∷ ws) → pieces 46 (joined 46 (w ∷ ws)) ≡ w ∷ ws
+unfolding joined
+own-pieces (an-own {w} {ws} o r) = piece-more w (following 46 ws) ws o (following-before ws) (following-others r)
+
+module _ (d : List ℕ) (e : domain d ≡ true) where
+  pub forms-own : Owns (map labelled (pieces 46 d))
+  unfolding domain
+  forms-own = labels-own (pieces 46 d) e
+
+  pub forms-back : pieces 46 (domainForm d) ≡ map labelled (pieces 46 d)
+  unfolding domainForm
+  forms-back = rw (pieces-first 46 d) (own-pieces (rw (pieces-first 46 d) at forms-own))
+
+  domain-form : domain (domainForm d) ≡ true
+  unfolding domain
+  domain-form = rw forms-back (owns-label forms-own)
+
+  domain-twice : domainForm (domainForm d) ≡ domainForm d
+  unfolding domainForm
+  domain-twice = ap (λ ws. joined 46 (map labelled ws)) forms-back ∙ ap (joined 46) (owns-labelled forms-own)
 
 module _ (s : List ℕ) where
-  -- the lower case of a local part has no "@", and what stands from the "@" on begins with it, or is nothing
-  local-free : every (λ x. not (eqb x 64)) (lowerText (before 64 s)) ≡ true
-  local-free =
-      alike-every (λ x. not (eqb x 64)) (λ x y n. ap not (near-sign 64 (omega arith) n)) (alike-text (before 64 s))
-      ∙ before-free 64 s
+  pub before-form : before 64 (addressForm s) ≡ lowerText (before 64 s)
+  unfolding addressForm before
+  before-form =
+      before-into (λ x. not (eqb x 64)) 64 refl (lowerText (before 64 s)) (64 ∷ domainForm (behind 64 s)) (local-free s) ∙ append-nil _
 
-  none-before : before 64 (lowered (from 64 s)) ≡ []
-  none-before = alike-empty (rw (from-opens 64 s) at (alike-before 64 (omega arith) (alike-lowered (from 64 s))))
+  pub behind-form : behind 64 (addressForm s) ≡ domainForm (behind 64 s)
+  unfolding addressForm behind
+  behind-form =
+      behind-into (λ x. not (eqb x 64)) 64 refl (lowerText (before 64 s)) (64 ∷ domainForm (behind 64 s)) (local-free s)
 
-  pub before-canonical : before 64 (canonical s) ≡ lowerText (before 64 s)
+  pub from-form : from 64 (addressForm s) ≡ 64 ∷ domainForm (behind 64 s)
+  unfolding addressForm from
+  from-form = from-into (λ x. not (eqb x 64)) 64 refl (lowerText (before 64 s)) (64 ∷ domainForm (behind 64 s)) (local-free s)
+
+  pub not-plain : plain s ≡ false → canonical s ≡ s
   unfolding canonical
-  before-canonical =
-      before-into (λ x. not (eqb x 64)) 64 refl (lowerText (before 64 s)) (lowered (from 64 s)) local-free
-      ∙ rw none-before (append-nil _)
+  not-plain e = rw e
 
-  pub from-canonical : from 64 (canonical s) ≡ lowered (from 64 s)
-  unfolding canonical
-  from-canonical =
-      from-into (λ x. not (eqb x 64)) 64 refl (lowerText (before 64 s)) (lowered (from 64 s)) local-free
-      ∙ ap (λ w. w ++ from 64 (lowered (from 64 s))) (sym none-before)
-      ∙ before-from 64 (lowered (from 64 s))
+  module _ (p : plain s ≡ true) where
+    both : (leb (length (addressForm s)) 254 && localPart (before 64 s)) ≡ true
+    unfolding plain
+    both = and-left _ (domain (behind 64 s)) p
 
-  pub canonical-twice : canonical (canonical s) ≡ canonical s
-  unfolding canonical
-  canonical-twice =
-      ap (λ w. lowerText w ++ lowered (from 64 (canonical s))) before-canonical
-      ∙ ap (λ w. lowerText (lowerText (before 64 s)) ++ lowered w) from-canonical
-      ∙ rw (text-twice (before 64 s), lowered-twice (from 64 s))
+    pub short : length (addressForm s) ≤ 254
+    short = leb-true (length (addressForm s)) 254 (and-left (leb (length (addressForm s)) 254) _ both)
 
-lowered-append : (a b : List ℕ) → lowered (a ++ b) ≡ lowered a ++ lowered b
-unfolding lowered
-lowered-append [] b = refl
-lowered-append (x ∷ a) b = rw (lowered-append a b)
+    pub left : localPart (before 64 s) ≡ true
+    left = and-right (leb (length (addressForm s)) 254) _ both
 
--- ASCII capitals on both sides are those of the whole
-pub lowered-sides : (s : List ℕ) → lowered (before 64 s) ++ lowered (from 64 s) ≡ lowered s
-lowered-sides s = sym (lowered-append (before 64 s) (from 64 s)) ∙ ap lowered (before-from 64 s)
+    pub right : domain (behind 64 s) ≡ true
+    unfolding plain
+    right = and-right (leb (length (addressForm s)) 254 && localPart (before 64 s)) _ p
 
-ascii-front : (a b : List ℕ) → allAscii (a ++ b) ≡ true → allAscii a ≡ true
-ascii-front a b e = and-left (allAscii a) (allAscii b) (rw (every-append (λ x. ltb x 0x80) a b) at e)
+    pub form-twice : addressForm (addressForm s) ≡ addressForm s
+    unfolding addressForm
+    form-twice =
+        ap (λ w. lowerText w ++ (64 ∷ domainForm (behind 64 (addressForm s)))) before-form
+        ∙ ap (λ w. lowerText (lowerText (before 64 s)) ++ (64 ∷ domainForm w)) behind-form
+        ∙ rw (text-twice (before 64 s), domain-twice (behind 64 s) right)
 
-pub canonical-ascii : (s : List ℕ) → allAscii s ≡ true → canonical s ≡ lowered s
-unfolding canonical
-canonical-ascii s e =
-    rw (text-ascii (before 64 s) (ascii-front (before 64 s) (from 64 s) (rw before-from e))) (lowered-sides s)
+    pub plain-form : plain (addressForm s) ≡ true
+    unfolding plain
+    plain-form =
+        rw (
+          form-twice,
+          le-leb (length (addressForm s)) 254 short,
+          before-form,
+          behind-form,
+          local-alike (alike-text (before 64 s)),
+          left,
+        ) (domain-form (behind 64 s) right)
 
-module _ (s : List ℕ) (p : plain s ≡ true) where
-  pub plain-canonical : plain (canonical s) ≡ true
-  plain-canonical = plain-alike (alike-canonical s) ∙ p
+    pub canonical-form : canonical s ≡ addressForm s
+    unfolding canonical
+    canonical-form = rw p
 
-  pub plain-is-canonical : isCanonical (canonical s) ≡ true
-  unfolding isCanonical
-  plain-is-canonical = rw (plain-canonical, canonical-twice s) (same-refl (canonical s))
+    pub plain-canonical : plain (canonical s) ≡ true
+    plain-canonical = rw canonical-form plain-form
 
-  pub canonical-most : length (canonical s) ≤ 254
-  canonical-most = plain-most (canonical s) plain-canonical
+    pub canonical-most : length (canonical s) ≤ 254
+    canonical-most = rw canonical-form short
+
+pub canonical-twice : (s : List ℕ) → canonical (canonical s) ≡ canonical s
+canonical-twice s =
+    by-test (plain s)
+    (λ p. rw (canonical-form s p) (canonical-form (addressForm s) (plain-form s p) ∙ form-twice s p))
+    (λ p. ap canonical (not-plain s p))
+
+-- octets stay octets
+form-octets : (w : List ℕ) → every formOctet w ≡ true → AllOctets w
+unfolding every
+form-octets [] e = λ i. omega arith
+form-octets (x ∷ w) e =
+    more-octets x w (omega (arith, form-low x (and-left (formOctet x) (every formOctet w) e)))
+    (form-octets w (and-right (formOctet x) (every formOctet w) e))
+
+following-octets : {ws : List (List ℕ)} → Owns ws → AllOctets (following 46 ws)
+unfolding following
+following-octets no-own = λ i. omega arith
+following-octets (an-own {w} {ws} o r) =
+    more-octets 46 (w ++ following 46 ws) (omega arith) (append-octets w (following 46 ws) (form-octets w (o .octets)) (following-octets r))
+
+joined-octets : {ws : List (List ℕ)} → Owns ws → AllOctets (joined 46 ws)
+unfolding joined
+joined-octets no-own = λ i. omega arith
+joined-octets (an-own {w} {ws} o r) = append-octets w (following 46 ws) (form-octets w (o .octets)) (following-octets r)
+
+before-octets : (s : List ℕ) → AllOctets s → AllOctets (before 64 s)
+unfolding before
+before-octets [] h = h
+before-octets (x ∷ s) h =
+    by-test (eqb x 64)
+    (λ e. rw (before, e) (λ i. omega arith))
+    (λ e. rw (before, e) (more-octets x (before 64 s) (h 0) (before-octets s (λ i. h (suc i)))))
+
+module _ (s : List ℕ) (h : AllOctets s) (e : domain (behind 64 s) ≡ true) where
+  local-octets : AllOctets (lowerText (before 64 s))
+  local-octets i = near-octet (alike-at (alike-text (before 64 s)) i) (before-octets s h i)
+
+  domain-octets : AllOctets (domainForm (behind 64 s))
+  unfolding domainForm
+  domain-octets = joined-octets (forms-own (behind 64 s) e)
+
+  address-octets : AllOctets (addressForm s)
+  unfolding addressForm
+  address-octets =
+      append-octets (lowerText (before 64 s)) (64 ∷ domainForm (behind 64 s)) local-octets
+      (more-octets 64 (domainForm (behind 64 s)) (omega arith) domain-octets)
+
+pub canonical-octets : (s : List ℕ) → AllOctets s → AllOctets (canonical s)
+canonical-octets s h =
+    by-test (plain s)
+    (λ p. rw (canonical-form s p) (address-octets s h (right s p)))
+    (λ p. rw (not-plain s p) h)
+
+pub plain-is-canonical : (s : List ℕ) → plain s ≡ true → isCanonical (canonical s) ≡ true
+unfolding isCanonical
+plain-is-canonical s p = rw (plain-canonical s p, canonical-twice s) (same-refl (canonical s))
 
 module _ (s : List ℕ) (c : isCanonical s ≡ true) where
+  pub canonical-plain : plain s ≡ true
+  unfolding isCanonical
+  canonical-plain = and-left (plain s) (sameOctets (canonical s) s) c
+
   pub canonical-same : canonical s ≡ s
   unfolding isCanonical
   canonical-same = same-true (canonical s) s (and-right (plain s) (sameOctets (canonical s) s) c)
+
+  pub own-most : length s ≤ 254
+  own-most = rw canonical-same at (canonical-most s canonical-plain)

@@ -1,89 +1,38 @@
--- Worked examples of L6 to L8, by computing the definitions: a table of plain addresses, one of texts that are none, and some
--- canonical forms.
+-- Worked examples of L6 to L8 and L22, by computing the definitions: canonical forms, texts that are no plain addresses, how long forms grow, and
+-- what is canonical.
 -- Assumes nothing.
-use Prim.Native.Nat.{ℕ}
+use Prim.Native.Nat.{ℕ, zero, suc}
 use mathlib.Core.Path.{_≡_, refl}
 use mathlib.Core.Bool.{true, not}
 use mathlib.Core.List.{List, [], _∷_, _++_, map}
-use lib.ListN.{length, replicate}
-use Rattle.octets.specs.Octets.{ascii, octet, lower, lowered, sameOctets}
+use lib.ListN.{length}
+use Rattle.octets.specs.Octets.{ascii, lower, lowered, sameOctets}
+use Rattle.octets.specs.Options.{inFront, orElse}
 use Rattle.octets.specs.Tests.{every}
-use Rattle.octets.specs.Options.{inFront}
-use Rattle.utf8.specs.Utf8.{leadOf, tails, points, encodedOne, encoded}
-use Rattle.utf8.specs.Lowering.{lowerPoint, lowerPoints, lowerText}
+use Rattle.utf8.specs.Utf8 as utf8
+use Rattle.utf8.specs.Lowering as lowering
+use Rattle.punycode.specs.Punycode as punycode
 use Rattle.runs.specs.Runs.{belongs}
-use Rattle.address.specs.Pieces.{onFirst, pieces, before, behind, from}
-use Rattle.address.specs.Address.{atom, localPart, freeEnds, label, domain, plain, canonical, isCanonical, asciiForm, wasCanonical, addressOctet}
+use Rattle.pieces.specs.Pieces.{onFirst, pieces, before, behind, following, joined}
+use Rattle.asciiaddress.specs.Ascii.{atom, localPart, freeEnds}
+use Rattle.labels.specs.Labels.{labelOctet, coded, labelForm, fits, label, labelled}
+use Rattle.address.specs.Address.{domain, domainForm, addressForm, plain, canonical, isCanonical, addressOctet}
 
--- an address with a local part of so many octets, one with a label of so many, and one with a last label of so many after 193 octets
-localPartOf : ℕ → List ℕ
-localPartOf n = replicate n (octet "a") ++ ascii "@b.example"
+times : ℕ → List ℕ → List ℕ
+times zero s = []
+times (suc n) s = s ++ times n s
 
-labelOf : ℕ → List ℕ
-labelOf n = ascii "a@" ++ replicate n (octet "b")
+-- U+00E9, U+4ED6 and U+10FFFF
+abbrev e : List ℕ
+e = 0xC3 ∷ 0xA9 ∷ []
 
-addressOf : ℕ → List ℕ
-addressOf n = replicate 64 (octet "a") ++ ascii "@" ++ replicate 63 (octet "b") ++ ascii "." ++ replicate 63 (octet "c") ++ ascii "." ++ replicate n (octet "d")
+abbrev he : List ℕ
+he = 0xE4 ∷ 0xBB ∷ 0x96 ∷ []
 
-plains : List (List ℕ)
-plains =
-    ascii "a@b"
-    ∷ ascii "1@2"
-    ∷ ascii "A@B.example"
-    ∷ ascii "a.b+c=d@e.f--g.example"
-    ∷ ascii "!#$%&'*+-/=?^_`{|}~@b"
-    ∷ (195 ∷ 164 ∷ ascii "@b")
-    ∷ localPartOf 1
-    ∷ localPartOf 64
-    ∷ labelOf 63
-    ∷ addressOf 61
-    ∷ []
+abbrev top : List ℕ
+top = 0xF4 ∷ 0x8F ∷ 0xBF ∷ 0xBF ∷ []
 
-noPlains : List (List ℕ)
-noPlains =
-    []
-    ∷ ascii "a"
-    ∷ ascii "@"
-    ∷ ascii "a@"
-    ∷ ascii "@b"
-    ∷ ascii "a@b@c"
-    ∷ ascii ".a@b"
-    ∷ ascii "a.@b"
-    ∷ ascii "a..b@c"
-    ∷ ascii "a@.b"
-    ∷ ascii "a@b."
-    ∷ ascii "a@b..c"
-    ∷ ascii "a@-b"
-    ∷ ascii "a@b-"
-    ∷ ascii "a@b-.c"
-    ∷ ascii "a@b_c"
-    ∷ ascii "a@[1]"
-    ∷ ascii " a@b"
-    ∷ ascii "a@b "
-    ∷ ascii "a b@c"
-    ∷ ascii "<a@b>"
-    ∷ ascii "\"a\"@b"
-    ∷ (ascii "a@" ++ 195 ∷ 164 ∷ [])
-    ∷ localPartOf 65
-    ∷ labelOf 0
-    ∷ labelOf 64
-    ∷ addressOf 62
-    ∷ []
-
-all-plain : every plain plains ≡ true
-unfolding plains localPartOf labelOf addressOf plain localPart atom domain label belongs freeEnds every onFirst pieces before behind
-all-plain = refl
-
-none-plain : every (λ s. not (plain s)) noPlains ≡ true
-unfolding noPlains localPartOf labelOf addressOf plain localPart atom domain label belongs freeEnds every onFirst pieces before behind
-none-plain = refl
-
--- L6: so long is the longest of `plains`, and that of `noPlains` is an octet longer
-long-254 : length (addressOf 61) ≡ 254
-unfolding addressOf
-long-254 = refl
-
--- L8: the rows of its table
+-- L8, L22: the rows of their tables
 abbrev written : List (List ℕ)
 written =
     ascii "Bob.B@X.Example"
@@ -92,47 +41,68 @@ written =
     ∷ (0xD0 ∷ 0x90 ∷ 0xD0 ∷ 0xAF ∷ 0xD0 ∷ 0x80 ∷ 0xD0 ∷ 0x8F ∷ ascii "@x")
     ∷ (0xC4 ∷ 0x80 ∷ ascii "@x")
     ∷ (0xC3 ∷ 0x96 ∷ 0x2E ∷ 0xFF ∷ ascii "A@x")
+    ∷ (ascii "A@B" ++ 0xC3 ∷ 0x9C ∷ ascii "CHER.Example")
+    ∷ (0xC3 ∷ 0x96 ∷ 0x40 ∷ 0xC3 ∷ 0x96 ∷ [])
+    ∷ ascii "a@XN--BCHER-KVA"
+    ∷ (ascii "a@xn--" ++ e)
+    ∷ (ascii "a@" ++ e ++ ascii "-" ++ e)
     ∷ []
 
-forms : map canonical written
-    ≡ ascii "bob.b@x.example"
+abbrev wanted : List (List ℕ)
+wanted =
+    ascii "bob.b@x.example"
     ∷ (0xC3 ∷ 0xA0 ∷ 0xC3 ∷ 0xBE ∷ 0xC3 ∷ 0x97 ∷ 0xC3 ∷ 0x9F ∷ ascii "@x")
     ∷ (0xCE ∷ 0xB1 ∷ 0xCF ∷ 0x89 ∷ 0xCF ∷ 0x8B ∷ ascii "@x")
     ∷ (0xD0 ∷ 0xB0 ∷ 0xD1 ∷ 0x8F ∷ 0xD1 ∷ 0x90 ∷ 0xD1 ∷ 0x9F ∷ ascii "@x")
     ∷ (0xC4 ∷ 0x80 ∷ ascii "@x")
     ∷ (0xC3 ∷ 0x96 ∷ 0x2E ∷ 0xFF ∷ ascii "a@x")
+    ∷ ascii "a@xn--bcher-kva.example"
+    ∷ (0xC3 ∷ 0xB6 ∷ ascii "@xn--nda")
+    ∷ ascii "a@xn--bcher-kva"
+    ∷ ascii "a@xn--xn---epa"
+    ∷ ascii "a@xn----9fab"
     ∷ []
-unfolding canonical lowerText lowerPoints lowerPoint points tails leadOf inFront encoded encodedOne lowered lower before from
-forms = refl
 
--- L8: a domain never has another rule, and a text without an "@" is all local part
-form-domain : canonical (ascii "A@" ++ 0xC3 ∷ 0x84 ∷ ascii "B") ≡ ascii "a@" ++ 0xC3 ∷ 0x84 ∷ ascii "b"
-unfolding canonical lowerText lowerPoints lowerPoint points tails leadOf inFront encoded encodedOne lowered lower before from
-form-domain = refl
+-- L7, L22: hyphens at the ends, other octets, empty labels, and labels that are ill-formed; labels of 58 code points, and 32 labels of one
+abbrev none : List (List ℕ)
+none =
+    (ascii "a@-" ++ e)
+    ∷ (ascii "a@" ++ e ++ ascii "-")
+    ∷ (ascii "a@" ++ e ++ ascii "_")
+    ∷ (ascii "a@" ++ e ++ ascii "..b")
+    ∷ (ascii "a@" ++ 0xC3 ∷ [])
+    ∷ (ascii "a@" ++ 0xED ∷ 0xA0 ∷ 0x80 ∷ [])
+    ∷ ascii "a@xn--"
+    ∷ (ascii "a@" ++ times 58 e)
+    ∷ (ascii "a@" ++ times 58 he)
+    ∷ (ascii "a@" ++ times 31 (e ++ ascii ".") ++ e)
+    ∷ []
 
-form-local : canonical (0xC3 ∷ 0x84 ∷ ascii "B") ≡ 0xC3 ∷ 0xA4 ∷ ascii "b"
-unfolding canonical lowerText lowerPoints lowerPoint points tails leadOf inFront encoded encodedOne lowered lower before from
-form-local = refl
+-- L6, L7: the longest forms of a label and of an address
+abbrev longest : List (List ℕ)
+longest =
+    (ascii "a@" ++ times 57 e)
+    ∷ (ascii "a@" ++ times 57 he)
+    ∷ (ascii "a@" ++ times 30 (e ++ ascii ".") ++ e)
+    ∷ (ascii "a@" ++ times 55 top ++ ascii "." ++ times 55 top ++ ascii "." ++ times 55 top ++ ascii "." ++ times 52 top)
+    ∷ []
 
 -- L8: what is canonical, and what is not
 abbrev canonicals : List (List ℕ)
-canonicals = ascii "a@b.example" ∷ (0xC3 ∷ 0xA4 ∷ ascii "@b") ∷ (0xC3 ∷ 0x84 ∷ 0xFF ∷ ascii "@b") ∷ []
+canonicals = ascii "a@b.example" ∷ (0xC3 ∷ 0xA4 ∷ ascii "@b") ∷ (0xC3 ∷ 0x84 ∷ 0xFF ∷ ascii "@b") ∷ ascii "a@xn--nda" ∷ []
 
 abbrev no-canonicals : List (List ℕ)
-no-canonicals = ascii "a@B.example" ∷ (0xC3 ∷ 0x84 ∷ ascii "@b") ∷ (0xC3 ∷ 0x84 ∷ 0xFF ∷ ascii "A@b") ∷ []
+no-canonicals =
+    ascii "a@B.example" ∷ (0xC3 ∷ 0x84 ∷ ascii "@b") ∷ (0xC3 ∷ 0x84 ∷ 0xFF ∷ ascii "A@b") ∷ (ascii "a@" ++ e) ∷ ascii "a@XN--NDA" ∷ []
 
-small : every isCanonical canonicals ≡ true
-unfolding isCanonical canonical lowerText lowerPoints lowerPoint points tails leadOf inFront encoded encodedOne lowered lower sameOctets plain localPart atom domain label belongs freeEnds every onFirst pieces before behind from
-small = refl
-
-capital : every (λ s. not (isCanonical s)) no-canonicals ≡ true
-unfolding isCanonical canonical lowerText lowerPoints lowerPoint points tails leadOf inFront encoded encodedOne lowered lower sameOctets plain localPart atom domain label belongs freeEnds every onFirst pieces before behind from
-capital = refl
-
--- T16: by the old rule a capital with an accent stays, too
-once : wasCanonical (0xC3 ∷ 0x84 ∷ ascii "@b") ≡ true
-unfolding wasCanonical asciiForm lowered lower sameOctets plain localPart atom domain label belongs freeEnds every onFirst pieces before behind
-once = refl
+rows : (map canonical written ≡ wanted)
+    × (every (λ s. not (plain s)) none ≡ true)
+    × (every plain longest ≡ true)
+    × (map length (map canonical longest) ≡ 65 ∷ 65 ∷ 249 ∷ 254 ∷ [])
+    × (every isCanonical canonicals ≡ true)
+    × (every (λ s. not (isCanonical s)) no-canonicals ≡ true)
+unfolding times labelOctet coded labelForm fits label labelled domain domainForm addressForm plain canonical isCanonical atom localPart freeEnds every onFirst pieces before behind following joined belongs lower lowered sameOctets inFront orElse utf8.leadOf utf8.tails utf8.points utf8.encodedOne utf8.encoded lowering.lowerPoint lowering.lowerPoints lowering.lowerText punycode.digit punycode.threshold punycode.scaled punycode.adapt punycode.integer punycode.least punycode.pass punycode.passes punycode.below punycode.delimited punycode.encode
+rows = (refl, refl, refl, refl, refl, refl)
 
 -- what else stands in no plain address, beside all below 33: what lists and fields put between addresses
 apart : every (λ x. not (addressOctet x)) (127 ∷ ascii ",:;<>\"()[]\\") ≡ true

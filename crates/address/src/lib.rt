@@ -1,33 +1,25 @@
-// Plain addresses and their canonical form (SCOPE, L6 to L8), also by the old rule (T16). A test of a plain address passes
-// over it once, atom by atom and label by label.
+// Plain addresses and their canonical form (SCOPE, L6 to L8). Nearly all addresses are ASCII, and go the ways of asciiaddress,
+// which know neither UTF-8 nor Punycode. Any other address is plain when its form can be written into room for 254 octets.
 ghost use Prim.Native.Nat.{_≤_};
 ghost use mathlib.Core.Path.{_≡_};
-ghost use mathlib.Core.Bool.{true};
-ghost use lib.Dec.{eqb};
+ghost use mathlib.Core.Bool.{true, false};
 ghost use lib.ListN.{length, drop};
-ghost use Rattle.octets.specs.Octets.{sameOctets, lower as lowerOf, lowered};
-ghost use Rattle.octets.specs.Tests.{every};
-ghost use Rattle.octets.specs.Written.{onto};
-ghost use Rattle.utf8.specs.Lowering.{lowerText};
+ghost use Rattle.octets.specs.Octets.{sameOctets, lowered};
+ghost use Rattle.octets.specs.Puts.{PutsText};
 ghost use Rattle.utf8.specs.Steps.{allAscii};
-ghost use Rattle.address.specs.Address.{domain, plain, canonical as canonicalOf, isCanonical, wasCanonical};
-ghost use Rattle.address.specs.Answers.{localOf, labelShape, smallAscii, writtenOf, ontoIfFits};
-use runs::Class;
+ghost use Rattle.asciiaddress.specs.Answers.{localOf};
+ghost use Rattle.asciiaddress.specs.declared.Local.the-variants.{Part};
+ghost use Rattle.address.specs.Address.{plain, canonical as canonicalOf, isCanonical};
+ghost use Rattle.address.specs.Answers.{domainOf, formOf, Fronts, writtenOf, ontoIfFits};
+use asciiaddress::Local;
+use octets::Laid;
 
-// How many octets a plain address may have (L6).
-const LONGEST: usize = 254;
+// How many octets a canonical form may have (L6).
+pub const LONGEST: usize = 254;
 
-// How many octets a local part may have (L6).
-const LONGEST_LOCAL: usize = 64;
-
-// How many octets a label may have (L7).
-const LONGEST_LABEL: usize = 63;
-
-// The length of the local part that a text opens with.
-enum Local {
-    Part(usize),
-    NoPart,
-}
+// How many octets a plain address may have as it stands: its form has 254 at most, and an octet of it stands for a code point of
+// four at most.
+const LONGEST_GIVEN: usize = 1016;
 
 // The length of what was written; or nothing was, since it has no room.
 pub enum Fitted {
@@ -35,202 +27,179 @@ pub enum Fitted {
     NoRoom,
 }
 
-// The local part that `s` opens with and an `@` follows: atoms with a dot between two of them (L6).
-fn local_part(s: &[u8]) -> Local
-    ensures { λ r. ⌜ r ≡ localOf (now (s .entry)) ⌝ }
+// Writes the forms of the labels that stand from the place `from` on, with the dots between them.
+fn put_domain(s: &[u8], from: usize, out: &mut [u8], at: usize) -> Laid
+    requires { ⌜ from ≤ length (now s) ⌝ }
+    requires { ⌜ at ≤ length (now out) ⌝ }
+    ensures { λ r. ⌜ PutsText (now (out .entry)) (now (out .exit)) at (domainOf (drop from (now (s .entry)))) r ⌝ }
 {
-    let mut i = 0;
-    while i < s.len() {
-        let end = runs::run_end(s, i, Class::Atom);
-        if s.len() <= end {
-            return Local::NoPart;
-        }
-        if end == i {
-            return Local::NoPart;
-        }
-        if s[end] == b'@' {
-            if end <= LONGEST_LOCAL {
-                return Local::Part(end);
+    let mut i = from;
+    let mut to = at;
+    loop {
+        let end = octets::find(s, i, b'.');
+        match labels::put_label(&s[i..end], &mut *out, to) {
+            Laid::At(e) => {
+                if s.len() <= end {
+                    return Laid::At(e);
+                }
+                if out.len() <= e {
+                    return Laid::NoRoom;
+                }
+                out[e] = b'.';
+                to = e + 1;
+                i = end + 1;
             }
-            return Local::NoPart;
+            Laid::NoRoom => return Laid::NoRoom,
         }
-        if s[end] != b'.' {
-            return Local::NoPart;
-        }
-        i = end + 1;
     }
-    Local::NoPart
 }
 
-// Has a run of letters, digits and hyphens the length and the ends of a label?
-fn shaped(run: &[u8]) -> bool
-    ensures { λ r. ⌜ r ≡ labelShape (now (run .entry)) ⌝ }
+// Writes the canonical form of a plain address into room for just the longest one. There is none where the text is no plain
+// address.
+fn put_form(s: &[u8], out: &mut [u8]) -> Laid
+    requires { ⌜ length (now out) ≡ 254 ⌝ }
+    ensures { λ r. ⌜ PutsText (now (out .entry)) (now (out .exit)) 0 (formOf (now (s .entry))) r ⌝ }
 {
-    let n = run.len();
-    if n == 0 {
+    match asciiaddress::local_part(s) {
+        Local::Part(n) => {
+            utf8::put_lower(&mut *out, 0, &s[0..n]);
+            out[n] = b'@';
+            put_domain(s, n + 1, &mut *out, n + 1)
+        }
+        Local::NoPart => Laid::NoRoom,
+    }
+}
+
+// Is it a plain address, with labels in any script? The length first: a long text costs nothing.
+fn is_wide(s: &[u8]) -> bool
+    ensures { λ r. ⌜ r ≡ plain (now (s .entry)) ⌝ }
+{
+    if LONGEST_GIVEN < s.len() {
         return false;
     }
-    if LONGEST_LABEL < n {
-        return false;
+    let mut form = [0u8; LONGEST];
+    match put_form(s, &mut form) {
+        Laid::At(_) => true,
+        Laid::NoRoom => false,
     }
-    (run[0] != b'-') & (run[n - 1] != b'-')
 }
 
-// Is what stands from the place `at` on a domain: labels with a dot between two of them (L7)?
-fn is_domain(s: &[u8], at: usize) -> bool
-    ensures { λ r. ⌜ r ≡ domain (drop at (now (s .entry))) ⌝ }
-{
-    let mut i = at;
-    while i < s.len() {
-        let end = runs::run_end(s, i, Class::Label);
-        if !shaped(&s[i..end]) {
-            return false;
-        }
-        if s.len() <= end {
-            return true;
-        }
-        if s[end] != b'.' {
-            return false;
-        }
-        i = end + 1;
-    }
-    false
-}
-
-// Is it a plain address and nothing else? The length first: a long text costs nothing.
-pub fn is_plain(s: &[u8]) -> bool
+// Is it a plain address, if its local part has n octets? Labels in ASCII come first, as nearly all are, and none of those is
+// brought into form.
+fn is_plain_behind(s: &[u8], n: usize) -> bool
+    requires { ⌜ localOf (now s) ≡ Part n ⌝ }
     ensures { λ r. ⌜ r ≡ plain (now (s .entry)) ⌝ }
 {
     if LONGEST < s.len() {
-        return false;
+        return is_wide(s);
     }
-    match local_part(s) {
-        Local::Part(n) => is_domain(s, n + 1),
+    if asciiaddress::is_domain(s, n + 1) {
+        return true;
+    }
+    is_wide(s)
+}
+
+// Is it a plain address and nothing else? Lists ask this of every word, and most words have no local part with an `@` behind.
+pub fn is_plain(s: &[u8]) -> bool
+    ensures { λ r. ⌜ r ≡ plain (now (s .entry)) ⌝ }
+{
+    match asciiaddress::local_part(s) {
+        Local::Part(n) => is_plain_behind(s, n),
         Local::NoPart => false,
     }
 }
 
-fn small(x: u8) -> bool
-    ensures { λ r. ⌜ r ≡ eqb (lowerOf x) x ⌝ }
-{
-    (x < b'A') | (b'Z' < x)
-}
-
-// Is there no ASCII capital? No way leads out of the loop early, so that it compiles to vector instructions.
-fn is_small(s: &[u8]) -> bool
-    ensures { λ r. ⌜ r ≡ sameOctets (lowered (now (s .entry))) (now (s .entry)) ⌝ }
-{
-    let mut all = true;
-    let mut i = 0;
-    while i < s.len() {
-        all = all & small(s[i]);
-        i += 1;
-    }
-    all
-}
-
-fn small_ascii(x: u8) -> bool
-    ensures { λ r. ⌜ r ≡ smallAscii x ⌝ }
-{
-    (x < b'A') | ((b'Z' < x) & (x < 128))
-}
-
-// Is there nothing but ASCII, and no capital? Vector instructions as well: every address of a table is tested so at each
-// call, and nearly all go no further.
-fn is_small_ascii(s: &[u8]) -> bool
-    ensures { λ r. ⌜ r ≡ every smallAscii (now (s .entry)) ⌝ }
-{
-    let mut all = true;
-    let mut i = 0;
-    while i < s.len() {
-        all = all & small_ascii(s[i]);
-        i += 1;
-    }
-    all
-}
-
-// Is a local part in lower case? Nearly all that come here are well formed and are, which the first test tells without
-// asking whether they are well formed.
-fn is_small_text(s: &[u8]) -> bool
-    ensures { λ r. ⌜ r ≡ sameOctets (lowerText (now (s .entry))) (now (s .entry)) ⌝ }
-{
-    if utf8::is_steady(s) {
-        return true;
-    }
-    if utf8::is_text(s) {
-        return false;
-    }
-    is_small(s)
-}
-
-// Is it its own canonical form (L8)?
-fn is_own_form(s: &[u8]) -> bool
-    ensures { λ r. ⌜ r ≡ sameOctets (canonicalOf (now (s .entry))) (now (s .entry)) ⌝ }
-{
-    if is_small_ascii(s) {
-        return true;
-    }
-    let at = octets::find(s, 0, b'@');
-    is_small_text(&s[0..at]) & is_small(&s[at..])
-}
-
-// Is it a plain address that is its own canonical form (L8)?
+// Is it a plain address that is its own canonical form (L8)? The form of a label is ASCII, so no label has to be coded to tell.
 pub fn is_canonical(s: &[u8]) -> bool
     ensures { λ r. ⌜ r ≡ isCanonical (now (s .entry)) ⌝ }
 {
-    if is_plain(s) { is_own_form(s) } else { false }
+    asciiaddress::is_canonical(s)
 }
 
-// Is it one by the old rule (T16)?
-pub fn was_canonical(s: &[u8]) -> bool
-    ensures { λ r. ⌜ r ≡ wasCanonical (now (s .entry)) ⌝ }
+// Makes the canonical form of a plain address that is not ASCII.
+fn make_wide(s: &[u8], form: &mut [u8]) -> usize
+    requires { ⌜ plain (now s) ≡ true ⌝ }
+    requires { ⌜ length (now form) ≡ 254 ⌝ }
+    ensures { λ r. ⌜ Fronts (canonicalOf (now (s .entry))) (now (form .exit)) r ⌝ }
 {
-    if is_plain(s) { is_small(s) } else { false }
-}
-
-// Writes the canonical form over the front of `out`: all of the text by the rule for domains, and then, where that is not
-// enough, the local part once more.
-fn put_form(out: &mut [u8], s: &[u8])
-    requires { ⌜ length (now s) ≤ length (now out) ⌝ }
-    ensures { λ _. ⌜ now (out .exit) ≡ onto (canonicalOf (now (s .entry))) (now (out .entry)) ⌝ }
-{
-    if utf8::put_ascii(&mut *out, 0, s) {
-        return;
+    match put_form(s, form) {
+        Laid::At(n) => n,
+        Laid::NoRoom => 0,
     }
-    let at = octets::find(s, 0, b'@');
-    utf8::put_lower(&mut *out, 0, &s[0..at]);
 }
 
-// Writes the canonical form to the front of `out`, where it fits.
-pub fn canonical(s: &[u8], out: &mut [u8]) -> Fitted
-    ensures { λ r. ⌜ r ≡ writtenOf (canonicalOf (now (s .entry))) (length (now (out .entry))) ⌝ }
-    ensures { λ _. ⌜ now (out .exit) ≡ ontoIfFits (canonicalOf (now (s .entry))) (now (out .entry)) ⌝ }
+// Makes the canonical form of a plain address in a buffer of the caller's own, of which only the front counts, and answers its
+// length. For ASCII one loop is enough, which tells on its way that the address is: nearly all go no further.
+pub fn form_of(s: &[u8], form: &mut [u8]) -> usize
+    requires { ⌜ plain (now s) ≡ true ⌝ }
+    requires { ⌜ length (now form) ≡ 254 ⌝ }
+    ensures { λ r. ⌜ Fronts (canonicalOf (now (s .entry))) (now (form .exit)) r ⌝ }
+{
+    if LONGEST < s.len() {
+        return make_wide(s, form);
+    }
+    if utf8::put_ascii(&mut *form, 0, s) {
+        return s.len();
+    }
+    make_wide(s, form)
+}
+
+// Writes a text to the front of `out` with its ASCII capitals made small, where it fits.
+fn put_small(s: &[u8], out: &mut [u8]) -> Fitted
+    ensures { λ r. ⌜ r ≡ writtenOf (lowered (now (s .entry))) (length (now (out .entry))) ⌝ }
+    ensures { λ _. ⌜ now (out .exit) ≡ ontoIfFits (lowered (now (s .entry))) (now (out .entry)) ⌝ }
 {
     if out.len() < s.len() {
         return Fitted::NoRoom;
     }
-    put_form(&mut *out, s);
+    octets::put_lower(out, 0, s);
     Fitted::Length(s.len())
 }
 
-// Is `form` the canonical form of `s`? Addresses are compared in no other way (L8). Where the form is ASCII, which a caller
-// who asks often finds out once, only an ASCII address has it, and that need not be brought into form. The lengths then come
-// first: a form is as long as its address, and most addresses differ there.
+// Writes the canonical form of a plain address to the front of `out`, where it fits. It has no capital, so that what writes
+// texts in lower case writes it as it is.
+pub fn canonical(s: &[u8], out: &mut [u8]) -> Fitted
+    requires { ⌜ plain (now s) ≡ true ⌝ }
+    ensures { λ r. ⌜ r ≡ writtenOf (canonicalOf (now (s .entry))) (length (now (out .entry))) ⌝ }
+    ensures { λ _. ⌜ now (out .exit) ≡ ontoIfFits (canonicalOf (now (s .entry))) (now (out .entry)) ⌝ }
+{
+    if utf8::is_ascii(s) {
+        return put_small(s, out);
+    }
+    let mut form = [0u8; LONGEST];
+    match put_form(s, &mut form) {
+        Laid::At(n) => put_small(&form[..n], out),
+        Laid::NoRoom => Fitted::NoRoom,
+    }
+}
+
+// Is `form` the canonical form of `s`, a text of any octets?
+fn has_wide_form(s: &[u8], form: &[u8]) -> bool
+    requires { ⌜ isCanonical (now form) ≡ true ⌝ }
+    ensures { λ r. ⌜ r ≡ sameOctets (canonicalOf (now (s .entry))) (now (form .entry)) ⌝ }
+{
+    let mut own = [0u8; LONGEST];
+    match put_form(s, &mut own) {
+        Laid::At(n) => octets::same(&own[..n], form),
+        Laid::NoRoom => false,
+    }
+}
+
+// The same. Addresses are compared in no other way (L8). Where the form is ASCII, which a caller who asks often finds out once, an
+// ASCII address need not be brought into form.
 pub fn has_known_form(s: &[u8], form: &[u8], ascii: bool) -> bool
     requires { ⌜ (isCanonical (now form) ≡ true) × (ascii ≡ allAscii (now form)) ⌝ }
     ensures { λ r. ⌜ r ≡ sameOctets (canonicalOf (now (s .entry))) (now (form .entry)) ⌝ }
 {
     if ascii {
-        return octets::same_name(s, form);
+        if octets::same_name(s, form) {
+            return true;
+        }
+        if utf8::is_ascii(s) {
+            return false;
+        }
     }
-    if s.len() != form.len() {
-        return false;
-    }
-    let mut own = [0u8; 256];
-    match canonical(s, &mut own) {
-        Fitted::Length(n) => octets::same(&own[0..n], form),
-        Fitted::NoRoom => false,
-    }
+    has_wide_form(s, form)
 }
 
 // The same, for a form that is asked about once.

@@ -6,4 +6,5 @@ pub put-form-spec : {M : Type 1} → fn.Statement.statement M
 put-form-spec =
     fn.Tie.close (fn.Tie.spec (λ c. search putting-form) (λ c. search putting-form) (λ c. search putting-form)
     (λ c. search putting-form) (λ c. search putting-form) (λ c. search putting-form) (λ c. search putting-form)
+    (λ c. search putting-form) (λ c. search putting-form) (λ c. search putting-form) (λ c. search putting-form)
     (λ c. search putting-form) (λ c. search putting-form) (λ c. search putting-form))

@@ -1,0 +1,9 @@
+pub mod Atoms
+pub mod Labels
+pub mod Plain
+pub mod Sides
+pub mod Alike
+pub mod Lowered
+pub mod Before
+pub mod Forms
+pub mod Worked
