@@ -5,6 +5,7 @@
 //     process, Gossip                          take in a received mail (U1), with the gossip setting (G1)
 //     recommend, target_key, target_part       advice for a mail to be sent, and the keys to encrypt to (A1, A6)
 //     write_autocrypt, write_gossip            write a field for a mail to be sent (W1)
+//     display                                  an address as it is shown (W11)
 //     Answer, Recommended, Written             what calls answer, each with a case for a refusal
 //     Advice, Part                             an advice (A1), and a part of a table (A6)
 //     Refusal, number, index                   why a call refuses, its number, and the index that comes with 2 (R33)
@@ -15,6 +16,7 @@
 pub use advice::Advice;
 pub use advice::Part;
 pub use convert::convert;
+pub use display::display;
 pub use inspect::check;
 pub use inspect::entry;
 pub use process::process;

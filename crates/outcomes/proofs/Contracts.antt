@@ -1,7 +1,7 @@
 -- C1, C2: the contract of each public function, as the toolchain makes it of the source, is the claims of Outcomes or OutcomesInC: it requires
 -- nothing, it ensures these claims, and nothing else. So a contract that is weakened, or a claim that is not the contract's, is refused here. That
 -- no public function is left out is read from the sources by tests/texts/test_outcomes.py. Assumes nothing.
---     number-contract .. write-gossip-contract    the functions that autocrypt passes on
+--     number-contract .. display-contract          the functions that autocrypt passes on
 --     vienghulac-check-contract ..                the functions of include/vienghulac.h
 -- `spec` is the contract that the function's theorem is about. Of a call, a is the arguments, r the answer, and e the arguments as it leaves them;
 -- `now` is what a slice holds.
@@ -25,6 +25,7 @@ use Rattle.recommend.proofs.target_part as target-part
 use Rattle.recommend.proofs.target_key as target-key
 use Rattle.write.proofs.write_autocrypt as write-autocrypt
 use Rattle.write.proofs.write_gossip as write-gossip
+use Rattle.display.proofs.display as display
 use Rattle.cabi.proofs.tables.vienghulac_check as vienghulac-check
 use Rattle.cabi.proofs.tables.vienghulac_convert as vienghulac-convert
 use Rattle.cabi.proofs.messages.vienghulac_process as vienghulac-process
@@ -33,8 +34,9 @@ use Rattle.cabi.proofs.recommending.vienghulac_recommend as vienghulac-recommen
 use Rattle.cabi.proofs.recommending.vienghulac_target_key as vienghulac-target-key
 use Rattle.cabi.proofs.writing.vienghulac_write_autocrypt as vienghulac-write-autocrypt
 use Rattle.cabi.proofs.writing.vienghulac_write_gossip as vienghulac-write-gossip
-use Rattle.outcomes.specs.Outcomes.{Number, Index, Check, Convert, Process, Entry, Recommend, TargetPart, TargetKey, WriteAutocrypt, WriteGossip}
-use Rattle.outcomes.specs.OutcomesInC.{VienghulacCheck, VienghulacConvert, VienghulacProcess, VienghulacEntry, VienghulacRecommend, VienghulacTargetKey, VienghulacWriteAutocrypt, VienghulacWriteGossip}
+use Rattle.cabi.proofs.writing.vienghulac_display as vienghulac-display
+use Rattle.outcomes.specs.Outcomes.{Number, Index, Check, Convert, Process, Entry, Recommend, TargetPart, TargetKey, WriteAutocrypt, WriteGossip, Display}
+use Rattle.outcomes.specs.OutcomesInC.{VienghulacCheck, VienghulacConvert, VienghulacProcess, VienghulacEntry, VienghulacRecommend, VienghulacTargetKey, VienghulacWriteAutocrypt, VienghulacWriteGossip, VienghulacDisplay}
 use Rattle.outcomes.specs.Contracts.{ensuring}
 
 -- in every model of the toolchain's logic
@@ -83,6 +85,10 @@ module _ {M : Type 1} (𝓤 : URA M) (H : Heap 𝓤) (A : Atoms 𝓤) (mem : Mem
       ≡ ensuring 𝓤 H A write-gossip.ended (λ κs a r e. WriteGossip (now (a .0)) (now (a .1 .0)) (now (a .1 .1 .0)) r (now (e .1 .1 .0)))
   write-gossip-contract = refl
 
+  pub display-contract : display.spec 𝓤 H A mem run
+      ≡ ensuring 𝓤 H A display.ended (λ κs a r e. Display (now (a .0)) (now (a .1 .0)) r (now (e .1 .0)))
+  display-contract = refl
+
   pub vienghulac-check-contract : vienghulac-check.spec 𝓤 H A mem run ≡ ensuring 𝓤 H A vienghulac-check.ended (λ κs a r e. VienghulacCheck (now (a .0)) r)
   vienghulac-check-contract = refl
 
@@ -118,3 +124,7 @@ module _ {M : Type 1} (𝓤 : URA M) (H : Heap 𝓤) (A : Atoms 𝓤) (mem : Mem
       ≡ ensuring 𝓤 H A vienghulac-write-gossip.ended
       (λ κs a r e. VienghulacWriteGossip (now (a .0)) (now (a .1 .0)) (now (a .1 .1 .0)) r (now (e .1 .1 .0)))
   vienghulac-write-gossip-contract = refl
+
+  pub vienghulac-display-contract : vienghulac-display.spec 𝓤 H A mem run
+      ≡ ensuring 𝓤 H A vienghulac-display.ended (λ κs a r e. VienghulacDisplay (now (a .0)) (now (a .1 .0)) r (now (e .1 .0)))
+  vienghulac-display-contract = refl

@@ -7,6 +7,7 @@
 --     Process, Entry                     process, entry
 --     Recommend, TargetPart, TargetKey   recommend, target_part, target_key
 --     WriteAutocrypt, WriteGossip        write_autocrypt, write_gossip
+--     Display                            display
 -- Number and values of an answer come from one definition for each call (C5).
 use Prim.Native.Nat.{ℕ}
 use mathlib.Core.Path.{_≡_}
@@ -28,6 +29,7 @@ use Rattle.recommend.specs.declared.Recommended.{Recommended}
 use Rattle.names.specs.Names.{autocrypt as autocryptName, gossip as gossipName}
 use Rattle.write.specs.Writing.{writtenOf, leftByWriting}
 use Rattle.write.specs.declared.Written.{Written}
+use Rattle.display.specs.Displaying.{displayedOf, leftByDisplaying}
 
 -- C2: the answer is the one that is promised, and so is what the memory holds
 abbrev pub Meets : {A : Type 0} → A → List ℕ → A → List ℕ → List (Type 0)
@@ -80,3 +82,7 @@ WriteAutocrypt address key isMutual out r left =
 abbrev pub WriteGossip : List ℕ → List ℕ → List ℕ → Written → List ℕ → List (Type 0)
 WriteGossip address key out r left =
     Meets (writtenOf gossipName address false key (length out)) (leftByWriting gossipName address false key out) r left
+
+-- W11: what `display` answers, and the output that it leaves
+abbrev pub Display : List ℕ → List ℕ → Written → List ℕ → List (Type 0)
+Display address out r left = Meets (displayedOf address (length out)) (leftByDisplaying address out) r left

@@ -5,6 +5,7 @@
 --     VienghulacEntry                                    vienghulac_entry
 --     VienghulacRecommend, VienghulacTargetKey           vienghulac_recommend, vienghulac_target_key
 --     VienghulacWriteAutocrypt, VienghulacWriteGossip    vienghulac_write_autocrypt, vienghulac_write_gossip
+--     VienghulacDisplay                                  vienghulac_display
 use Prim.Native.Nat.{ℕ}
 use mathlib.Core.Path.{_≡_}
 use mathlib.Core.Bool.{Bool, false}
@@ -17,6 +18,7 @@ use Rattle.process.specs.Processing.{refusedProcessing, leftByProcessing}
 use Rattle.recommend.specs.Recommending.{recommendedOf, targetPartOf}
 use Rattle.names.specs.Names.{autocrypt as autocryptName, gossip as gossipName}
 use Rattle.write.specs.Writing.{writtenOf, leftByWriting}
+use Rattle.display.specs.Displaying.{displayedOf, leftByDisplaying}
 use Rattle.cabi.specs.Numbers.{inNumbers, writtenInNumbers, settingOf, adviceInNumbers, partInNumbers}
 use Rattle.cabi.specs.declared.numbers.Answer.{Answer}
 use Rattle.cabi.specs.declared.numbers.Advice.{Advice}
@@ -59,3 +61,7 @@ VienghulacWriteAutocrypt address key isMutual out r left =
 abbrev pub VienghulacWriteGossip : List ℕ → List ℕ → List ℕ → Written → List ℕ → List (Type 0)
 VienghulacWriteGossip address key out r left =
     Meets (writtenInNumbers (writtenOf gossipName address false key (length out))) (leftByWriting gossipName address false key out) r left
+
+-- W11, R34: what `vienghulac_display` answers, and the output that it leaves
+abbrev pub VienghulacDisplay : List ℕ → List ℕ → Written → List ℕ → List (Type 0)
+VienghulacDisplay address out r left = Meets (writtenInNumbers (displayedOf address (length out))) (leftByDisplaying address out) r left

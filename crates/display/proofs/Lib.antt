@@ -1,0 +1,2 @@
+pub mod Displaying
+pub mod Outcomes

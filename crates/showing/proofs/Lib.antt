@@ -1,0 +1,5 @@
+pub mod Again
+pub mod Typing
+pub mod Making
+pub mod Laying
+pub mod Worked
