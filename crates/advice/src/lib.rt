@@ -102,11 +102,9 @@ fn locate(table: &[u8], tags: &[u32; Slot::MOST], address: &[u8]) -> Held
     requires { ⌜ Open (now table) (now tags) × (plain (now address) ≡ true) ⌝ }
     ensures { λ r. ⌜ r ≡ heldOf (now (table .entry)) (canonicalOf (now (address .entry))) ⌝ }
 {
-    let mut form = [0u8; Slot::ADDRESS_ROOM];
-    match address::canonical(address, &mut form) {
-        address::Fitted::Length(n) => lookup::entry_of(table, tags, &form[0..n]),
-        address::Fitted::NoRoom => Held::NoEntry,
-    }
+    let mut form = [0u8; address::LONGEST];
+    let n = address::form_of(address, &mut form);
+    lookup::entry_of(table, tags, &form[..n])
 }
 
 // What is advised for one recipient (A2, A4).

@@ -15,8 +15,8 @@ use lib.ListN.{length, take}
 use Rattle.octets.specs.Finding.{holds}
 use Rattle.octets.proofs.Finding.{By, none, one, other, by}
 use Rattle.octets.proofs.Tests.{by-test}
-use Rattle.address.specs.Pieces.{pieces, before, behind}
-use Rattle.address.proofs.Pieces.{others, pieces-first, pieces-sides, behind-drop}
+use Rattle.pieces.specs.Pieces.{pieces, before, behind}
+use Rattle.pieces.proofs.Pieces.{others, pieces-first, pieces-sides, behind-drop}
 use Rattle.attributes.specs.Answers.{part, Within, FirstAt}
 use Rattle.attributes.proofs.Parts.{part-length, part-front, part-back}
 

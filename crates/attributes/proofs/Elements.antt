@@ -12,8 +12,8 @@ use Rattle.octets.specs.Octets.{blank}
 use Rattle.octets.specs.Finding.{holds}
 use Rattle.octets.specs.Tests.{every}
 use Rattle.octets.proofs.Tests.{by-test, and-left, and-right}
-use Rattle.address.specs.Pieces.{onFirst, pieces, before, behind}
-use Rattle.address.proofs.Pieces.{others, pieces-first}
+use Rattle.pieces.specs.Pieces.{onFirst, pieces, before, behind}
+use Rattle.pieces.proofs.Pieces.{others, pieces-first}
 use Rattle.attributes.specs.Attribute.{trimmedFront, trimmedBack, trimmed, nameOf, attribute, addr, spoiling, attributeOf}
 use Rattle.attributes.specs.declared.Name.{Name}
 use Rattle.attributes.specs.declared.Name.the-variants.{Addr, PreferEncrypt, Keydata, Ignored, Unknown}

@@ -14,7 +14,7 @@ use mir.Syntax.{w64}
 use mir.Val.{Fits}
 use Rattle.octets.specs.Finding.{lengthBefore}
 use Rattle.octets.proofs.Finding.{By, none, one, other, by, before-on, before-here, before-short}
-use Rattle.address.specs.Pieces.{before}
+use Rattle.pieces.specs.Pieces.{before}
 use Rattle.attributes.specs.Answers.{part, Within, FirstAt}
 use Rattle.attributes.proofs.Parts.{part-length}
 

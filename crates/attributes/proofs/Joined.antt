@@ -19,8 +19,8 @@ use Rattle.octets.specs.Finding.{holds}
 use Rattle.octets.proofs.Finding.{by}
 use Rattle.octets.proofs.Tests.{and-left}
 use Rattle.octets.proofs.Without.{without-passing, without-other}
-use Rattle.address.specs.Pieces.{pieces, before, behind}
-use Rattle.address.proofs.Pieces.{others, before-into, behind-into, pieces-into, pieces-whole}
+use Rattle.pieces.specs.Pieces.{pieces, before, behind}
+use Rattle.pieces.proofs.Pieces.{others, before-into, behind-into, pieces-into, pieces-whole}
 use Rattle.attributes.specs.Attribute.{trimmedFront, trimmedBack, trimmed, nameOf, addr, preferEncrypt, keydata, attribute, attributeOf}
 use Rattle.attributes.specs.declared.Name.the-variants.{Keydata}
 use Rattle.attributes.proofs.Cutting.{holds-some}

@@ -10,7 +10,7 @@ use Prim.Native.Nat.{ℕ, _+_, _-_, _≤_}
 use mathlib.Core.Path.{_≡_}
 use mathlib.Core.List.{List}
 use lib.ListN.{length, take, drop}
-use Rattle.address.specs.Pieces.{before}
+use Rattle.pieces.specs.Pieces.{before}
 use Rattle.attributes.specs.Attribute.{Attribute, addr, preferEncrypt, keydata, ignored, spoiling, trimmedFront, trimmedBack, trimmed}
 use Rattle.attributes.specs.declared.Bounds.{Bounds}
 use Rattle.attributes.specs.declared.Attribute.{Attribute as Told}

@@ -8,7 +8,7 @@ use mathlib.Core.List.{List, [], _∷_, reverse}
 use Rattle.octets.specs.Octets.{ascii, octet, sameOctets, startsWith, blank}
 use Rattle.octets.specs.Finding.{holds}
 use Rattle.names.specs.Names as names
-use Rattle.address.specs.Pieces.{before, behind}
+use Rattle.pieces.specs.Pieces.{before, behind}
 use Rattle.attributes.specs.declared.Name.{Name}
 use Rattle.attributes.specs.declared.Name.the-variants.{Addr, PreferEncrypt, Keydata, Ignored, Unknown}
 

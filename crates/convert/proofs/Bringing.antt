@@ -21,7 +21,7 @@ use Rattle.address.specs.Answers.{writtenOf, ontoIfFits}
 use Rattle.address.specs.declared.Fitted.{Fitted}
 use Rattle.address.specs.declared.Fitted.the-variants.{Length, NoRoom}
 use Rattle.address.proofs.Spelling.{canonical-most}
-use Rattle.address.proofs.Before.{was-plain}
+use Rattle.address.proofs.Ascii.{was-plain}
 use Rattle.address.proofs.Forming as forming
 use Rattle.heads.specs.Entry.{renamed}
 use Rattle.heads.proofs.Parts.{put-over}
@@ -137,7 +137,7 @@ pub ruleset settling = (settle-seeks, settle-within, settle-old, settle-room, se
 
 -- the used slot i, and its form in a buffer b, which is then `out`
 module _ (t tags : List ℕ) (i : ℕ) (h : Brings t tags i) (used : marked (slotAt t i) ≡ true) (s : List ℕ) (es : s ≡ addressOf (slotAt t i)) where
-  plainly : plain s ≡ true
+  pub plainly : plain s ≡ true
   unfolding spelled
   plainly = ap plain es ∙ was-plain (addressOf (slotAt t i)) (sound-parts (slotAt t i) (h .was-sound used) .address)
 
@@ -159,7 +159,7 @@ module _ (t tags : List ℕ) (i : ℕ) (h : Brings t tags i) (used : marked (slo
       pub form-brought : (v : List ℕ) → v ≡ broughtAt t i (lowest (hasAddress (take (n - 0) (drop 0 out))) t 0 i) → v ≡ brought t i
       form-brought v ev = ev ∙ rw form (sym (stepwise.brought-used t i used))
 
-pub ruleset bringing-used = (form-never, form-end, form-settles, form-brought, needs)
+pub ruleset bringing-used = (plainly, form-never, form-end, form-settles, form-brought, needs)
 
 -- slot i, used or not
 module _ (t : List ℕ) (i : ℕ) (m : Bool) where

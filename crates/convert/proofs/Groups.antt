@@ -20,7 +20,7 @@ use Rattle.octets.proofs.Lists.{lt-or-le}
 use Rattle.octets.proofs.Tests.{and-left, and-right, by-test}
 use Rattle.address.specs.Address.{plain, isCanonical}
 use Rattle.address.proofs.Spelling.{canonical-octets, plain-is-canonical}
-use Rattle.address.proofs.Before.{was-plain}
+use Rattle.address.proofs.Ascii.{was-plain}
 use Rattle.heads.specs.Entry.{Entry, renamed}
 use Rattle.slots.specs.Slot.{addressOf, marked, spelled}
 use Rattle.slots.specs.Entry.{entryOf, Good}

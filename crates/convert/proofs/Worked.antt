@@ -14,8 +14,10 @@ use Rattle.octets.specs.Tests.{every}
 use Rattle.runs.specs.Runs.{belongs}
 use Rattle.utf8.specs.Utf8 as utf8
 use Rattle.utf8.specs.Lowering as lowering
-use Rattle.address.specs.Pieces.{onFirst, pieces, before, behind, from}
-use Rattle.address.specs.Address.{atom, localPart, freeEnds, label, domain, plain, canonical, isCanonical, asciiForm, wasCanonical}
+use Rattle.pieces.specs.Pieces.{onFirst, pieces, before, behind, from, following, joined as dotted}
+use Rattle.asciiaddress.specs.Ascii.{atom, localPart, freeEnds, asciiForm, wasCanonical, asciiLabel, asciiDomain, asciiPlain}
+use Rattle.labels.specs.Labels as labels
+use Rattle.address.specs.Address.{domain, domainForm, addressForm, plain, canonical, isCanonical}
 use Rattle.heads.specs.Head.{headOf, clear, bitsOf, times, lengths, headOctets}
 use Rattle.heads.specs.Entry.{Entry, headFor, renamed}
 use Rattle.slots.specs.declared.Spelling.the-variants.{Ascii}
@@ -53,9 +55,9 @@ table : List ℕ
 table = slotOf capital ++ slotOf small
 
 two-spellings : (checkedBy Ascii table ≡ Sound) × (checked table ≡ Slot 0)
-unfolding table slotOf areas padded headOctets times lengths digits bitsOf headFor checkedBy whole slots judgedBy rightBy free slotAt hasAddress lowest inLower soundBy marked spelled zeroPadding clear headOf number allZero sameOctets addressOf isCanonical wasCanonical asciiForm plain localPart domain label atom belongs freeEnds every pieces onFirst before behind from canonical lowering.lowerText lowering.lowerPoints lowering.lowerPoint utf8.points utf8.tails utf8.leadOf utf8.encoded utf8.encodedOne inFront lowered lower isSome orElse
+unfolding table slotOf areas padded headOctets times lengths digits bitsOf headFor checkedBy whole slots judgedBy rightBy free slotAt hasAddress lowest inLower soundBy marked spelled zeroPadding clear headOf number allZero sameOctets addressOf isCanonical wasCanonical asciiLabel asciiDomain asciiPlain asciiForm plain localPart domain domainForm addressForm labels.labelOctet labels.labelForm labels.fits labels.label labels.labelled atom belongs freeEnds every pieces onFirst before behind from canonical lowering.lowerText lowering.lowerPoints lowering.lowerPoint utf8.points utf8.tails utf8.leadOf utf8.encoded utf8.encodedOne inFront lowered lower isSome orElse following dotted
 two-spellings = (refl, refl)
 
 lowest-holds : converted table ≡ slotOf both ++ freeSlot
-unfolding table converted tableOf convertedAt slotFor leads gathered joined hasForm formOf merged laterOf renamed entryOf slotOf areas padded headOctets times lengths digits bitsOf headFor slots slotAt lowest marked headOf number sameOctets addressOf directKeyOf gossipKeyOf before from canonical lowering.lowerText lowering.lowerPoints lowering.lowerPoint utf8.points utf8.tails utf8.leadOf utf8.encoded utf8.encodedOne inFront lowered lower isSome orElse
+unfolding table converted tableOf convertedAt slotFor leads gathered joined hasForm formOf merged laterOf renamed entryOf slotOf areas padded headOctets times lengths digits bitsOf headFor slots slotAt lowest marked headOf number sameOctets addressOf directKeyOf gossipKeyOf before canonical lowering.lowerText lowering.lowerPoints lowering.lowerPoint utf8.points utf8.tails utf8.leadOf utf8.encoded utf8.encodedOne inFront lowered lower isSome orElse following domain domainForm addressForm plain labels.labelOctet labels.labelForm labels.fits labels.label labels.labelled atom localPart freeEnds onFirst pieces behind dotted every belongs
 lowest-holds = refl

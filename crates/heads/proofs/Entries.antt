@@ -1,25 +1,16 @@
 -- Entries and their heads.
---     canonical-most           a canonical address is within the limit of L6
 --     present-is .. half-holds    what may be absent, beside what stands for it
 --     changed-address .. changed-gossip    what a writer changes in an entry, it changes in its head
 -- Assumes nothing.
-use Prim.Native.Nat.{ℕ, _≤_}
+use Prim.Native.Nat.{ℕ}
 use mathlib.Core.Path.{_≡_, refl}
 use mathlib.Core.Bool.{Bool, true, false}
 use mathlib.Core.Option.{Option, some, none}
 use mathlib.Core.List.{List}
 use lib.ListN.{length}
-use Rattle.octets.specs.Octets.{sameOctets}
 use Rattle.octets.specs.Options.{orElse, isSome, IfSome}
-use Rattle.octets.proofs.Tests.{and-left}
-use Rattle.address.specs.Address.{plain, canonical, isCanonical}
-use Rattle.address.proofs.Sides.{plain-most}
 use Rattle.heads.specs.Head.{headAddress, headSeen, headDirect, headGossip}
 use Rattle.heads.specs.Entry.{Direct, Gossip, Entry, present, headFor, renamed, seenBy, withDirect, withGossip}
-
-pub canonical-most : (a : List ℕ) → isCanonical a ≡ true → length a ≤ 254
-unfolding isCanonical
-canonical-most a h = plain-most a (and-left (plain a) (sameOctets (canonical a) a) h)
 
 -- a part that may be absent
 pub present-is : {A : Type 0} (b : Bool) (x : A) → isSome (present b x) ≡ b

@@ -19,10 +19,11 @@ use Rattle.octets.specs.Octets.{AllOctets}
 use Rattle.octets.specs.Options.{orElse, isSome, IfSome}
 use Rattle.octets.specs.Tests.{oneTo}
 use Rattle.address.specs.Address.{isCanonical}
+use Rattle.address.proofs.Spelling.{own-most}
 use Rattle.heads.specs.Head.{timeLimit, seenSound, directSound, gossipSound}
 use Rattle.heads.specs.Entry.{Direct, Gossip, Entry, noDirect, noGossip, headFor, newcomer, seenBy, withDirect, withGossip, GoodKey, GoodDirect, GoodGossip, Good}
 use Rattle.heads.proofs.RoundTrip.{Fit}
-use Rattle.heads.proofs.Entries.{canonical-most, half-holds}
+use Rattle.heads.proofs.Entries.{half-holds}
 
 -- a test that asks something of a part that is there, and another of one that is not
 asked : {A : Type 0} (P : A → Type 0) (there gone : A → Bool) (d : A) → ((x : A) → P x → there x ≡ true) → gone d ≡ true → (o : Option A) → IfSome P o
@@ -36,7 +37,7 @@ key-range {limit} k h = rw (le-leb 1 (length k) (h .some-octet), le-leb (length 
 
 module _ {limit : ℕ} (e : Entry) (g : Good limit e) where
   pub good-address : length (e .address) ≤ 254
-  good-address = canonical-most (e .address) (g .canonical)
+  good-address = own-most (e .address) (g .canonical)
 
   pub good-seen : orElse 0 (e .lastSeen) ≤ timeLimit
   good-seen = half-holds (λ (t : ℕ). t ≤ timeLimit) (λ (t : ℕ). t ≤ timeLimit) 0 (omega arith) (λ t h. h) (e .lastSeen) (g .seen)

@@ -23,7 +23,7 @@ use Rattle.octets.proofs.Tests.{by-test, and-left, and-right}
 use Rattle.octets.proofs.Every.{every-at}
 use Rattle.letters.specs.Base64.{decode}
 use Rattle.letters.proofs.Standing.{decode-octets}
-use Rattle.address.specs.Pieces.{pieces}
+use Rattle.pieces.specs.Pieces.{pieces}
 use Rattle.address.specs.Address.{plain, canonical, isCanonical}
 use Rattle.address.proofs.Spelling.{plain-is-canonical, canonical-octets}
 use Rattle.attributes.specs.Attribute.{Attribute, addr, preferEncrypt, keydata, ignored, spoiling, attributeOf}

@@ -10,8 +10,8 @@ use native.Mathlib.Omega.{arith}
 use borrow.Author.Needs.{needs}
 use lib.ListN.{length}
 use Rattle.octets.proofs.Lists.{lt-or-le}
-use Rattle.address.specs.Pieces.{pieces}
-use Rattle.address.proofs.Pieces.{pieces-first}
+use Rattle.pieces.specs.Pieces.{pieces}
+use Rattle.pieces.proofs.Pieces.{pieces-first}
 use Rattle.attributes.specs.Attribute.{attributeOf}
 use Rattle.attributes.specs.Step.{step}
 use Rattle.attributes.specs.Answers.{part, Within, FirstAt}

@@ -5,15 +5,17 @@ use mathlib.Core.Bool.{Bool, true, false}
 use mathlib.Core.List.{List, [], _∷_}
 use mathlib.Core.Option.{Option, some, none}
 use Rattle.octets.specs.Octets.{ascii, lower, lowered, sameOctets, startsWith, blank}
-use Rattle.octets.specs.Options.{onlyOne, inFront}
+use Rattle.octets.specs.Options.{onlyOne, inFront, orElse}
 use Rattle.octets.specs.Finding.{holds}
 use Rattle.octets.specs.Tests.{every, without}
 use Rattle.runs.specs.Runs.{belongs}
 use Rattle.letters.specs.Base64 as base64
 use Rattle.utf8.specs.Utf8 as utf8
 use Rattle.utf8.specs.Lowering as lowering
-use Rattle.address.specs.Pieces.{onFirst, pieces, before, behind, from}
-use Rattle.address.specs.Address.{atom, localPart, freeEnds, label, domain, plain, canonical}
+use Rattle.pieces.specs.Pieces.{onFirst, pieces, before, behind, from, following, joined}
+use Rattle.asciiaddress.specs.Ascii.{atom, localPart, freeEnds}
+use Rattle.labels.specs.Labels as labels
+use Rattle.address.specs.Address.{domain, domainForm, addressForm, plain, canonical}
 use Rattle.attributes.specs.Attribute.{trimmedFront, trimmedBack, trimmed, nameOf, attribute, attributeOf}
 use Rattle.attributes.specs.Step.{withAddress, withPreference, step}
 use Rattle.keyfield.specs.Field.{saidWith, ifLast, saidFrom, saidOf, limited, keyOf, Field, withKey, fieldBy, fieldOf, naming, validFor, chosen, validFields, counted}
@@ -91,7 +93,7 @@ isSpoiled none = true
 isSpoiled (some f) = false
 
 worked : WhatCounts × KeyData × Limits × GoodOnes × (every (λ s. isSpoiled (fieldOf 2048 s)) spoiledOnes ≡ true)
-unfolding spoiledOnes isSpoiled counted onlyOne validFields chosen validFor naming fieldOf fieldBy withKey keyOf limited saidOf saidFrom ifLast saidWith step withAddress withPreference attributeOf holds attribute nameOf trimmed trimmedBack trimmedFront blank every onFirst pieces before behind plain localPart atom domain label belongs freeEnds canonical from lowering.lowerText lowering.lowerPoints lowering.lowerPoint utf8.points utf8.tails utf8.leadOf utf8.encoded utf8.encodedOne inFront lowered lower sameOctets startsWith base64.decode base64.follow base64.before base64.atEnd base64.grouped base64.closed base64.signOf without
+unfolding spoiledOnes isSpoiled counted onlyOne validFields chosen validFor naming fieldOf fieldBy withKey keyOf limited saidOf saidFrom ifLast saidWith step withAddress withPreference attributeOf holds attribute nameOf trimmed trimmedBack trimmedFront blank every onFirst pieces before behind plain localPart atom domain domainForm addressForm labels.labelOctet labels.labelForm labels.fits labels.label labels.labelled belongs freeEnds canonical from lowering.lowerText lowering.lowerPoints lowering.lowerPoint utf8.points utf8.tails utf8.leadOf utf8.encoded utf8.encodedOne inFront lowered lower sameOctets startsWith base64.decode base64.follow base64.before base64.atEnd base64.grouped base64.closed base64.signOf without following joined orElse
 worked = ((refl, refl, refl, refl, refl, refl), (refl, refl, refl), (refl, refl), (refl, refl, refl, refl), refl)
 
 pub counts : WhatCounts

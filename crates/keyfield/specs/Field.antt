@@ -15,7 +15,7 @@ use Rattle.octets.specs.Octets.{octet, sameOctets, withoutBlanks}
 use Rattle.octets.specs.Options.{onlyOne}
 use Rattle.octets.specs.Tests.{oneTo}
 use Rattle.letters.specs.Base64.{decode}
-use Rattle.address.specs.Pieces.{pieces}
+use Rattle.pieces.specs.Pieces.{pieces}
 use Rattle.address.specs.Address.{canonical}
 use Rattle.attributes.specs.Attribute.{attributeOf}
 use Rattle.attributes.specs.Step.{on, last, spoils, step}

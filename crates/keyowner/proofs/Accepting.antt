@@ -15,7 +15,7 @@ use borrow.Author.Needs.{needs}
 use lib.ListN.{length, take, drop}
 use Rattle.octets.specs.Written.{onto}
 use Rattle.header.proofs.Unfolding.{value-within, value-there}
-use Rattle.address.specs.Address.{canonical, isCanonical}
+use Rattle.address.specs.Address.{plain, canonical, isCanonical}
 use Rattle.address.specs.Answers.{writtenOf, ontoIfFits}
 use Rattle.address.specs.declared.Fitted.{Fitted}
 use Rattle.address.specs.declared.Fitted.the-variants.{Length, NoRoom}
@@ -64,9 +64,12 @@ module _ (limit : ℕ) (s key : List ℕ) (r : Read) (a : ReadAs limit s key r) 
     abbrev named : List ℕ
     named = canonical (take (to - from) (drop from s))
 
-    fits : (room : ℕ) → addressRoom ≤ room → length named ≤ room
+    pub accept-plain : plain (take (to - from) (drop from s)) ≡ true
     unfolding part
-    fits room h = omega (arith, canonical-most (take (to - from) (drop from s)) (told-field limit s key r a from to m l q .stands .plainly))
+    accept-plain = told-field limit s key r a from to m l q .stands .plainly
+
+    fits : (room : ℕ) → addressRoom ≤ room → length named ≤ room
+    fits room h = omega (arith, canonical-most (take (to - from) (drop from s)) accept-plain)
 
     module _ (room : List ℕ) (h : addressRoom ≤ length room) (w : Fitted) (u : w ≡ writtenOf (canonical (take (to - from) (drop from s))) (length room)) where
       -- there is room
@@ -93,8 +96,7 @@ module _ (limit : ℕ) (s key : List ℕ) (r : Read) (a : ReadAs limit s key r) 
 
         -- as it is looked for among the recipients
         pub accept-canonical : isCanonical (take (n - 0) (drop 0 address)) ≡ true
-        unfolding part
-        accept-canonical = rw (sub-zero, accept-named .there) (plain-is-canonical (take (to - from) (drop from s)) (accept-named .field .stands .plainly))
+        accept-canonical = rw (sub-zero, accept-named .there) (plain-is-canonical (take (to - from) (drop from s)) accept-plain)
 
 -- by the test first, then by the places of the address
 module _ (limit : ℕ) (recipients : List (List ℕ)) (s address key : List ℕ) (n : ℕ) (b : Bool) where
@@ -133,7 +135,7 @@ module _ (limit : ℕ) (recipients : List (List ℕ)) (s address key : List ℕ)
       }
 
 pub ruleset accepting =
-    (accept-spoiled, accept-no-room, accept-within, accept-named, accept-canonical, accept-not, accept-listed, told-from, told-upto, needs)
+    (accept-spoiled, accept-plain, accept-no-room, accept-within, accept-named, accept-canonical, accept-not, accept-listed, told-from, told-upto, needs)
 
 -- as a caller asks it of an answer r
 module _ (limit : ℕ) (o : Option Gossiped) (address key : List ℕ) (r : Accepted) (p : AcceptedAs limit o address key r) where

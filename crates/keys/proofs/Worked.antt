@@ -14,8 +14,10 @@ use Rattle.header.specs.Header as header
 use Rattle.letters.specs.Base64 as base64
 use Rattle.utf8.specs.Utf8 as utf8
 use Rattle.utf8.specs.Lowering as lowering
-use Rattle.address.specs.Pieces.{onFirst, pieces, before, behind, from}
-use Rattle.address.specs.Address.{atom, localPart, freeEnds, label, domain, plain, canonical}
+use Rattle.pieces.specs.Pieces.{onFirst, pieces, before, behind, from, following, joined}
+use Rattle.asciiaddress.specs.Ascii.{atom, localPart, freeEnds}
+use Rattle.labels.specs.Labels as labels
+use Rattle.address.specs.Address.{domain, domainForm, addressForm, plain, canonical}
 use Rattle.addresslist.specs.List.{among}
 use Rattle.attributes.specs.Attribute.{trimmedFront, trimmedBack, trimmed, nameOf, attribute, attributeOf}
 use Rattle.attributes.specs.Step.{withAddress, withPreference, step}
@@ -42,7 +44,7 @@ counts :
     ∷ "Autocrypt: addr=c@d; keydata=Zg=="
     ∷ [])
     ≡ key "f" ∷ key "f" ∷ none ∷ none ∷ none ∷ []
-unfolding header.fieldsOf header.fields header.fieldsWithin inFront header.unfolded header.over header.ofEnding header.opensField run header.rawLength belongs header.closes sameName sameOctets startsWith lowered lower trimmedFront trimmedBack trimmed nameOf attribute holds attributeOf withAddress withPreference step saidWith ifLast saidFrom saidOf limited keyOf withKey fieldBy fieldOf naming validFor chosen validFields onlyOne counted base64.decode base64.follow base64.before base64.atEnd base64.grouped base64.closed base64.signOf without blank every onFirst pieces before behind atom localPart freeEnds label domain plain canonical from lowering.lowerText lowering.lowerPoints lowering.lowerPoint utf8.points utf8.tails utf8.leadOf utf8.encoded utf8.encodedOne orElse fieldsIn isKind valuesOf countedIn
+unfolding header.fieldsOf header.fields header.fieldsWithin inFront header.unfolded header.over header.ofEnding header.opensField run header.rawLength belongs header.closes sameName sameOctets startsWith lowered lower trimmedFront trimmedBack trimmed nameOf attribute holds attributeOf withAddress withPreference step saidWith ifLast saidFrom saidOf limited keyOf withKey fieldBy fieldOf naming validFor chosen validFields onlyOne counted base64.decode base64.follow base64.before base64.atEnd base64.grouped base64.closed base64.signOf without blank every onFirst pieces before behind atom localPart freeEnds labels.labelOctet labels.labelForm labels.fits labels.label labels.labelled domain domainForm addressForm plain canonical from lowering.lowerText lowering.lowerPoints lowering.lowerPoint utf8.points utf8.tails utf8.leadOf utf8.encoded utf8.encodedOne orElse fieldsIn isKind valuesOf countedIn following joined
 counts = refl
 
 abbrev gossip : String → String → Gossiped
@@ -56,5 +58,5 @@ heard :
     (ascii
     "Autocrypt-Gossip: addr=a@B; keydata=Zg==\nAutocrypt-Gossip: addr=x@y; keydata=Zg==\nautocrypt-gossip: addr=c@d; prefer-encrypt=mutual; keydata=Zm9v\nAutocrypt: addr=a@b; keydata=Zm9v\nAutocrypt-Gossip: addr=c@d\nAutocrypt-Gossip: addr=a@b; keydata=Zm9v"))
     ≡ gossip "a@b" "f" ∷ gossip "c@d" "foo" ∷ gossip "a@b" "foo" ∷ []
-unfolding header.fieldsOf header.fields header.fieldsWithin inFront header.unfolded header.over header.ofEnding header.opensField run header.rawLength belongs header.closes sameName sameOctets startsWith lowered lower trimmedFront trimmedBack trimmed nameOf attribute holds attributeOf withAddress withPreference step saidWith ifLast saidFrom saidOf limited keyOf withKey fieldBy fieldOf base64.decode base64.follow base64.before base64.atEnd base64.grouped base64.closed base64.signOf without blank every onFirst pieces before behind atom localPart freeEnds label domain plain canonical from lowering.lowerText lowering.lowerPoints lowering.lowerPoint utf8.points utf8.tails utf8.leadOf utf8.encoded utf8.encodedOne among orElse fieldsIn isKind valuesOf acceptedBy acceptedFor chosen accepted gossipIn
+unfolding header.fieldsOf header.fields header.fieldsWithin inFront header.unfolded header.over header.ofEnding header.opensField run header.rawLength belongs header.closes sameName sameOctets startsWith lowered lower trimmedFront trimmedBack trimmed nameOf attribute holds attributeOf withAddress withPreference step saidWith ifLast saidFrom saidOf limited keyOf withKey fieldBy fieldOf base64.decode base64.follow base64.before base64.atEnd base64.grouped base64.closed base64.signOf without blank every onFirst pieces before behind atom localPart freeEnds labels.labelOctet labels.labelForm labels.fits labels.label labels.labelled domain domainForm addressForm plain canonical from lowering.lowerText lowering.lowerPoints lowering.lowerPoint utf8.points utf8.tails utf8.leadOf utf8.encoded utf8.encodedOne among orElse fieldsIn isKind valuesOf acceptedBy acceptedFor chosen accepted gossipIn following joined
 heard = refl

@@ -28,7 +28,9 @@ use Rattle.letters.specs.Base64 as base64
 use Rattle.header.specs.Header as header
 use Rattle.utf8.specs.Utf8 as utf8
 use Rattle.utf8.specs.Lowering as lowering
-use Rattle.address.specs.Pieces as pieces
+use Rattle.pieces.specs.Pieces as pieces
+use Rattle.asciiaddress.specs.Ascii as ascii·address
+use Rattle.labels.specs.Labels as labels
 use Rattle.address.specs.Address as address
 use Rattle.grammar.specs.Grammar as grammar
 use Rattle.addresslist.specs.List as list
@@ -101,7 +103,7 @@ pub record Reads (c : Call) (m : Message) : Type 0 where
   pub brings : messageOf keyLimit (c .receipt) (c .outer) (c .payload) (c .setting) ≡ m
 
 reads : Reads older (bringing "foo" 1000) × Reads younger (bringing "bar" 2000)
-unfolding messageRows messageOf firstOf isSome orElse message.payloadIn settings.taken message.messageBy message.directBy bind octets.lower octets.lowered octets.sameName octets.sameOctets octets.startsWith blank tokens.past tokens.kindOf tokens.control runs.belongs runs.run tokens.afterQuote base64.decode base64.follow base64.before base64.atEnd base64.grouped base64.closed base64.signOf tests.without header.fieldsOf header.fields header.fieldsWithin inFront header.unfolded header.over header.ofEnding header.opensField header.rawLength header.closes header.isReport tests.every pieces.onFirst pieces.pieces pieces.before pieces.behind address.atom address.localPart address.freeEnds address.label address.domain address.plain address.canonical pieces.from lowering.lowerText lowering.lowerPoints lowering.lowerPoint utf8.points utf8.tails utf8.leadOf utf8.encoded utf8.encodedOne list.openingOf holds list.runToken list.quotedToken list.tokenAt list.firstToken grammar.afterAddress grammar.after list.listedBy list.listed list.addresses onlyOne date.effectiveDate attributes.trimmedFront attributes.trimmedBack attributes.trimmed attributes.nameOf attributes.attribute attributes.attributeOf steps.withAddress steps.withPreference steps.step keyfield.saidWith keyfield.ifLast keyfield.saidFrom keyfield.saidOf keyfield.limited keyfield.keyOf keyfield.withKey keyfield.fieldBy keyfield.fieldOf keyfield.naming keyfield.validFor keyfield.chosen keyfield.validFields keyfield.counted fields.fieldsIn fields.isKind fields.valuesOf outer-specs.canonicalOf outer-specs.senderBy outer-specs.senderIn outer-specs.anyReport outer-specs.isReported outer-specs.dateBy outer-specs.dateIn keys.countedIn keys.accepted keys.gossipIn
+unfolding messageRows messageOf firstOf isSome orElse message.payloadIn settings.taken message.messageBy message.directBy bind octets.lower octets.lowered octets.sameName octets.sameOctets octets.startsWith blank tokens.past tokens.kindOf tokens.control runs.belongs runs.run tokens.afterQuote base64.decode base64.follow base64.before base64.atEnd base64.grouped base64.closed base64.signOf tests.without header.fieldsOf header.fields header.fieldsWithin inFront header.unfolded header.over header.ofEnding header.opensField header.rawLength header.closes header.isReport tests.every pieces.onFirst pieces.pieces pieces.before pieces.behind ascii·address.atom ascii·address.localPart ascii·address.freeEnds labels.labelOctet labels.labelForm labels.fits labels.label labels.labelled address.domain address.domainForm address.addressForm address.plain address.canonical pieces.from lowering.lowerText lowering.lowerPoints lowering.lowerPoint utf8.points utf8.tails utf8.leadOf utf8.encoded utf8.encodedOne list.openingOf holds list.runToken list.quotedToken list.tokenAt list.firstToken grammar.afterAddress grammar.after list.listedBy list.listed list.addresses onlyOne date.effectiveDate attributes.trimmedFront attributes.trimmedBack attributes.trimmed attributes.nameOf attributes.attribute attributes.attributeOf steps.withAddress steps.withPreference steps.step keyfield.saidWith keyfield.ifLast keyfield.saidFrom keyfield.saidOf keyfield.limited keyfield.keyOf keyfield.withKey keyfield.fieldBy keyfield.fieldOf keyfield.naming keyfield.validFor keyfield.chosen keyfield.validFields keyfield.counted fields.fieldsIn fields.isKind fields.valuesOf outer-specs.canonicalOf outer-specs.senderBy outer-specs.senderIn outer-specs.anyReport outer-specs.isReported outer-specs.dateBy outer-specs.dateIn keys.countedIn keys.accepted keys.gossipIn pieces.following pieces.joined
 reads = (record { in-order = refl; brings = refl }, record { in-order = refl; brings = refl })
 
 free-octets : AllOctets free
@@ -266,7 +268,7 @@ either-order =
     both-agree
 
 pub younger-stands : targetKeyOf (tableAfter free (older ∷ younger ∷ [])) ann 0 ≡ ascii "bar"
-unfolding advice.targetIn advice.targetOf advice.targetBy advice.directOf advice.gossipOf entryAfter brought.entryHeard brought.entryPut update.updated update.taking update.stays update.above newcomer seenBy withDirect octets.sameOctets octets.lowered octets.lower address.canonical pieces.from lowering.lowerText lowering.lowerPoints lowering.lowerPoint utf8.points utf8.tails utf8.leadOf utf8.encoded utf8.encodedOne inFront address.plain address.localPart address.atom address.domain address.label address.freeEnds tests.every pieces.onFirst pieces.pieces pieces.before pieces.behind runs.belongs blank orElse
+unfolding advice.targetIn advice.targetOf advice.targetBy advice.directOf advice.gossipOf entryAfter brought.entryHeard brought.entryPut update.updated update.taking update.stays update.above newcomer seenBy withDirect octets.sameOctets octets.lowered octets.lower address.canonical pieces.from lowering.lowerText lowering.lowerPoints lowering.lowerPoint utf8.points utf8.tails utf8.leadOf utf8.encoded utf8.encodedOne inFront address.plain ascii·address.localPart ascii·address.atom address.domain address.domainForm address.addressForm labels.labelOctet labels.labelForm labels.fits labels.label labels.labelled ascii·address.freeEnds tests.every pieces.onFirst pieces.pieces pieces.before pieces.behind runs.belongs blank orElse pieces.following pieces.joined
 younger-stands =
     alone-taken (tableAfter free both) ann (both-sound older older-octets "foo" 1000 (reads .0) younger younger-octets "bar" 2000 (reads .1)) refl
     ∙ ap advice.targetOf (both-entry older older-octets "foo" 1000 (reads .0) younger younger-octets "bar" 2000 (reads .1))

@@ -129,13 +129,15 @@ module _ (s : List ℕ) (k : Only) (fs : List FieldText) (p : valueIn s k ≡ on
       unfolding onlyIn
       only = ap some part ∙ sym (ap (onlyIn (valueAt s v e)) z) ∙ one
 
+      pub sent-plain : plain (between text from to) ≡ true
+      sent-plain = only-plain (valueAt s v e) (between text from to) only
+
       is : senderIn fs ≡ some (canonical (between text from to))
       unfolding canonicalOf
       is = told ∙ ap canonicalOf (one ∙ sym only)
 
       fits : (room : ℕ) → addressRoom ≤ room → length (canonical (between text from to)) ≤ room
-      fits room h =
-          omega (arith, canonical-most (between text from to) (only-plain (valueAt s v e) (between text from to) only))
+      fits room h = omega (arith, canonical-most (between text from to) sent-plain)
 
       module _ (out : List ℕ) (h : addressRoom ≤ length out) where
         pub left-one : (left : List ℕ) → left ≡ ontoIfFits (canonical (between text from to)) out → left ≡ leftBySender (senderIn fs) out
@@ -154,7 +156,7 @@ module _ (s : List ℕ) (k : Only) (fs : List FieldText) (p : valueIn s k ≡ on
               absurd (omega (arith, written-no-room (canonical (between text from to)) (length out) (sym r ∙ u), fits (length out) h))
 
 pub ruleset sending =
-    (sent-no-field, left-no-field, sent-no-one, left-no-one, sent-from, sent-upto, left-one, sent-one, sent-no-room, value-within, valued, needs)
+    (sent-no-field, left-no-field, sent-no-one, left-no-one, sent-from, sent-upto, sent-plain, left-one, sent-one, sent-no-room, value-within, valued, needs)
 
 -- as a caller asks it of the answer r and of what the lent memory holds
 pub answer-some : (o : Option (List ℕ)) (n : ℕ) → Address n ≡ senderOf o → (a : List ℕ) × ((o ≡ some a) × (n ≡ length a))

@@ -15,8 +15,10 @@ use Rattle.header.specs.Header as header
 use Rattle.tokens.specs.Tokens.{control, kindOf, past, afterQuote}
 use Rattle.utf8.specs.Utf8 as utf8
 use Rattle.utf8.specs.Lowering as lowering
-use Rattle.address.specs.Pieces.{onFirst, pieces, before, behind, from}
-use Rattle.address.specs.Address.{atom, localPart, freeEnds, label, domain, plain, canonical}
+use Rattle.pieces.specs.Pieces.{onFirst, pieces, before, behind, from, following, joined}
+use Rattle.asciiaddress.specs.Ascii.{atom, localPart, freeEnds}
+use Rattle.labels.specs.Labels as labels
+use Rattle.address.specs.Address.{domain, domainForm, addressForm, plain, canonical}
 use Rattle.grammar.specs.Grammar.{afterAddress, after}
 use Rattle.addresslist.specs.List.{openingOf, runToken, quotedToken, tokenAt, firstToken, listedBy, listed, addresses}
 use Rattle.calendar.specs.Calendar as calendar
@@ -41,7 +43,7 @@ senders :
     ∷ "From: a@b\nX"
     ∷ [])
     ≡ some (ascii "alice@b.org") ∷ some (ascii "a@b") ∷ none ∷ none ∷ none ∷ none ∷ none ∷ []
-unfolding header.fieldsOf header.fields header.fieldsWithin inFront header.unfolded header.over header.ofEnding header.opensField run header.rawLength belongs header.closes sameName sameOctets lowered lower openingOf holds runToken quotedToken tokenAt firstToken afterAddress after listedBy listed addresses atom localPart freeEnds label domain plain every onFirst pieces before behind control blank kindOf past afterQuote canonical from lowering.lowerText lowering.lowerPoints lowering.lowerPoint utf8.points utf8.tails utf8.leadOf utf8.encoded utf8.encodedOne onlyOne orElse fieldsIn isKind valuesOf canonicalOf senderBy senderIn
+unfolding header.fieldsOf header.fields header.fieldsWithin inFront header.unfolded header.over header.ofEnding header.opensField run header.rawLength belongs header.closes sameName sameOctets lowered lower openingOf holds runToken quotedToken tokenAt firstToken afterAddress after listedBy listed addresses atom localPart freeEnds labels.labelOctet labels.labelForm labels.fits labels.label labels.labelled domain domainForm addressForm plain every onFirst pieces before behind control blank kindOf past afterQuote canonical from lowering.lowerText lowering.lowerPoints lowering.lowerPoint utf8.points utf8.tails utf8.leadOf utf8.encoded utf8.encodedOne onlyOne orElse fieldsIn isKind valuesOf canonicalOf senderBy senderIn following joined
 senders = refl
 
 abbrev isReport : String → Bool
@@ -77,5 +79,5 @@ dates = refl
 
 -- G4: as they stand, in order; an unreadable list gives none, and takes none from the others
 recipients : recipientsIn (fieldsIn (ascii "Cc: C <c@D>\nTo: a@b, a@c\nBcc: x@y\nTo: b@c,\nREPLY-TO: e@f")) ≡ map ascii ("c@D" ∷ "a@b" ∷ "a@c" ∷ "e@f" ∷ [])
-unfolding header.fieldsOf header.fields header.fieldsWithin inFront header.unfolded header.over header.ofEnding header.opensField run header.rawLength belongs header.closes sameName sameOctets lowered lower openingOf holds runToken quotedToken tokenAt firstToken afterAddress after listedBy listed addresses orElse atom localPart freeEnds label domain plain every onFirst pieces before behind control blank kindOf past afterQuote fieldsIn isKind valuesOf addressesIn recipientsIn
+unfolding header.fieldsOf header.fields header.fieldsWithin inFront header.unfolded header.over header.ofEnding header.opensField run header.rawLength belongs header.closes sameName sameOctets lowered lower openingOf holds runToken quotedToken tokenAt firstToken afterAddress after listedBy listed addresses orElse atom localPart freeEnds labels.labelOctet labels.labelForm labels.fits labels.label labels.labelled domain domainForm addressForm plain every onFirst pieces before behind control blank kindOf past afterQuote fieldsIn isKind valuesOf addressesIn recipientsIn following joined lowering.lowerText lowering.lowerPoints lowering.lowerPoint utf8.points utf8.tails utf8.leadOf utf8.encoded utf8.encodedOne
 recipients = refl

@@ -292,7 +292,7 @@ pub extern "C" fn probe_is_canonical(s: &[u8]) -> bool {
 
 #[no_mangle]
 pub extern "C" fn probe_was_canonical(s: &[u8]) -> bool {
-    address::was_canonical(s)
+    asciiaddress::was_canonical(s)
 }
 
 // what is not canonical is nobody's form
@@ -304,9 +304,12 @@ pub extern "C" fn probe_has_form(s: &[u8], form: &[u8]) -> bool {
     false
 }
 
-// kind 0: so many octets; 2: too little room
+// kind 0: so many octets; 2: too little room, or no plain address
 #[no_mangle]
 pub extern "C" fn probe_canonical(s: &[u8], out: &mut [u8]) -> Answer {
+    if !address::is_plain(s) {
+        return Answer { kind: 2, value: 0 };
+    }
     match address::canonical(s, out) {
         address::Fitted::Length(n) => Answer {
             kind: 0,

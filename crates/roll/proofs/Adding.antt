@@ -1,5 +1,5 @@
 -- What is added to a roll and its index.
---     tag-formed, tag-never      the tag of an address, by its canonical form
+--     tag-formed                 the tag of an address, by its canonical form
 --     add-put .. add-kept        one address: its octets, what ends it, its tag and its place
 --     Adding                     the addresses of a readable list s up to the cursor are added
 --     adding-begin .. adding-never    the loop's steps
@@ -25,10 +25,8 @@ use Rattle.octets.proofs.Writing.{Wrote, begin-at, put, puts, done-at}
 use Rattle.octets.proofs.Options.{some-front, else-front}
 use Rattle.tags.specs.Tags.{tagOf}
 use Rattle.address.specs.Address.{plain, canonical}
-use Rattle.address.specs.Answers.{writtenOf, ontoIfFits}
-use Rattle.address.specs.declared.Fitted.{Fitted}
-use Rattle.address.specs.declared.Fitted.the-variants.{Length, NoRoom}
-use Rattle.address.proofs.Forming.{form-never, form-there, form-end}
+use Rattle.address.specs.Answers.{Fronts}
+use Rattle.address.proofs.Forming.{fronts-end, fronts-count}
 use Rattle.addresslist.specs.List.{addresses}
 use Rattle.addresslist.specs.Answers.{between, beginning, left, Hands, countedOf}
 use Rattle.addresslist.specs.declared.ListCursor.{ListCursor}
@@ -46,19 +44,11 @@ use Rattle.roll.proofs.Index.{tags-add, places-add}
 use Rattle.roll.proofs.Room.{rolled-least, roomy-front}
 use Rattle.roll.proofs.Growing.{kept-within, grew-none}
 
--- the form of an address in a buffer b, which is then `out`
-module _ (a : List ℕ) (p : plain a ≡ true) (g : Fitted) (e : g ≡ writtenOf (canonical a) 256) where
-  pub tag-never : g ≡ NoRoom → 0 ≡ tagOf (canonical a)
-  tag-never q = absurd (form-never a p 256 (omega arith) g e q)
+-- the form stands at the front of a buffer
+pub tag-formed : (a out : List ℕ) (n : ℕ) → Fronts (canonical a) out n → (t : ℕ) → t ≡ tagOf (take n out) → t ≡ tagOf (canonical a)
+tag-formed a out n f t e = e ∙ ap tagOf (f .there)
 
-  module _ (n : ℕ) (q : g ≡ Length n) (b out : List ℕ) (o : out ≡ ontoIfFits (canonical a) b) (l : length b ≡ 256) where
-    pub tag-end : n ≤ length out
-    tag-end = form-end a p 256 (omega arith) g e n q b out o l
-
-    pub tag-formed : (t : ℕ) → t ≡ tagOf (take (n - 0) (drop 0 out)) → t ≡ tagOf (canonical a)
-    tag-formed t f = f ∙ ap tagOf (form-there a p 256 (omega arith) g e n q b out o l)
-
-pub ruleset tagging-form = (tag-never, tag-end, tag-formed, needs)
+pub ruleset tagging-form = (fronts-end, fronts-count, tag-formed, needs)
 
 -- w written from the place `at` on
 grows : (roll out w : List ℕ) (at r : ℕ) → at ≤ length roll → r ≡ at + length w → out ≡ putAt roll at w → take r out ≡ take at roll ++ w

@@ -1,11 +1,11 @@
 -- A roll that is kept in lent memory, and what a caller knows of it.
 --     kept-begin, begin-none       the memory has an empty roll, and its index, whatever else it holds
---     kept-within .. kept-most     how far roll and index go
+--     kept-within .. kept-places   how far roll and index go
 --     kept-index, kept-list        the parts of the memory that are roll and index
 --     adds-one                     one address more
 --     grew-none                    nothing more
 -- Assumes nothing.
-use Prim.Native.Nat.{ℕ, _-_, _*_, _<_, _≤_}
+use Prim.Native.Nat.{ℕ, _-_, _<_, _≤_}
 use mathlib.Core.Path.{_≡_, sym, ap, _∙_}
 use mathlib.Core.Bool.{true}
 use mathlib.Core.List.{List, [], _∷_, append-nil}
@@ -13,8 +13,8 @@ use native.Mathlib.Omega.{arith}
 use native.Mathlib.Nat.{sub-zero}
 use lib.ListN.{length, take, drop, length-append, length-take}
 use Rattle.octets.specs.Tests.{every}
-use Rattle.address.specs.Address.{plain}
-use Rattle.address.proofs.Sides.{plain-most}
+use Rattle.address.specs.Address.{isCanonical}
+use Rattle.address.proofs.Spelling.{canonical-plain, own-most}
 use Rattle.roll.specs.Roll.{unrolled}
 use Rattle.roll.specs.Index.{tagsOf, placesFrom, Indexed}
 use Rattle.roll.specs.Growing.{inRoll, Kept, Adds, Grew}
@@ -48,35 +48,33 @@ module _ (roll tags places : List ℕ) (at : Rolled) (h : Kept roll tags places 
   pub kept-places : at .many ≤ length places
   kept-places = omega (arith, h .count, ap length (h .placed), places-length 0 (inRoll at roll), length-take (at .many) places)
 
-  pub kept-most : at .end ≤ 255 * at .many
-  kept-most = omega (arith, h .long, h .count, rolled-most (inRoll at roll) (h .plainly))
-
   pub kept-list : unrolled (take (at .end - 0) (drop 0 roll)) ≡ inRoll at roll
   kept-list = rw sub-zero
 
   pub kept-index : Indexed (take (at .end - 0) (drop 0 roll)) (take (at .many - 0) (drop 0 tags)) (take (at .many - 0) (drop 0 places))
   kept-index = record { tagged = simp sub-zero (h .tagged); placed = simp sub-zero (h .placed) }
 
-  -- there is room for another of as many as there can be slots
+  -- there is room for another of as many canonical addresses as there can be slots
   pub adds-one :
-      (a : List ℕ) → plain a ≡ true → at .many < 256 → length roll ≡ 65536 → 256 ≤ length tags → 256 ≤ length places
-      → Adds roll tags places at (a ∷ [])
+      every isCanonical (inRoll at roll) ≡ true → (a : List ℕ) → isCanonical a ≡ true → at .many < 256 → length roll ≡ 65536
+      → 256 ≤ length tags → 256 ≤ length places → Adds roll tags places at (a ∷ [])
   unfolding every
-  adds-one a p n l t s =
+  adds-one o a c n l t s =
       record {
         kept = h;
-        plainly = rw p;
+        plainly = rw (canonical-plain a c);
         roomy =
             record {
               octets =
                   omega (
                     arith,
-                    kept-most,
+                    rolled-most (inRoll at roll) o,
                     h .long,
+                    h .count,
                     rolled-append-length (inRoll at roll) (a ∷ []),
                     ap length (rolled-alone a),
                     entry-length a,
-                    plain-most a p,
+                    own-most a c,
                   );
               short = omega arith;
               numbers = omega (arith, h .count, length-append (inRoll at roll) (a ∷ []));

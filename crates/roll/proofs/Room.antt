@@ -15,8 +15,9 @@ use lib.ListN.{length, length-append}
 use Rattle.octets.specs.Options.{total}
 use Rattle.octets.specs.Tests.{every}
 use Rattle.octets.proofs.Tests.{and-left, and-right}
-use Rattle.address.specs.Address.{plain}
-use Rattle.address.proofs.Sides.{plain-least, plain-most}
+use Rattle.address.specs.Address.{plain, isCanonical}
+use Rattle.address.proofs.Spelling.{own-most}
+use Rattle.address.proofs.Sides.{plain-least}
 use Rattle.addresslist.specs.List.{addresses}
 use Rattle.addresslist.proofs.Room.{addressesTotal, total-room}
 use Rattle.roll.specs.Roll.{rolled, listedIn}
@@ -54,15 +55,15 @@ rolled-least (a ∷ rest) e =
       rolled-least rest (and-right (plain a) (every plain rest) e),
     )
 
-pub rolled-most : (list : List (List ℕ)) → every plain list ≡ true → length (rolled list) ≤ 255 * length list
+pub rolled-most : (list : List (List ℕ)) → every isCanonical list ≡ true → length (rolled list) ≤ 255 * length list
 unfolding every
 rolled-most [] e = omega (arith, ap length rolled-none)
 rolled-most (a ∷ rest) e =
     omega (
       arith,
       rolled-length a rest,
-      plain-most a (and-left (plain a) (every plain rest) e),
-      rolled-most rest (and-right (plain a) (every plain rest) e),
+      own-most a (and-left (isCanonical a) (every isCanonical rest) e),
+      rolled-most rest (and-right (isCanonical a) (every isCanonical rest) e),
     )
 
 pub roomy-front :

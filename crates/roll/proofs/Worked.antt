@@ -13,8 +13,10 @@ use Rattle.tokens.specs.Tokens.{control, kindOf, past, afterQuote}
 use Rattle.tags.specs.Tags.{tagAfter, tagOf}
 use Rattle.utf8.specs.Utf8 as utf8
 use Rattle.utf8.specs.Lowering as lowering
-use Rattle.address.specs.Pieces.{onFirst, pieces, before, behind, from}
-use Rattle.address.specs.Address.{atom, localPart, freeEnds, label, domain, plain, canonical}
+use Rattle.pieces.specs.Pieces.{onFirst, pieces, before, behind, from, following, joined}
+use Rattle.asciiaddress.specs.Ascii.{atom, localPart, freeEnds}
+use Rattle.labels.specs.Labels as labels
+use Rattle.address.specs.Address.{domain, domainForm, addressForm, plain, canonical}
 use Rattle.grammar.specs.Grammar.{afterAddress, after}
 use Rattle.addresslist.specs.List.{openingOf, runToken, quotedToken, tokenAt, firstToken, listedBy, listed, addresses, among}
 use Rattle.roll.specs.Roll.{entry, rolled, lengthened, unrolled, listedIn}
@@ -45,5 +47,5 @@ pub worked :
     × Lists "A <a@b>, c@de" ("a@b" ∷ "c@de" ∷ [])
     × Lists "g:;" []
     × Lists "a@b," []
-unfolding entry rolled lengthened unrolled listedIn tagsOf placesFrom addressAt tagAfter tagOf lengthBefore among orElse canonical from lowering.lowerText lowering.lowerPoints lowering.lowerPoint utf8.points utf8.tails utf8.leadOf utf8.encoded utf8.encodedOne sameOctets lower lowered openingOf holds runToken quotedToken tokenAt firstToken afterAddress after inFront listedBy listed addresses belongs atom localPart freeEnds label domain plain every onFirst pieces before behind run control blank kindOf past afterQuote
+unfolding entry rolled lengthened unrolled listedIn tagsOf placesFrom addressAt tagAfter tagOf lengthBefore among orElse canonical from lowering.lowerText lowering.lowerPoints lowering.lowerPoint utf8.points utf8.tails utf8.leadOf utf8.encoded utf8.encodedOne sameOctets lower lowered openingOf holds runToken quotedToken tokenAt firstToken afterAddress after inFront listedBy listed addresses belongs atom localPart freeEnds labels.labelOctet labels.labelForm labels.fits labels.label labels.labelled domain domainForm addressForm plain every onFirst pieces before behind run control blank kindOf past afterQuote following joined
 worked = (refl, refl, refl, refl, refl, refl, refl, refl, refl, refl, refl, refl, refl, refl, refl)

@@ -33,11 +33,9 @@ fn tag_of(address: &[u8]) -> u32
     requires { ⌜ plain (now address) ≡ true ⌝ }
     ensures { λ r. ⌜ r ≡ tagOf (canonical (now (address .entry))) ⌝ }
 {
-    let mut form = [0u8; 256];
-    match address::canonical(address, &mut form) {
-        address::Fitted::Length(n) => tags::tag_of(&form[0..n]),
-        address::Fitted::NoRoom => 0,
-    }
+    let mut form = [0u8; address::LONGEST];
+    let n = address::form_of(address, &mut form);
+    tags::tag_of(&form[..n])
 }
 
 // Adds a plain address behind what the roll has, and answers how far it goes now.

@@ -11,9 +11,9 @@ use mathlib.Core.List.{List, [], _∷_}
 use native.Mathlib.Omega.{arith}
 use borrow.Author.Tests.{not-true, not-false}
 use lib.ListN.{length, take, drop, length-append}
-use Rattle.octets.specs.Octets.{sameOctets}
-use Rattle.octets.proofs.Tests.{and-left}
-use Rattle.address.specs.Address.{plain, canonical, isCanonical}
+use Rattle.octets.specs.Tests.{every}
+use Rattle.octets.proofs.Every.{every-append}
+use Rattle.address.specs.Address.{isCanonical}
 use Rattle.addresslist.specs.List.{among}
 use Rattle.table.specs.Table.{found, freeCount, checked}
 use Rattle.table.specs.declared.Checked.the-variants.{Sound}
@@ -24,7 +24,7 @@ use Rattle.table.proofs.Lowest.{free-most}
 use Rattle.roll.specs.Roll.{unrolled}
 use Rattle.roll.specs.Growing.{inRoll, Kept, Adds, Grew}
 use Rattle.roll.specs.declared.Rolled.{Rolled}
-use Rattle.roll.proofs.Growing.{kept-begin, kept-list, adds-one}
+use Rattle.roll.proofs.Growing.{begin-none, kept-begin, kept-list, adds-one}
 use Rattle.room.specs.Room.{isNew, withNew}
 use Rattle.room.specs.Counting.{Asks, Rolls, Meets, IsTooMany, MetAs, RollsAs}
 use Rattle.room.specs.declared.Met.{Met}
@@ -49,9 +49,11 @@ module _ (t a : List ℕ) (f : Found) (e : f ≡ found t a) where
 pub rolls-begin :
     (t known numbers spots : List ℕ) (free : ℕ) (at : Rolled) → at .end ≡ 0 → at .many ≡ 0 → free ≡ freeCount t → checked t ≡ Sound
     → length known ≡ 65536 → length numbers ≡ 256 → length spots ≡ 256 → Rolls t free known numbers spots at
+unfolding every
 rolls-begin t known numbers spots free at e n f s l m o =
     record {
       kept = kept-begin known numbers spots at e n;
+      own = rw (begin-none known at e);
       counted = f;
       shared = omega (arith, n);
       few = omega (arith, f, free-most t, slots-most t s);
@@ -59,10 +61,6 @@ rolls-begin t known numbers spots free at e n f s l m o =
       wide = m;
       roomy = o;
     }
-
-canonical-plain : (a : List ℕ) → isCanonical a ≡ true → plain a ≡ true
-unfolding isCanonical
-canonical-plain a c = and-left (plain a) (sameOctets (canonical a) a) c
 
 module _ (t tags : List ℕ) (free : ℕ) (known numbers spots : List ℕ) (at : Rolled) (a : List ℕ) (m : Meets t tags free known numbers spots at a) where
   pub meet-asks : Asks t tags known numbers spots at a
@@ -82,7 +80,7 @@ module _ (t tags : List ℕ) (free : ℕ) (known numbers spots : List ℕ) (at :
 
     pub meet-adds : Adds known numbers spots at (a ∷ [])
     meet-adds =
-        adds-one known numbers spots at (m .rolls .kept) a (canonical-plain a (m .canonical))
+        adds-one known numbers spots at (m .rolls .kept) (m .rolls .own) a (m .canonical)
         (omega (arith, one-more, m .rolls .few))
         (m .rolls .octets)
         (omega (arith, m .rolls .wide))
@@ -91,10 +89,11 @@ module _ (t tags : List ℕ) (free : ℕ) (known numbers spots : List ℕ) (at :
     pub meet-grown :
         (out outs places : List ℕ) (r : Rolled) → Grew known at (a ∷ []) out r → Kept out outs places r → length out ≡ length known
         → length outs ≡ length numbers → length places ≡ length spots → RollsAs t free out outs places (Seated r)
-    unfolding RollsAs
+    unfolding RollsAs every
     meet-grown out outs places r w k l n o =
         record {
           kept = k;
+          own = rw (w .grown, every-append isCanonical (inRoll at known) (a ∷ []), m .rolls .own, m .canonical);
           counted = m .rolls .counted;
           shared =
               omega (

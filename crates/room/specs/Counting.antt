@@ -12,6 +12,7 @@ use mathlib.Core.Bool.{true}
 use mathlib.Core.List.{List}
 use lib.ListN.{length}
 use Rattle.header.specs.Header.{readable}
+use Rattle.octets.specs.Tests.{every}
 use Rattle.address.specs.Address.{isCanonical}
 use Rattle.slots.specs.Slot.{keyLimit}
 use Rattle.table.specs.Table.{mostSlots, freeCount}
@@ -35,6 +36,7 @@ pub record Asks (t tags known numbers spots : List ℕ) (at : Rolled) (a : List 
 -- Each of those in the roll takes one of the free slots; the memory has room for as many as there may be slots.
 pub record Rolls (t : List ℕ) (free : ℕ) (known numbers spots : List ℕ) (at : Rolled) : Type 0 where
   pub kept : Kept known numbers spots at
+  pub own : every isCanonical (inRoll at known) ≡ true
   pub counted : free ≡ freeCount t
   pub shared : at .many ≤ free
   pub few : free ≤ mostSlots

@@ -20,14 +20,15 @@ use Rattle.octets.specs.Options.{orElse}
 use Rattle.octets.proofs.Lists.{given-octets}
 use Rattle.octets.proofs.Zeros.{zero-true}
 use Rattle.octets.proofs.Tests.{by-test}
-use Rattle.address.proofs.Before.{was-most}
+use Rattle.asciiaddress.proofs.Before.{was-most}
+use Rattle.address.proofs.Spelling.{own-most}
 use Rattle.heads.specs.declared.Head.{Head}
 use Rattle.heads.specs.Head.{addressLength, bits, hasLastSeen, hasDirect, hasGossip, isMutual, lastSeen, timestamp, gossipTimestamp, directLength, gossipLength, headOf, headAddress, headSeen, headDirect, headGossip, bitsOf, headOctets}
 use Rattle.heads.specs.Entry.{Direct, Gossip, Entry, noDirect, noGossip, headFor, renamed, seenBy, withDirect, withGossip}
 use Rattle.heads.proofs.Parts.{part-length, follows, put-front, put-over, put-behind}
 use Rattle.heads.proofs.Writing.{length-head}
 use Rattle.heads.proofs.RoundTrip.{bits-back, octets-back}
-use Rattle.heads.proofs.Entries.{canonical-most, present-is, present-or, changed-address, changed-seen, changed-direct, changed-gossip}
+use Rattle.heads.proofs.Entries.{present-is, present-or, changed-address, changed-seen, changed-direct, changed-gossip}
 use Rattle.slots.specs.Slot.{slotLength, mark, addressRoom, keyLimit, addressArea, directArea, gossipArea, addressOf, directKeyOf, gossipKeyOf, spelled, soundBy, sound}
 use Rattle.slots.specs.Entry.{entryOf, padded, areas, slotOf}
 use Rattle.slots.specs.declared.Spelling.{Spelling}
@@ -48,7 +49,7 @@ padded-back room n a e l z =
 -- by either rule an address is within the limit of L6
 pub spelled-most : (how : Spelling) (a : List ℕ) → spelled how a ≡ true → length a ≤ 254
 unfolding spelled
-spelled-most Canonical a h = canonical-most a h
+spelled-most Canonical a h = own-most a h
 spelled-most Ascii a h = was-most a h
 
 module _ {how : Spelling} (s : List ℕ) (l : length s ≡ slotLength) (p : SoundBy how s) where

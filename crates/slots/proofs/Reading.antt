@@ -14,7 +14,8 @@ use lib.Dec.{eqb}
 use lib.ListN.{length, getD, take, drop}
 use lib.Seq.{drop-drop}
 use Rattle.octets.specs.Octets.{allZero, sameOctets}
-use Rattle.address.specs.Address.{isCanonical, wasCanonical}
+use Rattle.asciiaddress.specs.Ascii.{wasCanonical}
+use Rattle.address.specs.Address.{isCanonical}
 use Rattle.slots.specs.declared.Spelling.{Spelling}
 use Rattle.slots.specs.declared.Spelling.the-variants.{Canonical, Ascii}
 use Rattle.heads.specs.declared.Head.{Head}

@@ -16,7 +16,7 @@ use Rattle.octets.specs.Octets.{allZero}
 use Rattle.octets.proofs.Comparing.{same-true}
 use Rattle.octets.proofs.Tests.{and-left, and-right}
 use Rattle.address.specs.Address.{isCanonical}
-use Rattle.address.proofs.Before.{was-canonical}
+use Rattle.address.proofs.Ascii.{was-canonical}
 use Rattle.heads.specs.declared.Head.{Head}
 use Rattle.heads.specs.Head.{part, addressLength, bits, directLength, gossipLength, headOf, clear, seenSound, directSound, gossipSound}
 use Rattle.heads.specs.Facts.{SoundSeen, SoundDirect, SoundGossip}

@@ -14,8 +14,10 @@ use Rattle.octets.specs.Tests.{every}
 use Rattle.runs.specs.Runs.{belongs}
 use Rattle.utf8.specs.Utf8 as utf8
 use Rattle.utf8.specs.Lowering as lowering
-use Rattle.address.specs.Pieces.{onFirst, pieces, before, behind, from}
-use Rattle.address.specs.Address.{atom, localPart, freeEnds, label, domain, plain, canonical, isCanonical, asciiForm, wasCanonical}
+use Rattle.pieces.specs.Pieces.{onFirst, pieces, before, behind, from, following, joined}
+use Rattle.asciiaddress.specs.Ascii.{atom, localPart, freeEnds, asciiForm, wasCanonical, asciiLabel, asciiDomain, asciiPlain}
+use Rattle.labels.specs.Labels as labels
+use Rattle.address.specs.Address.{domain, domainForm, addressForm, plain, canonical, isCanonical}
 use Rattle.heads.specs.Head.{headOf, clear, bitsOf, times, lengths, headOctets}
 use Rattle.heads.specs.Entry.{Entry, headFor}
 use Rattle.slots.specs.declared.Spelling.the-variants.{Canonical, Ascii}
@@ -44,5 +46,5 @@ abbrev accented : Entry
 accented = record { address = 0xC3 ∷ 0x96 ∷ ascii "@b"; lastSeen = none; direct = none; gossip = none }
 
 old-spelling : (soundBy Ascii (slotOf accented) ≡ true) × (soundBy Canonical (slotOf accented) ≡ false)
-unfolding slotOf areas padded headOctets times lengths digits bitsOf headFor soundBy marked spelled zeroPadding clear headOf number allZero sameOctets addressOf isCanonical wasCanonical asciiForm plain localPart domain label atom belongs freeEnds every pieces onFirst before behind from canonical lowering.lowerText lowering.lowerPoints lowering.lowerPoint utf8.points utf8.tails utf8.leadOf utf8.encoded utf8.encodedOne inFront lowered lower isSome orElse
+unfolding slotOf areas padded headOctets times lengths digits bitsOf headFor soundBy marked spelled zeroPadding clear headOf number allZero sameOctets addressOf isCanonical wasCanonical asciiLabel asciiDomain asciiPlain asciiForm plain localPart domain domainForm addressForm labels.labelOctet labels.labelForm labels.fits labels.label labels.labelled atom belongs freeEnds every pieces onFirst before behind from canonical lowering.lowerText lowering.lowerPoints lowering.lowerPoint utf8.points utf8.tails utf8.leadOf utf8.encoded utf8.encodedOne inFront lowered lower isSome orElse following joined
 old-spelling = (refl, refl)

@@ -12,7 +12,8 @@ use mathlib.Core.Bool.{Bool, _&&_}
 use mathlib.Core.List.{List}
 use lib.ListN.{take, drop, replicate}
 use Rattle.octets.specs.Octets.{ascii, sameOctets, allZero}
-use Rattle.address.specs.Address.{isCanonical, wasCanonical}
+use Rattle.asciiaddress.specs.Ascii.{wasCanonical}
+use Rattle.address.specs.Address.{isCanonical}
 use Rattle.heads.specs.declared.Head.{Head}
 use Rattle.slots.specs.declared.Spelling.{Spelling}
 use Rattle.slots.specs.declared.Spelling.the-variants.{Canonical, Ascii}

@@ -103,7 +103,7 @@ fn is_spelled(address: &[u8], how: Spelling) -> bool
 {
     match how {
         Spelling::Canonical => address::is_canonical(address),
-        Spelling::Ascii => address::was_canonical(address),
+        Spelling::Ascii => asciiaddress::was_canonical(address),
     }
 }
 

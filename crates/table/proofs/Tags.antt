@@ -20,9 +20,9 @@ use lib.Seq.{getD-set-same, getD-set-other}
 use Rattle.octets.proofs.Lists.{given-octets}
 use Rattle.octets.proofs.Tests.{by-test}
 use Rattle.slots.specs.Slot.{addressRoom, marked, addressOf}
+use Rattle.address.proofs.Spelling.{own-most}
 use Rattle.heads.specs.Entry.{Entry, newcomer}
 use Rattle.slots.specs.Entry.{slotOf, Good}
-use Rattle.heads.proofs.Entries.{canonical-most}
 use Rattle.heads.proofs.Goodness.{good-newcomer}
 use Rattle.slots.proofs.Made.{slot-long, address-kept}
 use Rattle.tags.specs.Tags.{tagOf}
@@ -85,7 +85,7 @@ module _ (t tags a : List ℕ) (i : ℕ) (b : Begins t tags i a) where
   begin-low = omega (arith, b .within, b .tagged .few)
 
   pub begin-room : length a ≤ addressRoom
-  begin-room = omega (arith, canonical-most a (b .canonical))
+  begin-room = omega (arith, own-most a (b .canonical))
 
   pub begin-tagged : (tags₂ w : List ℕ) → tags₂ ≡ set tags i (tagOf a) → ((j : ℕ) → Fits w8 (getD a j 0))
       → length w ≡ length (take (i * 4392 + 4392 - i * 4392) (drop (i * 4392) t)) → w ≡ slotOf (newcomer a)

@@ -18,8 +18,10 @@ use Rattle.octets.specs.Tests.{every}
 use Rattle.runs.specs.Runs.{belongs}
 use Rattle.utf8.specs.Utf8 as utf8
 use Rattle.utf8.specs.Lowering as lowering
-use Rattle.address.specs.Pieces.{onFirst, pieces, before, behind, from}
-use Rattle.address.specs.Address.{atom, localPart, freeEnds, label, domain, plain, canonical, isCanonical}
+use Rattle.pieces.specs.Pieces.{onFirst, pieces, before, behind, from, following, joined}
+use Rattle.asciiaddress.specs.Ascii.{atom, localPart, freeEnds}
+use Rattle.labels.specs.Labels as labels
+use Rattle.address.specs.Address.{domain, domainForm, addressForm, plain, canonical, isCanonical}
 use Rattle.heads.specs.Head.{headOf, clear, bitsOf, times, lengths, headOctets}
 use Rattle.slots.specs.Slot.{slotLength, addressOf, free, marked, spelled, zeroPadding, soundBy}
 use Rattle.heads.specs.Entry.{headFor}
@@ -70,11 +72,11 @@ unfolding empty alice slotOf areas padded headOctets times lengths digits bitsOf
 one-left = refl
 
 one-used : checked alice ≡ Sound
-unfolding alice slotOf areas padded headOctets times lengths digits bitsOf headFor checkedBy whole slots judgedBy rightBy free allZero slotAt soundBy marked sameOctets spelled addressOf number headOf clear zeroPadding inLower lowest isCanonical plain localPart domain label atom belongs freeEnds every pieces onFirst before behind canonical from lowering.lowerText lowering.lowerPoints lowering.lowerPoint utf8.points utf8.tails utf8.leadOf utf8.encoded utf8.encodedOne inFront lowered lower isSome orElse
+unfolding alice slotOf areas padded headOctets times lengths digits bitsOf headFor checkedBy whole slots judgedBy rightBy free allZero slotAt soundBy marked sameOctets spelled addressOf number headOf clear zeroPadding inLower lowest isCanonical plain localPart domain domainForm addressForm labels.labelOctet labels.labelForm labels.fits labels.label labels.labelled atom belongs freeEnds every pieces onFirst before behind canonical from lowering.lowerText lowering.lowerPoints lowering.lowerPoint utf8.points utf8.tails utf8.leadOf utf8.encoded utf8.encodedOne inFront lowered lower isSome orElse following joined
 one-used = refl
 
 twice : checked (alice ++ alice) ≡ Slot 1
-unfolding alice slotOf areas padded headOctets times lengths digits bitsOf headFor checkedBy whole slots judgedBy rightBy free allZero slotAt soundBy marked sameOctets spelled addressOf number headOf clear zeroPadding inLower lowest hasAddress isCanonical plain localPart domain label atom belongs freeEnds every pieces onFirst before behind canonical from lowering.lowerText lowering.lowerPoints lowering.lowerPoint utf8.points utf8.tails utf8.leadOf utf8.encoded utf8.encodedOne inFront lowered lower isSome orElse
+unfolding alice slotOf areas padded headOctets times lengths digits bitsOf headFor checkedBy whole slots judgedBy rightBy free allZero slotAt soundBy marked sameOctets spelled addressOf number headOf clear zeroPadding inLower lowest hasAddress isCanonical plain localPart domain domainForm addressForm labels.labelOctet labels.labelForm labels.fits labels.label labels.labelled atom belongs freeEnds every pieces onFirst before behind canonical from lowering.lowerText lowering.lowerPoints lowering.lowerPoint utf8.points utf8.tails utf8.leadOf utf8.encoded utf8.encodedOne inFront lowered lower isSome orElse following joined
 twice = refl
 
 stray-octet : checked (replicate 4391 0 ++ (1 ∷ [])) ≡ Slot 0

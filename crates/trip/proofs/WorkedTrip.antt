@@ -23,7 +23,9 @@ use Rattle.header.specs.Header as header
 use Rattle.header.specs.Blocks.{isRaw}
 use Rattle.utf8.specs.Utf8 as utf8
 use Rattle.utf8.specs.Lowering as lowering
-use Rattle.address.specs.Pieces as pieces
+use Rattle.pieces.specs.Pieces as pieces
+use Rattle.asciiaddress.specs.Ascii as ascii·address
+use Rattle.labels.specs.Labels as labels
 use Rattle.address.specs.Address as address
 use Rattle.grammar.specs.Grammar as grammar
 use Rattle.addresslist.specs.List as list
@@ -80,11 +82,11 @@ abbrev outer : List ℕ
 outer = ascii "From: Bob@B.example\r\nAutocrypt: addr=bob@b.example; prefer-encrypt=mutual; keydata=\r\n Zm9v\r\n"
 
 writable : Writable address-given (ascii "foo")
-unfolding address.plain address.localPart address.atom address.domain address.label address.freeEnds every pieces.onFirst pieces.pieces pieces.before pieces.behind runs.belongs blank
+unfolding address.plain ascii·address.localPart ascii·address.atom address.domain address.domainForm address.addressForm labels.labelOctet labels.labelForm labels.fits labels.label labels.labelled ascii·address.freeEnds every pieces.onFirst pieces.pieces pieces.before pieces.behind runs.belongs blank pieces.following pieces.joined orElse lowering.lowerText lowering.lowerPoints lowering.lowerPoint utf8.points utf8.tails utf8.leadOf utf8.encoded utf8.encodedOne octets.lowered octets.lower inFront
 writable = record { plainly = refl; octets = tested (ascii "foo") refl; limit = refl }
 
 holding : Holding outer (autocryptField address-given true (ascii "foo"))
-unfolding autocryptField writer.written writer.fieldText writer.preference address.canonical pieces.before pieces.from lowering.lowerText lowering.lowerPoints lowering.lowerPoint utf8.points utf8.tails utf8.leadOf utf8.encoded utf8.encodedOne inFront octets.lowered octets.lower base64.encode base64.letter lines.lines lines.laid runs.belongs blank runs.run header.closes header.ofEnding header.unfolded isRaw
+unfolding autocryptField writer.written writer.fieldText writer.preference address.canonical pieces.before lowering.lowerText lowering.lowerPoints lowering.lowerPoint utf8.points utf8.tails utf8.leadOf utf8.encoded utf8.encodedOne inFront octets.lowered octets.lower base64.encode base64.letter lines.lines lines.laid runs.belongs blank runs.run header.closes header.ofEnding header.unfolded isRaw pieces.following pieces.joined orElse address.domain address.domainForm address.addressForm address.plain labels.labelOctet labels.labelForm labels.fits labels.label labels.labelled ascii·address.atom ascii·address.localPart ascii·address.freeEnds pieces.onFirst pieces.pieces pieces.behind every
 holding =
     record {
       front = front;
@@ -100,11 +102,11 @@ unfolding table.checkedBy table.whole table.slots table.judgedBy table.rightBy t
 sound = refl
 
 in-order : firstOf (messageRows 1000 outer [] Unset) ≡ none
-unfolding isSome octets.sameOctets octets.sameName octets.lowered octets.lower header.fieldsOf header.fields header.fieldsWithin inFront header.unfolded header.over header.ofEnding header.opensField runs.run header.rawLength runs.belongs header.closes header.isReport list.openingOf holds list.runToken list.quotedToken list.tokenAt list.firstToken grammar.afterAddress grammar.after list.listedBy list.listed list.addresses onlyOne orElse address.plain address.localPart address.atom address.domain address.label address.freeEnds address.canonical pieces.from lowering.lowerText lowering.lowerPoints lowering.lowerPoint utf8.points utf8.tails utf8.leadOf utf8.encoded utf8.encodedOne every pieces.onFirst pieces.pieces pieces.before pieces.behind blank tokens.past tokens.kindOf tokens.control tokens.afterQuote fields.fieldsIn fields.isKind fields.valuesOf outer-specs.canonicalOf outer-specs.senderBy outer-specs.senderIn outer-specs.anyReport outer-specs.isReported settings.taken messageRows firstOf
+unfolding isSome octets.sameOctets octets.sameName octets.lowered octets.lower header.fieldsOf header.fields header.fieldsWithin inFront header.unfolded header.over header.ofEnding header.opensField runs.run header.rawLength runs.belongs header.closes header.isReport list.openingOf holds list.runToken list.quotedToken list.tokenAt list.firstToken grammar.afterAddress grammar.after list.listedBy list.listed list.addresses onlyOne orElse address.plain ascii·address.localPart ascii·address.atom address.domain address.domainForm address.addressForm labels.labelOctet labels.labelForm labels.fits labels.label labels.labelled ascii·address.freeEnds address.canonical pieces.from lowering.lowerText lowering.lowerPoints lowering.lowerPoint utf8.points utf8.tails utf8.leadOf utf8.encoded utf8.encodedOne every pieces.onFirst pieces.pieces pieces.before pieces.behind blank tokens.past tokens.kindOf tokens.control tokens.afterQuote fields.fieldsIn fields.isKind fields.valuesOf outer-specs.canonicalOf outer-specs.senderBy outer-specs.senderIn outer-specs.anyReport outer-specs.isReported settings.taken messageRows firstOf pieces.following pieces.joined
 in-order = refl
 
 sender-is : outer-specs.senderIn (fields.fieldsIn outer) ≡ some (ascii "bob@b.example")
-unfolding octets.sameOctets octets.sameName octets.lowered octets.lower header.fieldsOf header.fields header.fieldsWithin inFront header.unfolded header.over header.ofEnding header.opensField runs.run header.rawLength runs.belongs header.closes header.isReport list.openingOf holds list.runToken list.quotedToken list.tokenAt list.firstToken grammar.afterAddress grammar.after list.listedBy list.listed list.addresses onlyOne orElse address.plain address.localPart address.atom address.domain address.label address.freeEnds address.canonical pieces.from lowering.lowerText lowering.lowerPoints lowering.lowerPoint utf8.points utf8.tails utf8.leadOf utf8.encoded utf8.encodedOne every pieces.onFirst pieces.pieces pieces.before pieces.behind blank tokens.past tokens.kindOf tokens.control tokens.afterQuote fields.fieldsIn fields.isKind fields.valuesOf outer-specs.canonicalOf outer-specs.senderBy outer-specs.senderIn outer-specs.anyReport outer-specs.isReported
+unfolding octets.sameOctets octets.sameName octets.lowered octets.lower header.fieldsOf header.fields header.fieldsWithin inFront header.unfolded header.over header.ofEnding header.opensField runs.run header.rawLength runs.belongs header.closes header.isReport list.openingOf holds list.runToken list.quotedToken list.tokenAt list.firstToken grammar.afterAddress grammar.after list.listedBy list.listed list.addresses onlyOne orElse address.plain ascii·address.localPart ascii·address.atom address.domain address.domainForm address.addressForm labels.labelOctet labels.labelForm labels.fits labels.label labels.labelled ascii·address.freeEnds address.canonical pieces.from lowering.lowerText lowering.lowerPoints lowering.lowerPoint utf8.points utf8.tails utf8.leadOf utf8.encoded utf8.encodedOne every pieces.onFirst pieces.pieces pieces.before pieces.behind blank tokens.past tokens.kindOf tokens.control tokens.afterQuote fields.fieldsIn fields.isKind fields.valuesOf outer-specs.canonicalOf outer-specs.senderBy outer-specs.senderIn outer-specs.anyReport outer-specs.isReported pieces.following pieces.joined
 sender-is = refl
 
 room-for : brought.hasRoom free (message.messageBy keyLimit 1000 (ascii "bob@b.example") (fields.fieldsIn outer) []) ≡ true
@@ -120,12 +122,12 @@ done = done-is Refused Done (refusedProcessing free 1000 outer [] Unset) (messag
 
 foo-is-there : directHalf (entryIn (leftByProcessing free 1000 outer [] Unset) (ascii "bob@b.example"))
     ≡ some (record { timestamp = 1000; key = ascii "foo"; «mutual» = true })
-unfolding holding others behind directHalf entryIn update.younger update.stays table.found table.lowest table.hasAddress table.slots table.slotAt slots.marked slots.addressOf number octets.sameOctets octets.sameName octets.lowered octets.lower header.fieldsOf header.fields header.fieldsWithin inFront header.unfolded header.over header.ofEnding header.opensField runs.run header.rawLength runs.belongs header.closes list.openingOf holds list.runToken list.quotedToken list.tokenAt list.firstToken grammar.afterAddress grammar.after list.listedBy list.listed list.addresses onlyOne orElse address.plain address.localPart address.atom address.domain address.label address.freeEnds address.canonical pieces.from lowering.lowerText lowering.lowerPoints lowering.lowerPoint utf8.points utf8.tails utf8.leadOf utf8.encoded utf8.encodedOne every pieces.onFirst pieces.pieces pieces.before pieces.behind blank tokens.past tokens.kindOf tokens.control tokens.afterQuote date.effectiveDate keyfield.validFields fields.fieldsIn fields.isKind fields.valuesOf outer-specs.canonicalOf outer-specs.senderBy outer-specs.senderIn outer-specs.dateBy outer-specs.dateIn keyfield.chosen
+unfolding holding others behind directHalf entryIn update.younger update.stays table.found table.lowest table.hasAddress table.slots table.slotAt slots.marked slots.addressOf number octets.sameOctets octets.sameName octets.lowered octets.lower header.fieldsOf header.fields header.fieldsWithin inFront header.unfolded header.over header.ofEnding header.opensField runs.run header.rawLength runs.belongs header.closes list.openingOf holds list.runToken list.quotedToken list.tokenAt list.firstToken grammar.afterAddress grammar.after list.listedBy list.listed list.addresses onlyOne orElse address.plain ascii·address.localPart ascii·address.atom address.domain address.domainForm address.addressForm labels.labelOctet labels.labelForm labels.fits labels.label labels.labelled ascii·address.freeEnds address.canonical pieces.from lowering.lowerText lowering.lowerPoints lowering.lowerPoint utf8.points utf8.tails utf8.leadOf utf8.encoded utf8.encodedOne every pieces.onFirst pieces.pieces pieces.before pieces.behind blank tokens.past tokens.kindOf tokens.control tokens.afterQuote date.effectiveDate keyfield.validFields fields.fieldsIn fields.isKind fields.valuesOf outer-specs.canonicalOf outer-specs.senderBy outer-specs.senderIn outer-specs.dateBy outer-specs.dateIn keyfield.chosen pieces.following pieces.joined
 foo-is-there =
     let h = autocrypt-processed free 1000 outer [] Unset (replicate-octets 4392 0 (omega arith)) (tested outer refl) (tested [] refl) done address-given (ascii "foo") true writable holding refl refl in
     ap directHalf (h .there) ∙ h .set refl
 
 foo-is-handed-out : targetKeyOf (leftByProcessing free 1000 outer [] Unset) address-given 0 ≡ ascii "foo"
-unfolding holding others behind directHalf entryIn update.younger update.stays table.found table.lowest table.hasAddress table.slots table.slotAt slots.marked slots.addressOf number octets.sameOctets octets.sameName octets.lowered octets.lower header.fieldsOf header.fields header.fieldsWithin inFront header.unfolded header.over header.ofEnding header.opensField runs.run header.rawLength runs.belongs header.closes list.openingOf holds list.runToken list.quotedToken list.tokenAt list.firstToken grammar.afterAddress grammar.after list.listedBy list.listed list.addresses onlyOne orElse address.plain address.localPart address.atom address.domain address.label address.freeEnds address.canonical pieces.from lowering.lowerText lowering.lowerPoints lowering.lowerPoint utf8.points utf8.tails utf8.leadOf utf8.encoded utf8.encodedOne every pieces.onFirst pieces.pieces pieces.before pieces.behind blank tokens.past tokens.kindOf tokens.control tokens.afterQuote date.effectiveDate keyfield.validFields fields.fieldsIn fields.isKind fields.valuesOf outer-specs.canonicalOf outer-specs.senderBy outer-specs.senderIn outer-specs.dateBy outer-specs.dateIn keyfield.chosen
+unfolding holding others behind directHalf entryIn update.younger update.stays table.found table.lowest table.hasAddress table.slots table.slotAt slots.marked slots.addressOf number octets.sameOctets octets.sameName octets.lowered octets.lower header.fieldsOf header.fields header.fieldsWithin inFront header.unfolded header.over header.ofEnding header.opensField runs.run header.rawLength runs.belongs header.closes list.openingOf holds list.runToken list.quotedToken list.tokenAt list.firstToken grammar.afterAddress grammar.after list.listedBy list.listed list.addresses onlyOne orElse address.plain ascii·address.localPart ascii·address.atom address.domain address.domainForm address.addressForm labels.labelOctet labels.labelForm labels.fits labels.label labels.labelled ascii·address.freeEnds address.canonical pieces.from lowering.lowerText lowering.lowerPoints lowering.lowerPoint utf8.points utf8.tails utf8.leadOf utf8.encoded utf8.encodedOne every pieces.onFirst pieces.pieces pieces.before pieces.behind blank tokens.past tokens.kindOf tokens.control tokens.afterQuote date.effectiveDate keyfield.validFields fields.fieldsIn fields.isKind fields.valuesOf outer-specs.canonicalOf outer-specs.senderBy outer-specs.senderIn outer-specs.dateBy outer-specs.dateIn keyfield.chosen pieces.following pieces.joined
 foo-is-handed-out =
     key-handed-out free 1000 outer [] Unset (replicate-octets 4392 0 (omega arith)) (tested outer refl) (tested [] refl) done address-given (ascii "foo") true writable holding refl refl refl
