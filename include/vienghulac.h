@@ -26,10 +26,10 @@
  *      6   the mail is a report, of type multipart/report; by any of its Content-Type fields (B13)
  *      7   gossip is wanted, but the payload block cannot be read; only with VIENGHULAC_GOSSIP_TAKE (R7)
  *      8   too few free slots for the new addresses
- *      9   the address to write is not a plain one; with nothing around it (L6, L7)
+ *      9   the address to write is not a plain one; or the one to show. It has nothing around it (L6, L7)
  *     10   the recipients cannot be read, or are not 1 to 100
  *     11   the key to write is empty or over 2,048 octets
- *     12   too little room for the field, or for 11 numbers
+ *     12   too little room for the field, or for 11 numbers; or for the address to show
  *
  * Each call can give the numbers that its comment names. If several hold, the lowest of them is given.
  *
@@ -37,6 +37,13 @@
  * all zeros. There are no pointers in it, so it may be stored, copied and moved as it is, and zeros for whole slots may
  * be added at its end (T13). A table that a version before 0.4 stored may be refused with 2 by all but
  * vienghulac_convert, which has to be called once for it (T20).
+ *
+ * A domain may be spelled in its own script, as UTF-8, or with labels that open with xn--, which are Punycode by
+ * RFC 3492: in every argument, and in every field of a mail (L7, L22). Both spellings lead to one entry, for an address
+ * is stored, written and compared in its canonical form. That is in small letters, and ASCII behind the @ (L8). It may
+ * be longer than the address that was given, or shorter, and has at most 254 octets; the address itself may have more
+ * (L6). vienghulac_display makes it readable again. The library has no tables of Unicode: a program that takes an
+ * address from people normalises it (NFC) and sees which characters IDNA permits, before it hands it over.
  *
  * What no call can check is the caller's to see to (C18):
  *
@@ -71,6 +78,9 @@ extern "C" {
 
 /* An output of this length has room for every field, so no writer then answers 12 (W6). */
 #define VIENGHULAC_FIELD 3200
+
+/* An output of this length has room for every address shown, so vienghulac_display then never answers 12 (W11). */
+#define VIENGHULAC_DISPLAY 1024
 
 /* The gossip setting of vienghulac_process. Gossip is taken with VIENGHULAC_GOSSIP_TAKE alone. Any value besides these
  * three counts as unset, and unset skips (G1). */
@@ -131,7 +141,8 @@ typedef struct {
     uint64_t gossip_length;
 } vienghulac_numbers;
 
-/* What a writer answers: 0 and the length of the field, or a refusal's number and the length 0. */
+/* What a writer and vienghulac_display answer: 0 and how many octets were written, or a refusal's number and the length
+ * 0 (R34). */
 typedef struct {
     uint64_t number;
     uint64_t length;
@@ -202,7 +213,8 @@ vienghulac_part vienghulac_target_key(const uint8_t *table, size_t table_length,
  * Borrowed: `table`. Lent: `numbers`. If the answer is 0, the first VIENGHULAC_NUMBERS of them are written: those of
  * vienghulac_numbers in their order, which are all 0 for a free slot and for a slot past the end. So a program may
  * count up without knowing how many slots there are. The numbers behind them, and with a refusal all numbers, stay as
- * they were. The starts and lengths tell of parts of `table`.
+ * they were. The starts and lengths tell of parts of `table`. The address is in canonical form; what to show to people
+ * is for vienghulac_display to say.
  * Answers 0, 1, 2 or 12. */
 vienghulac_answer vienghulac_entry(const uint8_t *table, size_t table_length, uint64_t slot,
                                    uint64_t *numbers, size_t numbers_length);
@@ -212,8 +224,9 @@ vienghulac_answer vienghulac_entry(const uint8_t *table, size_t table_length, ui
  *     Autocrypt: addr=bob@b.example; prefer-encrypt=mutual; keydata=
  *      Zm9v
  *
- * with CRLF behind each line. `address` is the sender's; it is written in its canonical form, in small letters (L8).
- * `key` holds the octets of the key, which are written as Base64. Without `mutual` there is no prefer-encrypt.
+ * with CRLF behind each line. `address` is the sender's; it is written in its canonical form, in small letters and with
+ * a domain of ASCII (L8). `key` holds the octets of the key, which are written as Base64. Without `mutual` there is no
+ * prefer-encrypt.
  *
  * Borrowed: `address` and `key`. Lent: `out`. If the number is 0, the first `length` octets of it are the field. The
  * octets behind them, and with a refusal all of `out`, stay as they were; no zero is put behind the field.
@@ -228,6 +241,22 @@ vienghulac_written vienghulac_write_autocrypt(const uint8_t *address, size_t add
 vienghulac_written vienghulac_write_gossip(const uint8_t *address, size_t address_length,
                                            const uint8_t *key, size_t key_length,
                                            uint8_t *out, size_t out_length);
+
+/* Shows an address in its own script. What is written to the front of `out` is its canonical form, with the labels of
+ * the domain decoded, as UTF-8 (W12).
+ *
+ *     uint8_t shown[VIENGHULAC_DISPLAY];
+ *     vienghulac_written w = vienghulac_display(address, address_length, shown, sizeof shown);
+ *
+ * A label stays in ASCII where it does not open with xn--, where it does not decode, and where the decoded text, given
+ * as a label, would not lead back to it. So what is shown may be handed to every call in place of the address (C20).
+ * Whether a label is a good one is not judged: it may hold letters that look like others, and characters that steer a
+ * terminal, such as U+0080. Octets of the local part that are no UTF-8 stand as they are.
+ *
+ * Borrowed: `address`. Lent: `out`. If the number is 0, the first `length` octets of it are the address shown. Those
+ * behind them, and with a refusal all of `out`, stay as they were; no zero is put behind the address.
+ * Answers 0, 9 or 12. */
+vienghulac_written vienghulac_display(const uint8_t *address, size_t address_length, uint8_t *out, size_t out_length);
 
 #ifdef __cplusplus
 }

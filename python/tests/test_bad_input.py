@@ -6,8 +6,8 @@ import pytest
 from letters import RECEIPT, letter, old_table, table_with
 
 from vienghulac import (
-    Gossip, Refused, Table, autocrypt_field, autocrypt_header, check, convert, entries, gossip_field, gossip_header,
-    process, recommend, target_key,
+    Gossip, Refused, Table, autocrypt_field, autocrypt_header, check, convert, display, entries, gossip_field,
+    gossip_header, process, recommend, target_key,
 )  # fmt: skip
 
 LIST = b"a@x"
@@ -21,6 +21,7 @@ CALLS = [
     (autocrypt_header, dict(address=LIST, key=b"k", mutual=True)),
     (gossip_field, dict(address=LIST, key=b"k")),
     (gossip_header, dict(address=LIST, key=b"k")),
+    (display, dict(address=LIST)),
     (check, dict(table=bytes(4_392))),
     (convert, dict(table=bytes(4_392))),
     (Table, dict(table=bytes(4_392))),
@@ -75,7 +76,10 @@ def test_numbers_below_0(call, name):
 
 def test_missing_and_surplus_arguments():
     table, _ = table_with(b"a@x")
-    for call in (lambda: process(table), lambda: recommend(table, LIST, True, True, 1), lambda: autocrypt_field(LIST)):
+    for call in (
+        lambda: process(table), lambda: recommend(table, LIST, True, True, 1), lambda: autocrypt_field(LIST),
+        lambda: display(), lambda: display(LIST, LIST),
+    ):  # fmt: skip
         with pytest.raises(TypeError):
             call()
 
@@ -87,12 +91,14 @@ def test_every_kind_of_octets(kind):
     assert recommend(table, kind(b"a@x")).name == "AVAILABLE"
     assert target_key(table, kind(b"a@x")) == b"key"
     assert autocrypt_field(kind(b"a@x"), kind(b"foo")) == b"Autocrypt: addr=a@x; keydata=\r\n Zm9v\r\n"
+    assert display(kind(b"A@xn--nda")) == "a@ö".encode()
     assert bytes(convert(kind(old_table()))) == bytes(convert(old_table()))
 
 
 def test_a_view_with_gaps_lends_the_octets_it_shows():
     spread = bytes(octet for pair in zip(b"a@x.example", b"-----------") for octet in pair)
     assert b"addr=a@x.example;" in autocrypt_field(memoryview(spread)[::2], b"foo")
+    assert display(memoryview(spread)[::2]) == b"a@x.example"
 
 
 @pytest.mark.parametrize("base", [bytes, bytearray])
@@ -110,6 +116,7 @@ def test_a_class_that_lies_about_its_length(base):
             return bytearray(b"mallory@m.example")
 
     assert autocrypt_field(Liar(b"a@x"), Liar(b"foo")) == autocrypt_field(b"a@x", b"foo")
+    assert display(Liar(b"a@x")) == b"a@x"
     assert bytes(convert(Liar(old_table()))) == bytes(convert(old_table()))
     told, plain = Table(Liar(bytes(4_392 * 2))), Table.new(2)
     outer, payload = letter(b"a@x", b"key", more=b"To: b@x\r\n"), gossip_field(b"b@x", b"gossiped")
@@ -155,8 +162,9 @@ def test_a_subclass_of_a_table_is_one():
 def test_a_released_view_is_no_octets():
     view = memoryview(b"a@x")
     view.release()
-    with pytest.raises(ValueError):
-        autocrypt_field(view, b"foo")
+    for call in (lambda: autocrypt_field(view, b"foo"), lambda: display(view)):
+        with pytest.raises(ValueError):
+            call()
 
 
 def test_refusals_of_each_call_R31_R32():
@@ -184,3 +192,6 @@ def test_refusals_of_each_call_R31_R32():
             with pytest.raises(Refused) as caught:
                 write(*arguments)
             assert caught.value.number == number
+    with pytest.raises(Refused) as caught:
+        display(b"<a@x>")
+    assert (caught.value.number, caught.value.slot) == (9, None)

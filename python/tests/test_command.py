@@ -145,7 +145,7 @@ def test_list(imported):
     assert len(lines) == 5
     carol = json.loads(answer("list", "--json", "--table", imported))[2]
     assert carol == {
-        "slot": 2, "address": CAROL, "last_seen": 1_513_792_770, "autocrypt_timestamp": 1_510_133_395,
+        "slot": 2, "address": CAROL, "display": CAROL, "last_seen": 1_513_792_770, "autocrypt_timestamp": 1_510_133_395,
         "direct_key_length": 1_758, "preference": "none", "gossip_timestamp": None, "gossip_key_length": 0,
     }  # fmt: skip
 
@@ -255,6 +255,8 @@ def test_check(imported, tmp_path):
         ("key", "--table", "t", "a@x", "--place", "-1"), ("key", "--table", "t", "a@x", "--place", "one"),
         ("import", "mbox", "--table", "t", "--receipt", "yesterday"), ("field", "a@x"), ("check",), ("list", "--table", "t", "more"),
         ("convert",), ("convert", "--table", "t"), ("check", "t", "--no-wait"),
+        ("display",), ("display", "a@x", "b@x"), ("display", "--table", "t", "a@x"),
+        ("key", "--table", "t", "a@x", "--display"),
         ("field", "a@x", "--key", "k", "--mutual", "--gossip"), ("list", "--table", "t", "--xml"),
     ],
 )  # fmt: skip
@@ -262,7 +264,7 @@ def test_bad_usage(words):
     assert "usage: vienghulac" in failure(2, *words)
 
 
-@pytest.mark.parametrize("command", ["import", "list", "recommend", "field", "key", "check", "convert"])
+@pytest.mark.parametrize("command", ["import", "list", "recommend", "field", "key", "display", "check", "convert"])
 def test_help(command):
     text = answer(command, "--help").decode()
     assert f"usage: vienghulac {command}" in text and "--json" in text
@@ -275,7 +277,7 @@ def test_help_names_the_keys_of_json(imported):
     key, table = EXAMPLES / "alice.key", ("--table", imported)
     for command, *words in (
         ("import", INBOX, *table), ("list", *table), ("recommend", BOB, *table), ("key", BOB, *table),
-        ("field", ALICE, "--key", key), ("check", imported), ("convert", imported),
+        ("field", ALICE, "--key", key), ("display", ALICE), ("check", imported), ("convert", imported),
     ):  # fmt: skip
         answered = json.loads(answer(command, "--json", *words))
         keys = set(answered[0] if isinstance(answered, list) else answered)
@@ -303,6 +305,16 @@ def test_help_of_convert_tells_what_it_counts_and_what_it_leaves():
         "only where something changes", "What is refused stays as it is", "with --no-wait such a file fails at once",
     ):  # fmt: skip
         assert words in text
+
+
+def test_help_of_display_tells_what_is_shown_and_what_is_not():
+    text = " ".join(answer("display", "--help").decode().split())
+    for words in (
+        "What is shown can be typed in place of the address", "a label stays as it is where it does not decode",
+        "escaped with a backslash", "letters of several scripts look alike", "is refused (9)",
+    ):  # fmt: skip
+        assert words in text
+    assert "--display" in answer("list", "--help").decode()
 
 
 def test_the_console_script_is_the_same():

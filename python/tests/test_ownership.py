@@ -18,7 +18,7 @@ from contextlib import contextmanager
 import pytest
 from letters import RECEIPT, gossip, letter, old_table, table_with
 
-from vienghulac import Gossip, Refused, Table, _library, convert, entries, process, recommend, target_key
+from vienghulac import Gossip, Refused, Table, _library, convert, display, entries, process, recommend, target_key
 
 THREADS = 4
 
@@ -165,6 +165,27 @@ def test_a_buffer_that_changes_during_a_conversion(eager):
     with meanwhile(change):
         for _ in range(1_000):
             assert bytes(convert(buffer)) in expected
+
+
+@pytest.mark.parametrize("lent", [bytes, bytearray, lambda octets: memoryview(bytearray(octets))])
+def test_what_is_shown_is_a_copy(lent):
+    """Each call has an output of its own, so that no other call writes over what was shown."""
+    addresses = [lent(b"a%d@XN--NDA.x%d" % (number, number)) for number in range(100)]
+    shown = in_threads(lambda _: [display(address) for address in addresses])
+    assert shown == [["a{0}@ö.x{0}".format(number).encode() for number in range(100)]] * THREADS
+    assert addresses == [b"a%d@XN--NDA.x%d" % (number, number) for number in range(100)]
+
+
+def test_a_buffer_that_changes_while_it_is_shown(eager):
+    by_turns = itertools.cycle([b"a@xn--nda.xn--9ca", b"b@" + b"x" * 63])
+    buffer = bytearray(next(by_turns))
+
+    def change():
+        buffer[:] = next(by_turns)
+
+    with meanwhile(change):
+        for _ in range(1_000):
+            assert display(buffer) in ("a@ö.é".encode(), b"b@" + b"x" * 63)
 
 
 # Keys: views that the next write releases.

@@ -42,6 +42,13 @@ def test_everything_public_is_listed_and_documented():
         assert method.__doc__
 
 
+def test_nothing_public_has_gone():
+    """What version 0.4 had, a program may still name."""
+    older = "Advice Entry FieldValue Gossip Locked Octets REFUSALS Refused SLOT SLOTS Table autocrypt_field autocrypt_header"
+    older += " check convert entries gossip_field gossip_header open_table process recommend target_key"
+    assert set(vienghulac.__all__) == {*older.split(), "display"}
+
+
 def test_the_words_of_a_version():
     declared = re.search(r'^version = "(.*)"$', (ROOT / "python" / "pyproject.toml").read_text(), re.MULTILINE)
     assert importlib.metadata.version("vienghulac") == declared.group(1)
@@ -76,7 +83,7 @@ def test_the_library_calls_nothing_but_memory_functions():
 def test_the_library_has_the_functions_of_the_header():
     header = (ROOT / "include" / "vienghulac.h").read_text()
     declared = set(re.findall(r"^vienghulac_\w+ (vienghulac_\w+)\(", header, re.MULTILINE))
-    assert len(declared) == 8
+    assert len(declared) == 9
     symbols = output("readelf", "--dyn-syms", "--wide", LIBRARY)
     exported = set(re.findall(r"FUNC\s+GLOBAL\s+DEFAULT\s+\d+\s+(\w+)\n", symbols))
     assert exported == declared
@@ -89,6 +96,13 @@ def test_an_entry_is_read_as_the_header_declares_it():
     defined = dict(re.findall(r"^#define VIENGHULAC_(NUMBERS|BIT_\w+) (\d+)$", header, re.MULTILINE))
     assert len(defined) == 5
     assert {name: getattr(_library, name) for name in defined} == {name: int(value) for name, value in defined.items()}
+
+
+def test_there_is_as_much_room_as_the_header_says_W6_W11():
+    header = (ROOT / "include" / "vienghulac.h").read_text()
+    defined = dict(re.findall(r"^#define VIENGHULAC_(FIELD|DISPLAY) (\d+)$", header, re.MULTILINE))
+    assert {name: int(octets) for name, octets in defined.items()} == {"FIELD": 3_200, "DISPLAY": 1_024}
+    assert (_library.FIELD, _library.DISPLAY) == (3_200, 1_024)
 
 
 def test_the_gossip_setting_has_the_numbers_of_the_header_G1():
@@ -115,7 +129,7 @@ def test_the_package_is_strictly_typed():
 
 USER = """
 from typing import Optional
-from vienghulac import Advice, Table, autocrypt_header, convert, open_table, process, recommend, target_key
+from vienghulac import Advice, Table, autocrypt_header, convert, display, open_table, process, recommend, target_key
 
 table: Table = Table.new(slots=4)
 older: Table = convert(bytearray(bytes(table)))
@@ -124,6 +138,7 @@ advice: Advice = recommend(table, bytearray(b"a@x"), mutual=True)
 key: Optional[memoryview] = target_key(table, memoryview(b"a@x"))
 name, value = autocrypt_header(b"a@x", b"key")
 text: str = name + value
+shown: str = display(bytearray(b"a@x")).decode()
 with open_table("correspondents.table", slots=4, waiting=print) as shared:
     process(shared, 0, b"From: a@x")
 """
@@ -135,6 +150,7 @@ def test_its_users_are_checked_too(tmp_path):
     (tmp_path / "good.py").write_text(USER)
     output(*words, "good.py", cwd=tmp_path)
     wrong = ["recommend(table, 'a@x')", "bytes(target_key(table, b'a@x'))", "open_table('t').slots", "convert(table)"]
+    wrong += ["display('a@x')", "text = display(b'a@x')"]
     (tmp_path / "bad.py").write_text(USER + "\n".join(wrong) + "\n")
     bad = subprocess.run([*words, "bad.py"], capture_output=True, text=True, cwd=tmp_path)
-    assert bad.returncode == 1 and "Found 4 errors" in bad.stdout
+    assert bad.returncode == 1 and "Found 6 errors" in bad.stdout

@@ -147,6 +147,136 @@ static void bring_up_to_date(void) {
     expect("and nothing is written", memcmp(table, before, sizeof table) == 0);
 }
 
+/* L8, L22, W12: addresses, their canonical forms, and what is shown. Where a digit of base sixteen follows an octet,
+ * another literal begins. */
+static const struct {
+    const char *address, *form, *shown;
+} shows[] = {
+    {"Bob.B@X.Example", "bob.b@x.example", "bob.b@x.example"},
+    {"A@B\xc3\x9c" "CHER.Example", "a@xn--bcher-kva.example", "a@b\xc3\xbc" "cher.example"},
+    {"A@XN--BCHER-KVA.example", "a@xn--bcher-kva.example", "a@b\xc3\xbc" "cher.example"},
+    {"\xc3\x96@\xc3\x96", "\xc3\xb6@xn--nda", "\xc3\xb6@\xc3\xb6"},
+    {"a@xn--\xc3\xa9", "a@xn--xn---epa", "a@xn--\xc3\xa9"},
+    {"a@\xc3\xa9-\xc3\xa9", "a@xn----9fab", "a@\xc3\xa9-\xc3\xa9"},
+    {"a@xn--a", "a@xn--a", "a@\xc2\x80"},
+    {"a@xn--dca", "a@xn--dca", "a@xn--dca"},
+    {"a@xn----bga", "a@xn----bga", "a@xn----bga"},
+    {"a@xn--zzzzzzzz", "a@xn--zzzzzzzz", "a@xn--zzzzzzzz"},
+    {"\xff" "A@xn--nda", "\xff" "a@xn--nda", "\xff" "a@\xc3\xb6"},
+    /* two samples of RFC 3492, 7.1 (B and E) */
+    {"a@\xe4\xbb\x96\xe4\xbb\xac\xe4\xb8\xba\xe4\xbb\x80\xe4\xb9\x88\xe4\xb8\x8d\xe8\xaf\xb4\xe4\xb8\xad\xe6\x96\x87",
+     "a@xn--ihqwcrb4cv8a8dqg056pqjye",
+     "a@\xe4\xbb\x96\xe4\xbb\xac\xe4\xb8\xba\xe4\xbb\x80\xe4\xb9\x88\xe4\xb8\x8d\xe8\xaf\xb4\xe4\xb8\xad\xe6\x96\x87"},
+    {"a@Pro\xc4\x8dprost\xc4\x9bnemluv\xc3\xad\xc4\x8d" "esky",
+     "a@xn--proprostnemluvesky-uyb24dma41a",
+     "a@pro\xc4\x8dprost\xc4\x9bnemluv\xc3\xad\xc4\x8d" "esky"},
+};
+
+/* R9: none of these is a plain address. */
+static const char *const shows_not[] = {
+    "", "a@-\xc3\xa9", "a@\xc3\xa9-", "a@\xc3\xa9_", "a@\xc3\xa9..b", "a@\xc3", "a@\xed\xa0\x80", "a@xn--",
+    " a@b", "a@b ", "<a@b>", "A <a@b>", "<a@\xc3\xa9>",
+};
+
+/* Is the address shown so: in just enough room, with nothing behind it, and not in less? */
+static bool is_shown(const char *address, const char *shown) {
+    const size_t given = strlen(address), length = strlen(shown);
+    uint8_t out[VIENGHULAC_DISPLAY + 1], before[sizeof out];
+    memset(before, '?', sizeof before);
+    memcpy(out, before, sizeof out);
+    vienghulac_written r = vienghulac_display(octets(address), given, NULL, 0);
+    bool right = r.number == 12 && r.length == 0;
+    r = vienghulac_display(octets(address), given, out, length - 1);
+    right &= r.number == 12 && r.length == 0 && memcmp(out, before, sizeof out) == 0;
+    r = vienghulac_display(octets(address), given, out, length);
+    right &= r.number == 0 && r.length == length && memcmp(out, shown, length) == 0;
+    right &= memcmp(out + length, before + length, sizeof out - length) == 0;
+    memcpy(out, before, sizeof out);
+    r = vienghulac_display(octets(address), given, out, VIENGHULAC_DISPLAY);
+    right &= r.number == 0 && r.length == length && memcmp(out, shown, length) == 0;
+    return right & (memcmp(out + length, before + length, sizeof out - length) == 0);
+}
+
+/* Is it refused with 9, whatever room there is, and nothing written? */
+static bool is_not_shown(const char *address) {
+    uint8_t out[VIENGHULAC_DISPLAY], before[sizeof out];
+    memset(before, '?', sizeof before);
+    memcpy(out, before, sizeof out);
+    vienghulac_written r = vienghulac_display(octets(address), strlen(address), NULL, 0);
+    bool right = r.number == 9 && r.length == 0;
+    r = vienghulac_display(octets(address), strlen(address), out, sizeof out);
+    return right && r.number == 9 && r.length == 0 && memcmp(out, before, sizeof out) == 0;
+}
+
+/* The canonical form of an address, as a field has it: its length, 0 where there is none. */
+static size_t form_of(const char *address, char form[255]) {
+    static const char name[] = "Autocrypt: addr=", rest[] = "; keydata=\r\n Zm9v\r\n";
+    uint8_t out[VIENGHULAC_FIELD];
+    vienghulac_written r =
+        vienghulac_write_autocrypt(octets(address), strlen(address), octets("foo"), 3, false, out, sizeof out);
+    if (r.number != 0 || r.length > sizeof name - 1 + 254 + sizeof rest - 1) return 0;
+    const size_t length = (size_t)r.length - (sizeof name - 1) - (sizeof rest - 1);
+    memcpy(form, out + sizeof name - 1, length);
+    form[length] = 0;
+    return length;
+}
+
+static void show(void) {
+    char form[255];
+    for (size_t i = 0; i < sizeof shows / sizeof *shows; i++) {
+        form_of(shows[i].address, form);
+        expect("a canonical form", strcmp(form, shows[i].form) == 0);
+        expect("an address shown", is_shown(shows[i].address, shows[i].shown));
+        expect("its form shown", is_shown(shows[i].form, shows[i].shown));
+        expect("what is shown, typed back", is_shown(shows[i].shown, shows[i].shown));
+        form_of(shows[i].shown, form);
+        expect("it has the same form", strcmp(form, shows[i].form) == 0);
+    }
+    for (size_t i = 0; i < sizeof shows_not / sizeof *shows_not; i++) {
+        expect("no plain address is shown", is_not_shown(shows_not[i]));
+        expect("nor written", form_of(shows_not[i], form) == 0);
+    }
+    vienghulac_written r = vienghulac_display(NULL, 0, NULL, 0);
+    expect("nothing lent to show", r.number == 9 && r.length == 0);
+}
+
+/* Puts a text so many times behind an address, with another one between two. */
+static void put_times(char *address, const char *text, int many, const char *between) {
+    for (int i = 0; i < many; i++) {
+        if (i) strcat(address, between);
+        strcat(address, text);
+    }
+}
+
+/* L6, L7: is an address of labels, each of so many times a text, the longest of its kind? Its form has this length, and
+ * is shown as the address; one more of them, or of the labels, and there is none. */
+static bool grows(const char *text, int many, int labels, size_t length, const char *between) {
+    char address[1024] = "a@", form[255] = "", label[256] = "";
+    put_times(label, text, many, "");
+    put_times(address, label, labels, ".");
+    bool right = form_of(address, form) == length && is_shown(address, address) && is_shown(form, address);
+    strcat(address, between);
+    strcat(address, text);
+    return right && form_of(address, form) == 0 && is_not_shown(address);
+}
+
+static void grow(void) {
+    static const int most[] = {55, 55, 55, 52};
+    char address[1024] = "", form[255] = "";
+    expect("57 letters of two octets", grows("\xc3\xa9", 57, 1, 2 + 63, ""));
+    expect("57 letters of three octets", grows("\xe4\xbb\x96", 57, 1, 2 + 63, ""));
+    expect("63 letters of ASCII", grows("a", 63, 1, 2 + 63, ""));
+    expect("31 labels", grows("\xc3\xa9", 1, 31, 249, "."));
+    for (int i = 0; i < 4; i++) {
+        strcat(address, i ? "." : "a@");
+        put_times(address, "\xf4\x8f\xbf\xbf", most[i], "");
+    }
+    expect("873 octets become 254", strlen(address) == 873 && form_of(address, form) == 254);
+    expect("and are shown", is_shown(address, address) && is_shown(form, address));
+    memmove(address + 1, address, strlen(address) + 1);
+    expect("255 are too many", is_not_shown(address) && form_of(address, form) == 0);
+}
+
 /* Carol's mail for a new table of two slots, with a payload and a setting: the answer, and the table afterwards. */
 static vienghulac_answer hand_down(uint8_t *table, const char *block, size_t length, int value) {
     memset(table, 0, 2 * VIENGHULAC_SLOT);
@@ -234,6 +364,8 @@ int main(void) {
     ask_for_gossip();
     look_for_nothing();
     bring_up_to_date();
+    show();
+    grow();
     const uint8_t *address = octets("Bob@b.Example"), *key = octets("foo");
     const size_t address_length = 13, length = sizeof field - 1;
     uint8_t out[128], before[128];

@@ -40,11 +40,20 @@ static void put_times(block *b, const char *text, size_t times) {
     while (times--) put(b, text);
 }
 
+/* The domain of all addresses: in ASCII, or in UTF-8. */
+static const char *domain = "x";
+
 /* The address that has a number; each is different. */
 static const char *address_of(unsigned number) {
     static char address[16];
-    snprintf(address, sizeof address, "%x@x", number);
+    snprintf(address, sizeof address, "%x@%s", number, domain);
     return address;
+}
+
+/* And that of the one who sends. */
+static void put_sender(block *b) {
+    put(b, "s@");
+    put(b, domain);
 }
 
 /* A comment as deep as one may be. */
@@ -71,9 +80,12 @@ static void make_outer(block *b, size_t length) {
     b->length = 0;
     put(b, "From: ");
     put_comment(b);
-    put(b, " s@x\r\nDate: 1 Jan 2020 00:00:00 ");
+    put_sender(b);
+    put(b, "\r\nDate: 1 Jan 2020 00:00:00 ");
     put_comment(b);
-    put(b, "+0000\r\nContent-Type: text/plain\r\nAutocrypt: addr=s@x; keydata=");
+    put(b, "+0000\r\nContent-Type: text/plain\r\nAutocrypt: addr=");
+    put_sender(b);
+    put(b, "; keydata=");
     put_longest_key(b);
     put(b, "\r\nTo: ");
     put_comment(b);
@@ -90,7 +102,9 @@ static void make_outer(block *b, size_t length) {
 static void make_payload(block *b, size_t length, unsigned many) {
     b->length = 0;
     if (length == 0) return;
-    put(b, "Autocrypt-Gossip: addr=0@x; keydata=");
+    put(b, "Autocrypt-Gossip: addr=");
+    put(b, address_of(0));
+    put(b, "; keydata=");
     put_longest_key(b);
     put(b, "\r\n");
     for (unsigned number = 1; b->length < length - 60; number++) {
@@ -122,6 +136,16 @@ static void make_own(block *address, block *key) {
     put(address, ".");
     put_times(address, "x", 61);
     put_times(key, "k", 2048);
+}
+
+/* The longest address of the longest code points, of 873 octets; its form has 254 (L6). */
+static void make_longest(block *address) {
+    static const size_t most[] = {55, 55, 55, 52};
+    address->length = 0;
+    for (int i = 0; i < 4; i++) {
+        put(address, i ? "." : "a@");
+        put_times(address, "\xf4\x8f\xbf\xbf", most[i]);
+    }
 }
 
 /* What the calls are lent, and what they answer. */
@@ -193,6 +217,11 @@ static answer write_autocrypt(void) {
 static answer write_gossip(void) {
     vienghulac_written w =
         vienghulac_write_gossip(address.octets, address.length, key.octets, key.length, out.octets, out.length);
+    return (answer){{w.number, w.length, 0}};
+}
+
+static answer display(void) {
+    vienghulac_written w = vienghulac_display(address.octets, address.length, out.octets, VIENGHULAC_DISPLAY);
     return (answer){{w.number, w.length, 0}};
 }
 
@@ -290,6 +319,28 @@ static void lend_closed(void) {
     }
 }
 
+/* Domains in UTF-8: the calls that bring addresses into form, and the one that shows them. */
+static void in_another_script(void) {
+    static const char name[] = "Autocrypt-Gossip: addr=";
+    domain = "\xc3\xa9";
+    processes("process: both blocks long, domains in UTF-8", LONGEST, LONGEST, 250, 0);
+    make_recipients(&recipients);
+    same("recommend: domains in UTF-8", recommend, 0, OTHERS);
+    same("target_key: domains in UTF-8", target_key, 3, OTHERS);
+    make_longest(&address);
+    expect("the longest address", address.length == 873);
+    same("write_autocrypt: an address of 873 octets", write_autocrypt, 0, OTHERS);
+    same("write_gossip: an address of 873 octets", write_gossip, 0, OTHERS);
+    memcpy(address.octets, out.octets + sizeof name - 1, address.length = 254);
+    expect("its form stands in the field", memcmp(out.octets, name, sizeof name - 1) == 0 && out.octets[sizeof name + 253] == ';');
+    same("display: an address of 254 octets", display, 0, OTHERS);
+    expect("what is shown", display().numbers[1] == 873);
+    make_longest(&address);
+    same("display: an address of 873 octets", display, 0, OTHERS);
+    expect("the same", display().numbers[1] == 873 && memcmp(out.octets, address.octets, 873) == 0);
+    domain = "x";
+}
+
 int main(void) {
     processes("process: both blocks short", SHORT, SHORT, 100, 0);
     processes("process: a long outer block, no payload", LONGEST, 0, 0, 0);
@@ -310,6 +361,7 @@ int main(void) {
     same("entry", entry, 0, OTHERS);
     same("write_autocrypt", write_autocrypt, 0, OTHERS);
     same("write_gossip", write_gossip, 0, OTHERS);
+    in_another_script();
     make_old();
     same("convert", convert, 0, OTHERS);
     expect("one entry is left", table[0] == 'A' && table[VIENGHULAC_SLOT] == 0 && check().numbers[0] == 0);

@@ -128,6 +128,15 @@ static bool write_field(bool gossip) {
     return right & unchanged(address) & unchanged(key);
 }
 
+static bool display(void) {
+    block address = lend(), out = lend();
+    vienghulac_written w = vienghulac_display(address.lent, address.length, out.lent, out.length);
+    bool right = w.number == number();
+    right &= w.length == number();
+    right &= now_holds(out);
+    return right & unchanged(address);
+}
+
 static uint8_t *read_file(const char *name, size_t *length) {
     FILE *file = fopen(name, "rb");
     if (!file || fseek(file, 0, SEEK_END) != 0) give_up("the file cannot be read");
@@ -154,6 +163,7 @@ int main(int count, char **words) {
         case 6: expect("write_gossip", write_field(true)); break;
         case 7: expect("entry", entry()); break;
         case 8: expect("convert", convert()); break;
+        case 9: expect("display", display()); break;
         default: give_up("no such call");
         }
     }

@@ -12,9 +12,9 @@ from pathlib import Path
 sys.path.insert(0, str(Path(__file__).resolve().parents[1] / "independent"))
 
 from cases import Cases  # noqa: E402
-from scope import conversion, processing, recommending, table as tables, writing  # noqa: E402
+from scope import conversion, displaying, processing, recommending, table as tables, writing  # noqa: E402
 
-CHECK, PROCESS, RECOMMEND, TARGET_KEY, WRITE_AUTOCRYPT, WRITE_GOSSIP, ENTRY, CONVERT = range(1, 9)
+CHECK, PROCESS, RECOMMEND, TARGET_KEY, WRITE_AUTOCRYPT, WRITE_GOSSIP, ENTRY, CONVERT, DISPLAY = range(1, 10)
 
 
 def number(value: int) -> bytes:
@@ -33,6 +33,12 @@ def field(call: int, cases: Cases, address: bytes, key: bytes, room: int, mutual
     out = cases.random.randbytes(room)
     refusal, written = answer
     return case(call, address, key, out, mutual, refusal, len(written), written + out[len(written) :])
+
+
+def shown(cases: Cases, address: bytes, room: int, answer: tuple[int, bytes]) -> bytes:
+    out = cases.random.randbytes(room)
+    refusal, written = answer
+    return case(DISPLAY, address, out, refusal, len(written), written + out[len(written) :])
 
 
 def entry(cases: Cases, table: bytes, slot: int, many: int, answer: tuple[int, int, list[int] | None]) -> bytes:
@@ -58,6 +64,8 @@ def made(cases: Cases) -> bytes:
     one += case(TARGET_KEY, table, recipients, mutual, reply, place, *part)
     table, slot, many = cases.one_slot()
     one += entry(cases, table, slot, many, tables.entry_numbers(table, slot, many))
+    address, room = cases.displaying()
+    one += shown(cases, address, room, displaying.display(address, room))
     address, key, mutual, room = cases.writing()
     one += field(WRITE_AUTOCRYPT, cases, address, key, room, mutual, writing.write_autocrypt(address, key, mutual, room))
     address, key, room = cases.writing_gossip()

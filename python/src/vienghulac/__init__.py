@@ -31,6 +31,14 @@ today as it is. `vienghulac convert FILE` does it to a file:
 
     table = convert(octets)                                # Table(octets) would raise Refused (2)
 
+Domains: a domain may be given in its own script, as UTF-8, or with labels that open with `xn--`.
+Both are one address. It is stored and written in small letters, and with a domain of ASCII;
+`display` shows it in its own script again. The library has no tables of Unicode: normalise what
+people type (NFC), and see which characters IDNA permits, before a call. Letters that look alike
+are different letters here, and are shown as they are:
+
+    display(b"bob@xn--bcher-kva.example").decode()         # "bob@bücher.example"
+
 Rules: docs/SCOPE.md of the project says what each call does, for every input.
 
 Ownership: a call borrows what it is given and keeps nothing of it. `bytes` are handed down as
@@ -52,7 +60,7 @@ answer or is refused. A refusal raises `Refused` with its number, and leaves eve
 """
 
 from ._arguments import Octets
-from ._fields import FieldValue, autocrypt_field, autocrypt_header, gossip_field, gossip_header
+from ._fields import FieldValue, autocrypt_field, autocrypt_header, display, gossip_field, gossip_header
 from ._refusals import REFUSALS, Refused
 from ._shared import Locked, open_table
 from ._table import (
@@ -75,6 +83,7 @@ __all__ = [
     "autocrypt_header",
     "check",
     "convert",
+    "display",
     "entries",
     "gossip_field",
     "gossip_header",

@@ -18,7 +18,7 @@ import time
 from datetime import datetime, timezone
 from typing import Any, Iterator, Optional, Sequence
 
-from ._fields import FieldValue, autocrypt_field, gossip_field
+from ._fields import FieldValue, autocrypt_field, display, gossip_field
 from ._files import read_file, replace_file
 from ._mailbox import Mailbox, NoMailbox, open_mailbox
 from ._refusals import BAD_SLOT, REFUSALS, Refused
@@ -186,16 +186,16 @@ def _list(options: argparse.Namespace) -> int:
         _print_json([_described(entry) for entry in found])
         return 0
     rows = [("address", "last seen", "key of", "octets", "preference", "gossip of", "octets")]
-    rows += [_row(entry) for entry in found]
+    rows += [_row(entry, options.display) for entry in found]
     widths = [max(len(row[column]) for row in rows) for column in range(len(rows[0]))]
     for row in rows:
         print("  ".join(word.ljust(width) for word, width in zip(row, widths)).rstrip())
     return 0
 
 
-def _row(entry: Entry) -> tuple[str, str, str, str, str, str, str]:
+def _row(entry: Entry, shown: bool) -> tuple[str, str, str, str, str, str, str]:
     return (
-        _printable(entry.address),
+        _printable(display(entry.address) if shown else entry.address),
         _moment(entry.last_seen),
         _moment(entry.autocrypt_timestamp),
         str(_length(entry.direct_key)),
@@ -208,7 +208,8 @@ def _row(entry: Entry) -> tuple[str, str, str, str, str, str, str]:
 def _described(entry: Entry) -> dict[str, Any]:
     return {
         "slot": entry.slot,
-        "address": entry.address.decode("utf-8", "surrogateescape"),
+        "address": _text(entry.address),
+        "display": _text(display(entry.address)),
         "last_seen": entry.last_seen,
         "autocrypt_timestamp": entry.autocrypt_timestamp,
         "direct_key_length": _length(entry.direct_key),
@@ -234,6 +235,11 @@ def _printable(address: bytes) -> str:
     """An address for a terminal: a stranger chose it, so nothing in it may steer the terminal."""
     text = address.decode("utf-8", "backslashreplace")
     return "".join(letter if letter.isprintable() else ascii(letter)[1:-1] for letter in text)
+
+
+def _text(address: bytes) -> str:
+    """An address for JSON, which escapes what is not ASCII."""
+    return address.decode("utf-8", "surrogateescape")
 
 
 def _check(options: argparse.Namespace) -> int:
@@ -334,7 +340,7 @@ def _key(options: argparse.Namespace) -> int:
     return 0
 
 
-# field
+# field, display
 
 
 def _field(options: argparse.Namespace) -> int:
@@ -354,6 +360,15 @@ def _read_key(name: str) -> bytes:
     if key.startswith(_ARMOR):
         raise _Failure(f"{name}: the key is armored; it has to be binary (gpg --dearmor)")
     return key
+
+
+def _display(options: argparse.Namespace) -> int:
+    shown = display(os.fsencode(options.address))
+    if options.json:
+        _print_json({"display": _text(shown)})
+    else:
+        print(_printable(shown))
+    return 0
 
 
 # what the commands share
@@ -378,6 +393,7 @@ _COMMANDS = {
     "recommend": _recommend,
     "field": _field,
     "key": _key,
+    "display": _display,
     "check": _check,
     "convert": _convert,
 }

@@ -1,4 +1,5 @@
-"""Fields of outgoing mail: as octets, and as what Python's `EmailMessage` takes."""
+"""What the library writes: fields of outgoing mail, as octets and as what Python's `EmailMessage` takes, and addresses
+that people can read."""
 
 from __future__ import annotations
 
@@ -10,7 +11,8 @@ from . import _library
 from ._arguments import Octets, octets, truth
 from ._refusals import refusal
 
-_Room = ctypes.c_char * 3_200  # more than the longest field, 3,145 octets
+_Room = ctypes.c_char * _library.FIELD  # more than the longest field, 3,145 octets
+_Shown = ctypes.c_char * _library.DISPLAY  # no address shown is longer
 
 
 class FieldValue(str):
@@ -67,6 +69,20 @@ def gossip_header(address: Octets, key: Octets) -> tuple[str, FieldValue]:
     return _pair(gossip_field(address, key))
 
 
+def display(address: Octets) -> bytes:
+    """An address as people read it: its canonical form, with the labels of its domain decoded, in UTF-8.
+
+    `A@XN--BCHER-KVA.example` is shown as `a@bücher.example`. A label stays in ASCII where it does not open with `xn--`,
+    where it does not decode, and where the decoded text, given as a label, would not lead back to it. So what is shown
+    can be given to every call in place of the address. Whether a label is a good one is not judged: its letters may
+    look like others, and a character in it may steer a terminal. Octets of the local part that are no UTF-8 stand as
+    they are, so decode the answer with an error handler. Raises `Refused` (9).
+    """
+    lent = octets(address, "address")
+    out = _Shown()
+    return _front(out, _library.display(lent, len(lent), out, len(out)))
+
+
 def _pair(field: bytes) -> tuple[str, FieldValue]:
     value = FieldValue(field)
     return value.name, value
@@ -75,8 +91,12 @@ def _pair(field: bytes) -> tuple[str, FieldValue]:
 def _written(write: Callable[..., Any], address: Octets, key: Octets, *preference: bool) -> bytes:
     lent, lent_key = octets(address, "address"), octets(key, "key")
     out = _Room()
-    answer: _library.Written = write(lent, len(lent), lent_key, len(lent_key), *preference, out, len(out))
+    return _front(out, write(lent, len(lent), lent_key, len(lent_key), *preference, out, len(out)))
+
+
+def _front(out: ctypes.Array[ctypes.c_char], answer: _library.Written) -> bytes:
+    """What was written to the front of an output."""
     if answer.number:
         raise refusal(answer.number)
-    field: bytes = out[: answer.length]  # type: ignore[assignment]  # a slice of an array of c_char is bytes
-    return field
+    written: bytes = out[: answer.length]  # type: ignore[assignment]  # a slice of an array of c_char is bytes
+    return written

@@ -73,6 +73,7 @@ class Numbers(ctypes.Structure):
 
 
 NUMBERS = len(Numbers._fields_)
+FIELD, DISPLAY = 3_200, 1_024  # octets: room for every field, and for every address shown
 BIT_LAST_SEEN, BIT_DIRECT, BIT_GOSSIP, BIT_MUTUAL = 1, 2, 4, 8
 
 _shared = ctypes.CDLL(str(Path(__file__).with_name("libvienghulac.so")))
@@ -110,3 +111,4 @@ target_key = _declared("vienghulac_target_key", Part, *_TABLE, *_BLOCK, _TRUTH, 
 entry = _declared("vienghulac_entry", Answer, *_TABLE, _NUMBER, ctypes.POINTER(Numbers), _NUMBER)
 write_autocrypt = _declared("vienghulac_write_autocrypt", Written, *_BLOCK, *_BLOCK, _TRUTH, *_BLOCK)
 write_gossip = _declared("vienghulac_write_gossip", Written, *_BLOCK, *_BLOCK, *_BLOCK)
+display = _declared("vienghulac_display", Written, *_BLOCK, *_BLOCK)

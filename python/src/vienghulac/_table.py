@@ -267,9 +267,9 @@ def target_key(
 class Entry:
     """What a used slot held as `entries` read it.
 
-    None stands for what is absent. Times count the seconds from the beginning of 1970 in UTC. The direct key came in the
-    correspondent's own mail, the gossip key in that of others. Both are views of copies, which end as those of `target_key`
-    do; all else stays.
+    The address is in canonical form; `display` shows it in the script of its domain. None stands for what is absent. Times
+    count the seconds from the beginning of 1970 in UTC. The direct key came in the correspondent's own mail, the gossip
+    key in that of others. Both are views of copies, which end as those of `target_key` do; all else stays.
     """
 
     slot: int

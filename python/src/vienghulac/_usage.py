@@ -50,13 +50,14 @@ and used, those of the table."""
 _LIST = """\
 List the correspondents of a table: address, when last seen, date and length of
 the key from their own mail, preference, date and length of the key that others
-sent (gossip). Times are UTC.
+sent (gossip). Times are UTC. An address is listed in its canonical form, with a
+domain of ASCII; with --display as the command display shows it.
 
-With --json, for each: slot and address; last_seen; preference; and date and
-length of both keys, as autocrypt_timestamp and direct_key_length, and as
-gossip_timestamp and gossip_key_length. Times are seconds since 1970 or null, a
-key that is absent has length 0, and octets of an address that are not UTF-8 are
-lone surrogates."""
+With --json, for each: slot; address, the canonical form; display, the same as
+the command display shows it; last_seen; preference; and date and length of both
+keys, as autocrypt_timestamp and direct_key_length, and as gossip_timestamp and
+gossip_key_length. Times are seconds since 1970 or null, a key that is absent
+has length 0, and octets of an address that are not UTF-8 are lone surrogates."""
 
 _RECOMMEND = """\
 Say whether a new mail to the RECIPIENTS (one argument, a list as in a To field,
@@ -85,6 +86,21 @@ armor, as `gpg --export-options export-minimal --export` writes it. Ed25519 and
 RSA-3072 keys fit, RSA-4096 keys do not.
 
 With --json: name and value, the value on one line."""
+
+_DISPLAY = """\
+Show an ADDRESS as people read it: in small letters, and with the labels of its
+domain that open with xn-- decoded. What is shown can be typed in place of the
+address. So a label stays as it is where it does not decode, or where the
+decoded text would be taken for another label, as capitals would. A character
+that could steer the terminal, or that it lacks, is escaped with a backslash.
+
+Nobody has looked whether a label is a good one: letters of several scripts look
+alike, and two addresses that look the same may be two.
+
+An ADDRESS that is not a plain one is refused (9).
+
+With --json: display, the address shown. Octets of it that are not UTF-8 are
+lone surrogates."""
 
 _CHECK = """\
 Say of each FILE whether it is a table. The exit status is 1 where one is not;
@@ -153,7 +169,8 @@ def parser(commands: Mapping[str, Command]) -> argparse.ArgumentParser:
     )  # fmt: skip
     made.add_argument("--no-wait", action="store_true", help="fail at once where another program is changing the table")
 
-    with_table(command("list", _LIST, "list the correspondents of a table"))
+    made = with_table(command("list", _LIST, "list the correspondents of a table"))
+    made.add_argument("--display", action="store_true", help="show domains in their own script, not as xn-- labels")
 
     made = with_table(command("recommend", _RECOMMEND, "say whether a new mail should be encrypted"))
     made.add_argument("recipients", metavar="RECIPIENTS", help="a list of addresses, as in a To field")
@@ -171,6 +188,9 @@ def parser(commands: Mapping[str, Command]) -> argparse.ArgumentParser:
     made.add_argument("recipients", metavar="RECIPIENTS", help="a list of addresses, as in a To field")
     made.add_argument("--place", metavar="N", type=_natural, default=0, help="which recipient, counted from 0 (default: 0)")
     made.add_argument("--output", metavar="FILE", help="write the key to this file")
+
+    made = command("display", _DISPLAY, "show an address in the script of its domain")
+    made.add_argument("address", metavar="ADDRESS", help="an address, with nothing around it")
 
     made = command("check", _CHECK, "say whether files are tables")
     made.add_argument("file", metavar="FILE", nargs="+", help="a file")
