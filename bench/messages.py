@@ -21,6 +21,7 @@ from pathlib import Path
 ROOT = Path(__file__).resolve().parents[1]
 sys.path.insert(0, str(ROOT / "tests" / "independent"))
 
+from scope.address import canonical  # noqa: E402
 from scope.base64 import encode  # noqa: E402
 from scope.header import BLOCK_LIMIT  # noqa: E402
 from scope.table import Entry, table_of  # noqa: E402
@@ -253,6 +254,18 @@ def short_names(n: int) -> list[bytes]:
     return [bytes([letters[i // 676 % 26], letters[i // 26 % 26], letters[i % 26]]) + b"@b" for i in range(n)]
 
 
+def scripted_names(n: int) -> list[bytes]:
+    """Addresses of five octets whose domain is one letter of two octets."""
+    letters = "abcdefghijklmnopqrstuvwxyz"
+    return [f"{letters[i // 26 % 26]}{letters[i % 26]}@{chr(0xE0 + i // 676)}".encode() for i in range(n)]
+
+
+def costly_names(n: int) -> list[bytes]:
+    """Addresses with a label of 41 different letters, from the last to the first: more of them have no form."""
+    label = "".join(chr(0x561 + i) for i in reversed(range(41)))
+    return [f"{chr(97 + i // 26 % 26)}{chr(97 + i % 26)}@{label}".encode() for i in range(n)]
+
+
 def long_local_parts(n: int, letters: int) -> list[bytes]:
     """Addresses whose local parts have so many letters and differ in the last two of them only."""
     return [b"a" * (letters - 2) + bytes([97 + i // 26 % 26, 97 + i % 26]) + b"@b" for i in range(n)]
@@ -351,6 +364,19 @@ def cases(few: bool):
         key = make.key()
         table = table_of([Entry(name, i, i, key, False, i, key) for i, name in enumerate(spellings(8))])
         yield "hostile-spellings", 256, 256, "convert-old", CHECKS, table, TABLE_ALONE
+        # Lists with labels that have to be coded: very many, very long ones, and such whose tags are alike.
+        for what, names in (("scripts", scripted_names(10_000)), ("labels", costly_names(700))):
+            outer = b"From: aaa@b\nTo: " + b",".join(names) + b"\n\n"
+            chosen, table = names[-255:], table_of([Entry(canonical(name)) for name in [b"aaa@b"] + names[-255:]])
+            fields = [make.small_gossip(chosen[i % len(chosen)]) for i in range(BLOCK_LIMIT // 40)]
+            while len(b"".join(fields)) > BLOCK_LIMIT:
+                fields.pop()
+            yield f"hostile-{what}", len(fields), 256, "process", LIBRARIES, table, [(outer, b"".join(fields))]
+        *names, other = (name.replace(b"@c", "@é".encode()) for name in names_alike(11))
+        outer = b"From: aaa@b\nTo: " + b",".join(names) + b"\n\n"
+        field = make.small_gossip(other)
+        calls = [(outer, field * (BLOCK_LIMIT // len(field)))]
+        yield "hostile-coded-tags", BLOCK_LIMIT // len(field), 256, "process", LIBRARIES, table, calls
 
 
 def counted(octets: bytes) -> bytes:

@@ -1,30 +1,8 @@
 #include "address.h"
 
-enum { COMMENT_DEPTH = 16 };
+#include "punycode.h"
 
-bool plain_address(const uint8_t *s, size_t n, unsigned *kinds) {
-    if (n > ADDRESS_LIMIT) return false;
-    const uint8_t *p = s, *end = s + n;
-    unsigned seen = 0;
-    for (;;) {
-        const uint8_t *atom = p;
-        while (p < end && is(*p, ATOM)) seen |= octet_kind[*p++];
-        if (p == atom || p == end) return false;
-        if (*p == '@') break;
-        if (*p++ != '.') return false;
-    }
-    if (p - s > LOCAL_LIMIT) return false;
-    p++;
-    for (;;) {
-        const uint8_t *label = p;
-        while (p < end && is(*p, LABEL)) seen |= octet_kind[*p++];
-        if (p == label || p - label > LABEL_LIMIT || *label == '-' || p[-1] == '-') return false;
-        if (p == end) break;
-        if (*p++ != '.') return false;
-    }
-    *kinds = seen;
-    return true;
-}
+enum { COMMENT_DEPTH = 16, POINT_OCTETS = 4 };
 
 static bool follows(const uint8_t *s, size_t n) {
     for (size_t i = 0; i < n; i++) {
@@ -67,11 +45,10 @@ static unsigned small_letter(unsigned point) {
     return point;
 }
 
-/* L21: small letters beyond ASCII in the local part, if it is well formed. They and their capitals have two octets. */
+/* L21: small letters beyond ASCII in a local part, if it is well formed. They and their capitals have two octets. */
 static void small_local_part(uint8_t *s, size_t n) {
-    const uint8_t *at = memchr(s, '@', n);
-    uint8_t *end = s + (at - s);
-    if (!well_formed(s, (size_t)(end - s))) return;
+    uint8_t *end = s + n;
+    if (!well_formed(s, n)) return;
     for (size_t length; s < end; s += length) {
         length = point_length(s, (size_t)(end - s));
         if (length != 2) continue;
@@ -81,19 +58,112 @@ static void small_local_part(uint8_t *s, size_t n) {
     }
 }
 
-void make_canonical(uint8_t *out, const uint8_t *s, size_t n) {
+/* L21: the code point of so many octets, in lower case. */
+static uint32_t small_point(const uint8_t *s, size_t length) {
+    switch (length) {
+    case 1: return lower(s[0]);
+    case 2: return small_letter(point_of_two(s));
+    case 3: return (s[0] & 15u) << 12 | (s[1] & 63u) << 6 | (s[2] & 63u);
+    default: return (s[0] & 7u) << 18 | (s[1] & 63u) << 12 | (s[2] & 63u) << 6 | (s[3] & 63u);
+    }
+}
+
+/* L22: writes the form of a label that is not in ASCII; its length, 0 where it has none or one that is too long. */
+static size_t coded_form(uint8_t *out, const uint8_t *s, size_t n) {
+    uint32_t points[POINTS_LIMIT];
+    size_t many = 0;
+    while (n > 0) {
+        size_t length = point_length(s, n);
+        if (length == 0 || many == POINTS_LIMIT) return 0;
+        points[many++] = small_point(s, length);
+        s += length;
+        n -= length;
+    }
+    memcpy(out, "xn--", 4);
+    size_t length = encode_points(points, many, out + 4, LABEL_LIMIT - 4);
+    return length == 0 ? 0 : 4 + length;
+}
+
+size_t label_form(uint8_t *out, const uint8_t *s, size_t n) {
+    unsigned seen = 0;
+    if (n == 0 || s[0] == '-' || s[n - 1] == '-') return 0;
+    for (size_t i = 0; i < n; i++) {
+        if (!is(s[i], LABEL | HIGH)) return 0;
+        seen |= octet_kind[s[i]];
+    }
+    if (seen & HIGH) return coded_form(out, s, n);
+    if (n > LABEL_LIMIT) return 0;
+    for (size_t i = 0; i < n; i++) out[i] = lower(s[i]);
+    return n;
+}
+
+bool plain_address(const uint8_t *s, size_t n, struct kinds *kinds) {
+    const uint8_t *p = s, *end = s + n;
+    unsigned local = 0, domain = 0;
+    if (n > POINT_OCTETS * ADDRESS_LIMIT) return false; /* a code point takes one octet of the form at least */
+    for (;;) {
+        const uint8_t *atom = p;
+        while (p < end && is(*p, ATOM)) local |= octet_kind[*p++];
+        if (p == atom || p == end) return false;
+        if (*p == '@') break;
+        if (*p++ != '.') return false;
+    }
+    if (p - s > LOCAL_LIMIT) return false;
+    p++;
+    size_t form = (size_t)(p - s);
+    for (;; form++) {
+        const uint8_t *label = p;
+        unsigned seen = 0;
+        while (p < end && is(*p, LABEL | HIGH)) seen |= octet_kind[*p++];
+        if (p == label || *label == '-' || p[-1] == '-') return false;
+        size_t length = (size_t)(p - label);
+        if (seen & HIGH) {
+            uint8_t coded[LABEL_LIMIT];
+            length = coded_form(coded, label, length);
+            if (length == 0) return false;
+        } else if (length > LABEL_LIMIT) {
+            return false;
+        }
+        form += length;
+        domain |= seen;
+        if (p == end) break;
+        if (*p++ != '.') return false;
+    }
+    *kinds = (struct kinds){local, domain};
+    return form <= ADDRESS_LIMIT;
+}
+
+/* The form of an address with octets above ASCII on some side. */
+static size_t make_form(uint8_t *out, const uint8_t *s, size_t n) {
+    const uint8_t *end = s + n;
+    size_t length = (size_t)((const uint8_t *)memchr(s, '@', n) - s);
+    for (size_t i = 0; i < length; i++) out[i] = lower(s[i]);
+    small_local_part(out, length);
+    out[length] = '@';
+    s += ++length;
+    for (;;) {
+        const uint8_t *dot = memchr(s, '.', (size_t)(end - s)), *stop = dot ? dot : end;
+        length += label_form(out + length, s, (size_t)(stop - s));
+        if (dot == NULL) return length;
+        out[length++] = '.';
+        s = dot + 1;
+    }
+}
+
+size_t make_canonical(uint8_t *out, const uint8_t *s, size_t n) {
     uint8_t octets = 0;
+    if (n > ADDRESS_LIMIT) return make_form(out, s, n);
     for (size_t i = 0; i < n; i++) {
         octets |= s[i];
         out[i] = lower(s[i]);
     }
-    if (octets & 128) small_local_part(out, n);
+    return octets & 128 ? make_form(out, s, n) : n;
 }
 
-bool canonical_address(const uint8_t *s, size_t n, unsigned kinds) {
+bool canonical_address(const uint8_t *s, size_t n, const struct kinds *kinds) {
     bool capital = false;
-    if (kinds & CAPITAL) return false;
-    if (!(kinds & HIGH)) return true;
+    if ((kinds->local | kinds->domain) & CAPITAL || kinds->domain & HIGH) return false;
+    if (!(kinds->local & HIGH)) return true;
     for (size_t length; *s != '@'; s += length, n -= length) {
         length = point_length(s, n);
         if (length == 0) return true; /* no UTF-8, so its capitals stay */
@@ -153,7 +223,7 @@ struct list {
 
 static const uint8_t *read_address(struct list *list, const uint8_t *s) {
     const uint8_t *from = s;
-    unsigned kinds;
+    struct kinds kinds;
     while (s < list->end && (is(*s, ATOM) || *s == '.' || *s == '@')) s++;
     if (!plain_address(from, (size_t)(s - from), &kinds)) return NULL;
     if (list->count < list->room) {

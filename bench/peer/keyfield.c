@@ -6,7 +6,7 @@
 bool part_field(const uint8_t *s, size_t n, struct key_field *field) {
     const uint8_t *end = s + n;
     bool preference = false;
-    unsigned kinds;
+    struct kinds kinds;
 
     field->address = field->keydata = NULL;
     field->mutual = false;

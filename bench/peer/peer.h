@@ -32,4 +32,6 @@ peer_written peer_write_autocrypt(const uint8_t *address, size_t address_length,
 peer_written peer_write_gossip(const uint8_t *address, size_t address_length,
                                const uint8_t *key, size_t key_length, uint8_t *out, size_t out_length);
 
+peer_written peer_display(const uint8_t *address, size_t address_length, uint8_t *out, size_t out_length);
+
 #endif

@@ -9,16 +9,17 @@ enum {
     OUTER_FIELDS = 1 << FROM | 1 << RECIPIENTS | 1 << DATE | 1 << CONTENT_TYPE | 1 << AUTOCRYPT,
     PAYLOAD_FIELDS = 1 << AUTOCRYPT_GOSSIP,
     LISTED_LIMIT = BLOCK_LIMIT / 4, /* a@b and a comma */
+    FORMS_LIMIT = 3 * BLOCK_LIMIT,  /* a dot and a letter of two octets become a dot and seven */
     TAKE = 1
 };
 
 /* The canonical addresses of To, Cc and Reply-To by their hash: 0, or an address's number and one. */
 struct listed {
-    const uint8_t *text;
     uint32_t mask;
     long count;
-    struct span address[LISTED_LIMIT];
+    struct span address[LISTED_LIMIT]; /* of the forms */
     uint16_t place[2 * LISTED_LIMIT];
+    uint8_t forms[FORMS_LIMIT];
 };
 
 static uint16_t *listed_place(struct listed *listed, const uint8_t *address, size_t n) {
@@ -26,13 +27,13 @@ static uint16_t *listed_place(struct listed *listed, const uint8_t *address, siz
         uint16_t *place = &listed->place[i & listed->mask];
         if (*place == 0) return place;
         const struct span *other = &listed->address[*place - 1];
-        if (other->length == n && memcmp(listed->text + other->at, address, n) == 0) return place;
+        if (other->length == n && memcmp(listed->forms + other->at, address, n) == 0) return place;
     }
 }
 
-/* Reads every readable list, and makes its addresses canonical where they stand. */
-static void read_listed(struct listed *listed, struct values *outer) {
-    listed->text = outer->text;
+/* Reads every readable list, and makes the canonical forms of its addresses, one behind the other. */
+static void read_listed(struct listed *listed, const struct values *outer) {
+    size_t filled = 0;
     listed->count = 0;
     for (uint32_t i = 0; i < outer->count; i++) {
         const struct value *value = &outer->value[i];
@@ -40,8 +41,9 @@ static void read_listed(struct listed *listed, struct values *outer) {
         struct span *found = listed->address + listed->count;
         long n = read_list(outer->text + value->at, value->length, found, LISTED_LIMIT - listed->count);
         for (long k = 0; k < n; k++) {
-            found[k].at += value->at;
-            make_canonical(outer->text + found[k].at, outer->text + found[k].at, found[k].length);
+            const uint8_t *address = outer->text + value->at + found[k].at;
+            found[k] = (struct span){filled, make_canonical(listed->forms + filled, address, found[k].length)};
+            filled += found[k].length;
         }
         if (n > 0) listed->count += n;
     }
@@ -50,7 +52,7 @@ static void read_listed(struct listed *listed, struct values *outer) {
     listed->mask = size - 1;
     memset(listed->place, 0, size * sizeof listed->place[0]);
     for (long k = 0; k < listed->count; k++) {
-        uint16_t *place = listed_place(listed, listed->text + listed->address[k].at, listed->address[k].length);
+        uint16_t *place = listed_place(listed, listed->forms + listed->address[k].at, listed->address[k].length);
         if (*place == 0) *place = (uint16_t)(k + 1);
     }
 }
@@ -61,21 +63,22 @@ struct brought {
     size_t length;
 };
 
-/* Plans all gossip; false where a newcomer finds no slot. */
-static bool plan_gossip(struct book *book, struct values *outer, struct values *payload, struct brought *brought,
-                        uint8_t *keys) {
+/* Plans all gossip; false where a newcomer finds no slot. The forms of newcomers stay in `forms`, to which the book points. */
+static bool plan_gossip(struct book *book, const struct values *outer, const struct values *payload, struct brought *brought,
+                        uint8_t *keys, uint8_t (*forms)[ADDRESS_LIMIT]) {
     struct listed listed;
     read_listed(&listed, outer);
     for (uint32_t i = 0; i < payload->count; i++) {
         struct key_field field;
         if (!part_field(payload->text + payload->value[i].at, payload->value[i].length, &field)) continue;
-        uint8_t *address = payload->text + (field.address - payload->text);
-        make_canonical(address, address, field.address_length);
-        if (*listed_place(&listed, address, field.address_length) == 0) continue;
+        uint8_t *address = *forms;
+        size_t n = make_canonical(address, field.address, field.address_length);
+        if (*listed_place(&listed, address, n) == 0) continue;
         size_t length = decode_key(field.keydata, field.keydata_length, keys);
         if (length == 0) continue;
-        long slot = find_or_take(book, address, field.address_length);
+        long slot = find_or_take(book, address, n);
         if (slot < 0) return false;
+        if (book->address[slot] == address) forms++;
         brought[slot] = (struct brought){keys, length};
         keys += length;
     }
@@ -152,8 +155,8 @@ peer_answer peer_process(uint8_t *table, size_t table_length, uint64_t receipt,
         if (seconds >= 0 && (uint64_t)seconds < receipt) effective = (uint64_t)seconds;
     }
 
-    uint8_t *sender = outer.text + from->at + only.at;
-    make_canonical(sender, sender, only.length);
+    uint8_t sender[ADDRESS_LIMIT];
+    size_t sender_length = make_canonical(sender, outer.text + from->at + only.at, only.length);
     uint8_t keys[2][KEY_LIMIT]; /* the counted key, and one that would be the second */
     size_t key_length = 0;
     bool mutual = false;
@@ -162,9 +165,8 @@ peer_answer peer_process(uint8_t *table, size_t table_length, uint64_t receipt,
         struct key_field field;
         uint8_t address[ADDRESS_LIMIT];
         if (value->field != AUTOCRYPT || !part_field(outer.text + value->at, value->length, &field)) continue;
-        if (field.address_length != only.length) continue;
-        make_canonical(address, field.address, field.address_length);
-        if (memcmp(address, sender, only.length) != 0) continue;
+        if (make_canonical(address, field.address, field.address_length) != sender_length) continue;
+        if (memcmp(address, sender, sender_length) != 0) continue;
         size_t length = decode_key(field.keydata, field.keydata_length, keys[valid]);
         if (length == 0) continue;
         valid++;
@@ -172,13 +174,13 @@ peer_answer peer_process(uint8_t *table, size_t table_length, uint64_t receipt,
         mutual = field.mutual;
     }
 
-    long sender_slot = find_or_take(&book, sender, only.length);
+    long sender_slot = find_or_take(&book, sender, sender_length);
     if (sender_slot < 0) return (peer_answer){8, 0};
     struct brought brought[SLOTS_LIMIT];
-    uint8_t gossip_keys[BLOCK_LIMIT / 4 * 3];
+    uint8_t gossip_keys[BLOCK_LIMIT / 4 * 3], forms[SLOTS_LIMIT + 1][ADDRESS_LIMIT];
     if (payload.count > 0) {
         memset(brought, 0, book.slots * sizeof brought[0]);
-        if (!plan_gossip(&book, &outer, &payload, brought, gossip_keys)) return (peer_answer){8, 0};
+        if (!plan_gossip(&book, &outer, &payload, brought, gossip_keys, forms)) return (peer_answer){8, 0};
     }
 
     /* nothing is refused from here on */

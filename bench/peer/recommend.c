@@ -8,7 +8,7 @@ enum { REFUSED, DISABLE, DISCOURAGE, AVAILABLE, ENCRYPT };
 /* The slot of one recipient; NULL for none. */
 static const uint8_t *slot_of(const struct book *book, const uint8_t *table, const uint8_t *address, size_t n) {
     uint8_t canonical[ADDRESS_LIMIT];
-    make_canonical(canonical, address, n);
+    n = make_canonical(canonical, address, n);
     long slot = find(book, canonical, n);
     return slot < 0 ? NULL : table + (size_t)slot * SLOT;
 }

@@ -2,7 +2,7 @@
 
 #include "address.h"
 
-/* T16: by the old rule an address may have capitals beyond ASCII. */
+/* T16: by the old rule an address may have capitals beyond ASCII in its local part. By both its domain is in ASCII. */
 enum soundness { BROKEN, SOUND_BY_OLD_RULE, SOUND };
 
 static enum soundness soundness(const uint8_t *slot) {
@@ -10,7 +10,7 @@ static enum soundness soundness(const uint8_t *slot) {
     uint64_t seen = load64(slot + LAST_SEEN_AT), timestamp = load64(slot + TIMESTAMP_AT);
     uint64_t gossip_timestamp = load64(slot + GOSSIP_TIMESTAMP_AT);
     uint32_t direct_length = load16(slot + DIRECT_LENGTH_AT), gossip_length = load16(slot + GOSSIP_LENGTH_AT);
-    unsigned kinds;
+    struct kinds kinds;
 
     if ((bits & 0xf0) | slot[5] | slot[6] | slot[7] | slot[36] | slot[37] | slot[38] | slot[39]) return BROKEN;
     if (seen > TIME_LIMIT || timestamp > TIME_LIMIT || gossip_timestamp > TIME_LIMIT) return BROKEN;
@@ -25,11 +25,12 @@ static enum soundness soundness(const uint8_t *slot) {
     } else if (gossip_timestamp != 0 || gossip_length != 0) {
         return BROKEN;
     }
-    if (!plain_address(slot + ADDRESS_AT, address_length, &kinds) || kinds & CAPITAL
+    if (address_length > ADDRESS_LIMIT || !plain_address(slot + ADDRESS_AT, address_length, &kinds)
+        || (kinds.local | kinds.domain) & CAPITAL || kinds.domain & HIGH
         || !all_zero(slot + ADDRESS_AT + address_length, DIRECT_AT - ADDRESS_AT - address_length)
         || !all_zero(slot + DIRECT_AT + direct_length, KEY_LIMIT - direct_length)
         || !all_zero(slot + GOSSIP_AT + gossip_length, KEY_LIMIT - gossip_length)) return BROKEN;
-    return canonical_address(slot + ADDRESS_AT, address_length, kinds) ? SOUND : SOUND_BY_OLD_RULE;
+    return canonical_address(slot + ADDRESS_AT, address_length, &kinds) ? SOUND : SOUND_BY_OLD_RULE;
 }
 
 /* The place of the address in the book, or the empty place where it would stand. */

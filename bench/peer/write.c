@@ -34,17 +34,18 @@ static uint8_t *put_line(uint8_t *out, const uint8_t *s, size_t n) {
 
 static peer_written write_field(const char *opening, const char *preference, const uint8_t *address, size_t address_length,
                                 const uint8_t *key, size_t key_length, uint8_t *out, size_t out_length) {
-    unsigned kinds;
+    struct kinds kinds;
+    uint8_t form[ADDRESS_LIMIT];
     if (!plain_address(address, address_length, &kinds)) return (peer_written){9, 0};
     if (key_length < 1 || key_length > KEY_LIMIT) return (peer_written){11, 0};
-    size_t lines = (key_length + LINE_OCTETS - 1) / LINE_OCTETS;
-    size_t length = strlen(opening) + address_length + strlen(preference) + strlen("; keydata=\r\n")
+    size_t form_length = make_canonical(form, address, address_length), lines = (key_length + LINE_OCTETS - 1) / LINE_OCTETS;
+    size_t length = strlen(opening) + form_length + strlen(preference) + strlen("; keydata=\r\n")
         + (key_length + 2) / 3 * 4 + lines * 3;
     if (out_length < length) return (peer_written){12, 0};
 
     out = put(out, opening);
-    make_canonical(out, address, address_length);
-    out = put(out + address_length, ";");
+    memcpy(out, form, form_length);
+    out = put(out + form_length, ";");
     out = put(out, preference);
     out = put(out, " keydata=\r\n");
     for (; key_length > LINE_OCTETS; key += LINE_OCTETS, key_length -= LINE_OCTETS) out = put_line(out, key, LINE_OCTETS);

@@ -69,3 +69,6 @@ class Both:
 
     def write_gossip(self, *call):
         return self._written("write_gossip", *call)
+
+    def display(self, *call):
+        return self._written("display", *call)

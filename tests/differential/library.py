@@ -72,6 +72,10 @@ class Library(Bound):
         words = [address, len(address), key, len(key)]
         return self._write("write_gossip", READ + READ, words, out)
 
+    def display(self, address: bytes, out: bytes) -> tuple[int, int, bytes]:
+        """As above."""
+        return self._write("display", READ, [address, len(address)], out)
+
     def recommend(self, table: bytes, recipients: bytes, mutual: bool, reply: bool) -> tuple[int, int, int]:
         """The number, the index, and the advice."""
         kinds = READ + READ + [ctypes.c_bool, ctypes.c_bool]

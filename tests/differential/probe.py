@@ -232,6 +232,7 @@ class Probe(Bound):
         return self._call("probe_has_form", ctypes.c_bool, _read + _read, s, len(s), form, len(form))
 
     def canonical(self, s: bytes, out: bytes) -> tuple[int, int, bytes]:
+        """kind 0: how long the form is; 2: the address is not plain, or has too little room"""
         lent = Lent(out)
         r = self._call("probe_canonical", Answer, _read + _write, s, len(s), *lent.words())
         return r.kind, r.value, lent.now()

@@ -40,12 +40,22 @@ class AddressList(unittest.TestCase):
 
     def test_each_octet(self):
         for x in range(256):
-            for s in (b"%c", b"a@b%c", b"%ca@b", b"a%c@b", b"<a@b%c>", b"x%c<a@b>", b"g:a@b;%c", b'"%c" <a@b>', b"a@b,%cc@d"):
+            for s in (b"%c", b"a@b%c", b"%ca@b", b"a%c@b", b"<a@b%c>", b"x%c<a@b>", b"g:a@b;%c", b'"%c" <a@b>', b"a@b,%cc@d",
+                      b"a@\xc3%c", b"<a@\xc3%c>", b"a@\xc3\xa9%c", b"a@\xc3\xa9%cb", b"a@b,c@%c\xa9"):
                 self.same(s % x)
 
     def test_long_lists_L17(self):
-        for s in (b"a@b," * 16_000 + b"c@d", b"x " * 30_000 + b"<a@b>", b"g:;," * 16_000 + b"a@b", b"," * 60_000, b"a" * 60_000, b"a@" * 30_000):
+        for s in (b"a@b," * 16_000 + b"c@d", b"x " * 30_000 + b"<a@b>", b"g:;," * 16_000 + b"a@b", b"," * 60_000, b"a" * 60_000, b"a@" * 30_000,
+                  "a@é,".encode() * 12_000 + b"c@d", b"a@" + "é".encode() * 30_000, "a@é.".encode() + "é.".encode() * 10_000 + b"b",
+                  b"a@b," + b"\xff" * 60_000):
             self.same(s)
+
+    def test_domains_in_other_scripts_L12_L16(self):
+        """Lists of a few of them; one that is not plain hides the others."""
+        answers = set()
+        for _ in range(5_000):
+            answers.add(self.same(self.cases.list_of([self.cases.international() for _ in range(self.random.randint(1, 3))])))
+        self.assertEqual(answers, {False, True})
 
     def test_real_mail(self):
         answers = set()

@@ -112,9 +112,21 @@ class Processing(unittest.TestCase):
     def test_full_payload_U4_G4(self):
         """A payload full of small gossip fields, and a To list as long as a block may have."""
         names = [b"%x@b" % i for i in range(9_000)]
+        self.full(names, lambda: names[self.random.randrange(200)], lambda: b"%x@c" % self.random.randrange(2_000), lambda: self.random.choice(names))
+
+    def test_full_payload_in_other_scripts_L22(self):
+        """As above with domains that have to be coded: one and the same, others, and the same ones spelled in two ways."""
+        domains = ["é".encode(), "Я".encode(), b"xn--9ca"]
+        for of in (domains[:1], domains):
+            names = [b"%x@" % (i // len(of)) + of[i % len(of)] for i in range(9_000)]
+            self.full(names, lambda: names[self.random.randrange(200)], lambda: b"%x@" % self.random.randrange(2_000) + "ê".encode(),
+                      lambda: b"%x@" % self.random.randrange(200) + self.random.choice(domains))
+
+    def full(self, names: list[bytes], *picks) -> None:
+        """Every name in one list, as many as it has room for, and for each pick a payload of gossip about what it picks."""
         to = b"From:a@b\nTo:" + b",".join(names)
         outer = to[: to.rindex(b",", 0, 65_536)]
-        for pick in (lambda: names[self.random.randrange(200)], lambda: b"%x@c" % self.random.randrange(2_000), lambda: self.random.choice(names)):
+        for pick in picks:
             payload = b""
             while len(payload) < 65_400:
                 payload += b"Autocrypt-Gossip:addr=%s;keydata=Zm9v\n" % pick()

@@ -26,7 +26,10 @@ class Writing(unittest.TestCase):
     def test_limits_W6_R9_R11_R12(self):
         """Addresses and keys at both ends of each limit, an output of every length around the field's."""
         domain = b"@" + b".".join([b"d" * 63] * 2) + b"." + b"D" * 61
-        addresses = [b"a@b", b"L" * 64 + b"@b", b"l" * 65 + b"@b", b"l" * 64 + domain, b"l" * 64 + domain + b"d", b"", b" a@b", b"\xc3\x84@B"]
+        addresses = [b"a@b", b"L" * 64 + b"@b", b"l" * 65 + b"@b", b"l" * 64 + domain, b"l" * 64 + domain + b"d", b"", b" a@b", b"\xc3\x84@B",
+                     b"a@" + "é".encode() * 57, b"a@" + "é".encode() * 58, "A@BÜCHER.Example".encode(),
+                     b"l" * 62 + b"@" + ".".join(["É" * 57] * 3).encode(), b"l" * 63 + b"@" + ".".join(["É" * 57] * 3).encode(),
+                     b"a@" + ".".join("\U0010ffff" * many for many in (55, 55, 55, 52)).encode()]
         keys = [self.random.randbytes(n) for n in (0, 1, 2, 3, 56, 57, 58, 113, 114, 115, 2046, 2047, 2048, 2049, 4096)]
         for address in addresses:
             for key in keys:

@@ -1,5 +1,5 @@
 /* Messages one after the other, on one small table, given to the library and to the C program of bench/: after each the
- * answers, the whole tables, the advice for a list, its keys and two written fields are compared.
+ * answers, the whole tables, the advice for a list, its keys, two written fields and an address shown are compared.
  *
  * The input: an octet for the number of slots; then for each message an octet of choices, the outer block, the payload
  * and a list, each ended by two octets 254. seeds.py writes such inputs. */
@@ -13,7 +13,7 @@ enum { SLOTS = 4, BLOCK = 65537, TEXT = 4096, PLACES = 3 };
 static const uint64_t moments[16] = {0, 1, 999, 1000, 1001, 3024999, 3025000, 3025001, 1500000000, 1600000000, 1600000001,
                                      1700000000, 4102444800, 253402300798, 253402300799, 253402300800};
 
-static room own, other, outer_room, payload_room, list_room, key_room, field_room;
+static room own, other, outer_room, payload_room, list_room, key_room, field_room, shown_room;
 
 static void compare_process(block mine, block theirs, uint8_t choices, block outer, block payload) {
     uint64_t receipt = moments[choices >> 4];
@@ -63,6 +63,20 @@ static void compare_fields(uint8_t choices, block address, block key) {
     same_octets("gossip field", out.at, theirs, length);
 }
 
+/* The list as an address once more, shown in as much room as there may be need for, in little, or in none. */
+static void compare_display(uint8_t choices, block address) {
+    static uint8_t ours[VIENGHULAC_DISPLAY], theirs[VIENGHULAC_DISPLAY];
+    size_t length = choices & 32 ? VIENGHULAC_DISPLAY : choices & 16 ? choices & 15 : choices >> 2;
+    memset(ours, choices, length);
+    memset(theirs, choices, length);
+    block out = lend(shown_room, ours, length);
+    vienghulac_written a = vienghulac_display(address.at, address.length, out.at, out.length);
+    peer_written b = peer_display(address.at, address.length, theirs, length);
+    same("display", a.number, b.number);
+    same("length of an address shown", a.length, b.length);
+    same_octets("address shown", out.at, theirs, length);
+}
+
 int LLVMFuzzerInitialize(int *count, char ***words) {
     (void)count, (void)words;
     own = make_room(SLOTS * VIENGHULAC_SLOT);
@@ -72,6 +86,7 @@ int LLVMFuzzerInitialize(int *count, char ***words) {
     list_room = make_room(TEXT);
     key_room = make_room(TEXT);
     field_room = make_room(VIENGHULAC_FIELD);
+    shown_room = make_room(VIENGHULAC_DISPLAY);
     return 0;
 }
 
@@ -90,6 +105,7 @@ int LLVMFuzzerTestOneInput(const uint8_t *octets, size_t length) {
         compare_process(mine, theirs, choices, outer, payload);
         compare_advice(mine, choices, list);
         compare_fields(choices, list, key);
+        compare_display(choices, list);
     }
     return 0;
 }

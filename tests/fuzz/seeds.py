@@ -18,10 +18,12 @@ SHORT = 4_096  # most seeds are no longer: of short inputs a fuzzer tries many m
 
 
 def one_message(cases: Cases) -> bytes:
-    """The octet of choices (gossip setting, preference, reply, the moment), the two blocks and a list."""
+    """The octet of choices (gossip setting, preference, reply, the moment), the two blocks and a list, which is often one
+    address: it is also written and shown."""
     _, outer, payload, gossip = cases.message()
     choices = min(gossip, 3) | cases.random.randrange(64) << 2
-    return bytes([choices]) + END.join([outer, payload, cases.recipients()]) + END
+    recipients = cases.recipients() if cases.chance(0.6) else cases.address()
+    return bytes([choices]) + END.join([outer, payload, recipients]) + END
 
 
 def messages(cases: Cases) -> bytes:

@@ -11,7 +11,8 @@
 enum { SLOTS = 4 };
 
 static const char list[] =
-    "alice@a.example, Bob <bob@b.example>, g: carol@c.example, p=q+r@g.example;, x@y, \xc3\x89VA@f.example";
+    "alice@a.example, Bob <bob@b.example>, g: carol@c.example, p=q+r@g.example;, x@y, \xc3\x89VA@f.example, "
+    "dora@B\xc3\x9c" "CHER.example";
 static const uint8_t *const recipients = (const uint8_t *)list;
 
 static room table_room, own_room, other_room, list_room;
@@ -69,7 +70,7 @@ int LLVMFuzzerTestOneInput(const uint8_t *octets, size_t length) {
     peer_advice d = peer_recommend(table.at, table.length, asked.at, asked.length, true, false);
     same("recommend", c.number, d.number);
     same("advice", c.advice, d.advice);
-    for (uint64_t place = 0; place < 6; place++) {
+    for (uint64_t place = 0; place < 7; place++) {
         vienghulac_part p = vienghulac_target_key(table.at, table.length, asked.at, asked.length, true, false, place);
         peer_part q = peer_target_key(table.at, table.length, asked.at, asked.length, true, false, place);
         same("start of a key", p.start, q.start);

@@ -40,13 +40,14 @@ def moment(seconds: int, zone: timezone) -> datetime:
 
 
 def address_of(number: int) -> bytes:
-    """Capitals, signs and letters beyond ASCII among the addresses."""
-    form = ("p{}@one.example", "Ann.{}@Two.Example", "zoË{}@three.example", "a+b-{}=c@4.example", "X{}@FIVE")[number % 5]
-    return form.format(number).encode()
+    """Capitals, signs and letters beyond ASCII among the addresses, in a name and in a domain."""
+    forms = ("p{}@one.example", "Ann.{}@Two.Example", "zoË{}@three.example", "a+b-{}=c@4.example", "X{}@FIVE", "jan{}@BÜCHER.example")
+    return forms[number % 6].format(number).encode()
 
 
 def canonical(address: bytes) -> bytes:
-    return address.decode().lower().encode()  # as L8 has it, for the letters of these addresses
+    """As L8 has it, for the letters of these addresses."""
+    return address.decode().lower().replace("bücher", "xn--bcher-kva").encode()
 
 
 class Letters:

@@ -36,6 +36,9 @@ class Header(unittest.TestCase):
     def test_field(self):
         self.assertEqual(macro("VIENGHULAC_FIELD"), defined("fieldRoom", "write/specs/Writing.antt"))
 
+    def test_display(self):
+        self.assertEqual(macro("VIENGHULAC_DISPLAY"), defined("displayRoom", "display/specs/Displaying.antt"))
+
 
 if __name__ == "__main__":
     unittest.main()

@@ -42,6 +42,7 @@ VOCABULARY = {
     "keyfield/Answers": "places of a value, for what stands between them",
     "octets/Finding": "the first place of an octet",
     "octets/Options": "what may be absent, and lists",
+    "octets/Puts": "a text written while it is made",
     "octets/Tests": "tests of every element",
     "octets/Written": "memory that is written over",
     "table/Tagged": "tags travel beside a table, and no caller sees them",
