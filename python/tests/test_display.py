@@ -148,7 +148,7 @@ def test_an_address_grows_to_254_octets_L6():
 
 
 def test_a_label_without_an_end_R9():
-    """How long an address is given is no limit, and none is looked for."""
+    """A text of a million letters is refused like any other."""
     assert refusal_of(display, b"a@" + "é".encode() * 1_000_000) == 9
     assert refusal_of(display, b"a@" + b"xn--" * 1_000_000 + b"a") == 9
 

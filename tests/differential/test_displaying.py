@@ -59,7 +59,7 @@ class Displaying(unittest.TestCase):
         self.assertGreater(min(answers.values()), 300, answers)
 
     def test_small_codes_L23(self):
-        """Every text of up to three digits behind `xn--`."""
+        """Every text of one or two digits behind `xn--`, and many of three."""
         codes = [b""]
         for _ in range(3):
             codes = [code + bytes([digit]) for code in codes for digit in b"abcdefghijklmnopqrstuvwxyz0123456789-"]

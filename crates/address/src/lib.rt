@@ -1,5 +1,5 @@
 // Plain addresses and their canonical form (SCOPE, L6 to L8). Nearly all addresses are ASCII, and go the ways of asciiaddress,
-// which know neither UTF-8 nor Punycode. Any other address is plain when its form can be written into room for 254 octets.
+// which know no Punycode. Any other address is plain when its form can be written into room for 254 octets.
 ghost use Prim.Native.Nat.{_≤_};
 ghost use mathlib.Core.Path.{_≡_};
 ghost use mathlib.Core.Bool.{true, false};

@@ -10,13 +10,13 @@ ghost use Rattle.asciiaddress.specs.Ascii.{asciiDomain, asciiPlain, wasC
 ghost use Rattle.asciiaddress.specs.Answers.{localOf, labelShape, smallAscii, lowerSides, asciiCanonical};
 use runs::Class;
 
-// How many octets a plain address may have (L6).
+// How many octets such an address may have: as many as its form (L6, T16).
 const LONGEST: usize = 254;
 
 // How many octets a local part may have (L6).
 const LONGEST_LOCAL: usize = 64;
 
-// How many octets a label may have (L7).
+// How many octets such a label may have: as many as its form (L7, T16).
 const LONGEST_LABEL: usize = 63;
 
 // The length of the local part that a text opens with.

@@ -1,6 +1,6 @@
 -- From L7 and L22 of SCOPE to what the code answers on labels.
 --     judged             a label as it stands, without its form
---     codeOf             the Punycode of code points in lower case, where there are any
+--     codeOf             the Punycode of code points, where there are any
 --     fitting            a form that is not too long
 --     labelOf            the form of a label; what is no label has none
 use Prim.Native.Nat.{ℕ}
