@@ -215,6 +215,13 @@ class Maker:
     def small_gossip(self, address: bytes) -> bytes:
         return b"Autocrypt-Gossip:addr=" + address + b";keydata=" + self.text(4) + b"\n"
 
+    def much_gossip(self, addresses: list[bytes]) -> list[bytes]:
+        """As many small fields about these addresses, in turn, as a payload may hold."""
+        fields = [self.small_gossip(addresses[i % len(addresses)]) for i in range(BLOCK_LIMIT // 40)]
+        while len(b"".join(fields)) > BLOCK_LIMIT:
+            fields.pop()
+        return fields
+
 
 def without_autocrypt(block: bytes) -> bytes:
     """The same block without its Autocrypt field."""
@@ -326,9 +333,7 @@ def cases(few: bool):
         outer = b"From: aaa@b\nTo: " + b",".join(names) + b"\n\n"
         table = table_of([Entry(name) for name in names[:1] + names[-255:]])
         for what, chosen in (("listed", names[-255:]), ("unlisted", [b"zzz@c"]), ("newcomers", names[:2000])):
-            fields = [make.small_gossip(chosen[i % len(chosen)]) for i in range(BLOCK_LIMIT // 40)]
-            while len(b"".join(fields)) > BLOCK_LIMIT:
-                fields.pop()
+            fields = make.much_gossip(chosen)
             yield f"hostile-{what}", len(fields), 256, "process", LIBRARIES, table, [(outer, b"".join(fields))]
         # Recipients whose tags are all alike, and gossip about one more such address.
         *names, other = names_alike(11)
@@ -368,9 +373,7 @@ def cases(few: bool):
         for what, names in (("scripts", scripted_names(10_000)), ("labels", costly_names(700))):
             outer = b"From: aaa@b\nTo: " + b",".join(names) + b"\n\n"
             chosen, table = names[-255:], table_of([Entry(canonical(name)) for name in [b"aaa@b"] + names[-255:]])
-            fields = [make.small_gossip(chosen[i % len(chosen)]) for i in range(BLOCK_LIMIT // 40)]
-            while len(b"".join(fields)) > BLOCK_LIMIT:
-                fields.pop()
+            fields = make.much_gossip(chosen)
             yield f"hostile-{what}", len(fields), 256, "process", LIBRARIES, table, [(outer, b"".join(fields))]
         *names, other = (name.replace(b"@c", "@é".encode()) for name in names_alike(11))
         outer = b"From: aaa@b\nTo: " + b",".join(names) + b"\n\n"

@@ -1,5 +1,5 @@
 -- The canonical form, as callers ask for it.
---     Owns, own-pieces                     forms of labels, and the domain that they make
+--     Owns                                 forms of labels
 --     forms-own, forms-back                the forms of a domain's labels are such, and its pieces
 --     before-form, behind-form, from-form  the two sides of a form
 --     short, left, right                   what a plain address is
@@ -31,7 +31,7 @@ use Rattle.utf8.specs.Lowering.{lowerText}
 use Rattle.utf8.proofs.Alike.{alike-at, near-octet}
 use Rattle.utf8.proofs.Lowering.{alike-text, text-twice}
 use Rattle.pieces.specs.Pieces.{pieces, before, behind, from, following, joined}
-use Rattle.pieces.proofs.Pieces.{others, pieces-first, pieces-into, before-into, behind-into, from-into}
+use Rattle.pieces.proofs.Pieces.{pieces-first, pieces-joined, before-into, behind-into, from-into}
 use Rattle.asciiaddress.specs.Ascii.{localPart}
 use Rattle.asciiaddress.proofs.Alike.{local-alike}
 use Rattle.asciiaddress.proofs.Lowered.{local-free}
@@ -57,24 +57,14 @@ owns-labelled : {ws : List (List ℕ)} → Owns ws → map labelled ws ≡ ws
 owns-labelled no-own = refl
 owns-labelled (an-own {w} o r) = rw (own-labelled w o, owns-labelled r)
 
+owns-free : {ws : List (List ℕ)} → Owns ws → every (every (λ x. not (eqb x 46))) ws ≡ true
+unfolding every
+owns-free no-own = refl
+owns-free (an-own {w} o r) = rw (form-free w (o .octets)) (owns-free r)
+
 -- forms with dots between them are cut into these forms again
-module _ (w t : List ℕ) (ws : List (List ℕ)) (o : Own w) (b : before 46 t ≡ []) (r : others 46 t ≡ ws) where
-  piece-more : pieces 46 (w ++ t) ≡ w ∷ ws
-  piece-more = pieces-into (λ x. not (eqb x 46)) 46 refl w t (form-free w (o .octets)) ∙ rw (b, r, append-nil)
-
-following-before : (ws : List (List ℕ)) → before 46 (following 46 ws) ≡ []
-unfolding following before
-following-before [] = refl
-following-before (w ∷ ws) = refl
-
-following-others : {ws : List (List ℕ)} → Owns ws → others 46 (following 46 ws) ≡ ws
-unfolding following others
-following-others no-own = refl
-following-others (an-own {w} {ws} o r) = piece-more w (following 46 ws) ws o (following-before ws) (following-others r)
-
-pub own-pieces : {w : List ℕ} {ws : List (List ℕ)} → Owns (w ∷ ws) → pieces 46 (joined 46 (w ∷ ws)) ≡ w ∷ ws
-unfolding joined
-own-pieces (an-own {w} {ws} o r) = piece-more w (following 46 ws) ws o (following-before ws) (following-others r)
+own-pieces : (w : List ℕ) (ws : List (List ℕ)) → Owns (w ∷ ws) → pieces 46 (joined 46 (w ∷ ws)) ≡ w ∷ ws
+own-pieces w ws o = pieces-joined (λ x. not (eqb x 46)) 46 refl w ws (owns-free o)
 
 module _ (d : List ℕ) (e : domain d ≡ true) where
   pub forms-own : Owns (map labelled (pieces 46 d))
@@ -83,7 +73,7 @@ module _ (d : List ℕ) (e : domain d ≡ true) where
 
   pub forms-back : pieces 46 (domainForm d) ≡ map labelled (pieces 46 d)
   unfolding domainForm
-  forms-back = rw (pieces-first 46 d) (own-pieces (rw (pieces-first 46 d) at forms-own))
+  forms-back = rw (pieces-first 46 d) (own-pieces _ _ (rw (pieces-first 46 d) at forms-own))
 
   domain-form : domain (domainForm d) ≡ true
   unfolding domain

@@ -6,7 +6,7 @@
 --     display-roomy               with the room that the C header promises, 12 is never answered (W11)
 -- Assumes nothing.
 use Prim.Native.Nat.{ℕ, _≤_}
-use mathlib.Core.Path.{_≡_, refl, sym, ap, _∙_}
+use mathlib.Core.Path.{_≡_, sym, ap, _∙_}
 use mathlib.Core.Bool.{true}
 use mathlib.Core.List.{List}
 use mathlib.Core.Option.{Option, some, none}
@@ -17,7 +17,7 @@ use lib.ListN.{length, take, drop}
 use lib.Seq.{take-append-seam}
 use Rattle.octets.specs.Written.{onto}
 use Rattle.refusals.specs.Refusals.{numberOf}
-use Rattle.refusals.specs.Rows.{answeredBy, Gives, nothing, here, behind}
+use Rattle.refusals.specs.Rows.{Gives, nothing, here, behind}
 use Rattle.refusals.specs.declared.Refusal.{Refusal}
 use Rattle.refusals.specs.declared.Refusal.the-variants.{OwnAddress, OutputLength}
 use Rattle.refusals.proofs.Rows.{exactly, none-here, none-rest, refused-is, done-is}
@@ -25,18 +25,8 @@ use Rattle.address.specs.Address.{plain, canonical}
 use Rattle.showing.specs.Showing.{displayed}
 use Rattle.showing.proofs.Typing.{canonical-displayed, displayed-most}
 use Rattle.write.specs.declared.Written.the-variants.{Done, Refused}
+use Rattle.write.proofs.Outcomes.{answer-refused, answer-done}
 use Rattle.display.specs.Displaying.{displayRoom, displayingRows, refusedDisplaying, displayedOf, leftByDisplaying}
-
-module _ (d : ℕ) where
-  answer-refused : (o : Option Refusal) (r : Refusal) → answeredBy o Refused (Done d) ≡ Refused r → o ≡ some r
-  unfolding answeredBy
-  answer-refused (some q) r e = ap some cc
-  answer-refused none r e = cc
-
-  answer-done : (o : Option Refusal) (n : ℕ) → answeredBy o Refused (Done d) ≡ Done n → (o ≡ none) × (d ≡ n)
-  unfolding answeredBy
-  answer-done (some q) n e = (cc, cc)
-  answer-done none n e = (refl, cc)
 
 module _ (address : List ℕ) (room : ℕ) where
   pub refused-row : (r : Refusal) → displayedOf address room ≡ Refused r → refusedDisplaying address room ≡ some r

@@ -11,6 +11,7 @@
 --     before-into .. pieces-whole   a text that opens with other octets, or has only those
 --     pieces-map                    a text whose octets are changed, but not into such ones or from them
 --     joined-pieces                 the pieces put together again
+--     pieces-joined                 pieces without such octets put together, and cut again
 -- Assumes nothing.
 use Prim.Native.Nat.{ℕ, suc, _+_, _<_, _≤_}
 use mathlib.Core.Path.{_≡_, refl, sym, ap, _∙_}
@@ -18,7 +19,7 @@ use mathlib.Core.Bool.{Bool, true, false, not, _&&_, _||_, false≢true, and-ass
 use mathlib.Core.List.{List, [], _∷_, _++_, map, append-nil}
 use native.Mathlib.Omega.{arith}
 use native.Mathlib.Numerals.{add-one}
-use borrow.Author.Tests.{ne-eqb, eqb-true}
+use borrow.Author.Tests.{eq-eqb, ne-eqb, eqb-true}
 use lib.Dec.{eqb}
 use lib.ListN.{length, take, drop}
 use Rattle.octets.specs.Finding.{lengthBefore}
@@ -188,6 +189,26 @@ module _ (q : ℕ → Bool) (d : ℕ) (out : q d ≡ false) where
   pub pieces-whole : (a : List ℕ) → every q a ≡ true → pieces d a ≡ a ∷ []
   unfolding before others
   pieces-whole a e = ap (pieces d) (sym (append-nil a)) ∙ pieces-into a [] e ∙ rw append-nil
+
+  following-before : (ps : List (List ℕ)) → before d (following d ps) ≡ []
+  unfolding following before
+  following-before [] = refl
+  following-before (p ∷ ps) = rw (before, eq-eqb d d refl)
+
+  module _ (p : List ℕ) (ps : List (List ℕ)) (e : every q p ≡ true) where
+    one-joined : others d (following d ps) ≡ ps → pieces d (p ++ following d ps) ≡ p ∷ ps
+    one-joined r = pieces-into p (following d ps) e ∙ rw (following-before ps, r, append-nil)
+
+  others-following : (ps : List (List ℕ)) → every (every q) ps ≡ true → others d (following d ps) ≡ ps
+  unfolding following others every
+  others-following [] e = refl
+  others-following (p ∷ ps) e =
+      rw (others, eq-eqb d d refl)
+      (one-joined p ps (and-left (every q p) _ e) (others-following ps (and-right (every q p) _ e)))
+
+  pub pieces-joined : (p : List ℕ) (ps : List (List ℕ)) → every (every q) (p ∷ ps) ≡ true → pieces d (joined d (p ∷ ps)) ≡ p ∷ ps
+  unfolding joined every
+  pieces-joined p ps e = one-joined p ps (and-left (every q p) _ e) (others-following ps (and-right (every q p) _ e))
 
 pub pieces-map : (f : ℕ → ℕ) (d : ℕ) → ((x : ℕ) → eqb (f x) d ≡ eqb x d) → (s : List ℕ) → pieces d (map f s) ≡ map (map f) (pieces d s)
 unfolding pieces onFirst

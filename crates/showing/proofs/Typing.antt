@@ -3,15 +3,14 @@
 --     shown-long                      what is longer than a label is shown as it is
 --     shown-label, shown-form         what is shown of the form of a label is a label, and has that form
 --     shown-dotless, shown-atless     it has no dot, and no `@`
---     pieces-joined                   pieces without dots, joined by dots and cut again
 --     plain-displayed                 what is shown of a plain address is one
 --     canonical-displayed             with the same canonical form
 --     displayed-most                  so it has 1,016 octets at most
 -- Assumes nothing.
 use Prim.Native.Nat.{ℕ, _<_, _≤_}
 use mathlib.Core.Path.{_≡_, refl, sym, ap, _∙_}
-use mathlib.Core.Bool.{Bool, true, false, not, _&&_, false≢true}
-use mathlib.Core.List.{List, [], _∷_, _++_, map, append-nil}
+use mathlib.Core.Bool.{true, false, not, _&&_, false≢true}
+use mathlib.Core.List.{List, _∷_, _++_, map, append-nil}
 use mathlib.Core.Option.{Option, some, none}
 use native.Mathlib.Omega.{arith}
 use borrow.Author.Tests.{le-leb, eqb-true}
@@ -28,8 +27,8 @@ use Rattle.utf8.specs.Lowering.{lowerText}
 use Rattle.utf8.proofs.Lowering.{alike-text, text-twice}
 use Rattle.punycode.specs.Punycode.{decode}
 use Rattle.runs.specs.Runs.{belongs}
-use Rattle.pieces.specs.Pieces.{pieces, before, behind, following, joined}
-use Rattle.pieces.proofs.Pieces.{others, pieces-first, pieces-into, before-into, behind-into}
+use Rattle.pieces.specs.Pieces.{pieces, before, behind, joined}
+use Rattle.pieces.proofs.Pieces.{others, pieces-first, before-into, behind-into, pieces-joined}
 use Rattle.asciiaddress.proofs.Alike.{local-alike}
 use Rattle.asciiaddress.proofs.Lowered.{local-free}
 use Rattle.labels.specs.Labels.{labelOctet, opening, labelForm, label, labelled}
@@ -94,32 +93,6 @@ module _ (w : List ℕ) (o : Own w) where
   unfolding labelOctet belongs
   shown-atless = label-free 64 refl (shown w) (shown-label w o)
 
--- pieces without dots
-abbrev Dotless : List (List ℕ) → Bool
-Dotless ps = every (every (λ x. not (eqb x 46))) ps
-
-following-before : (ps : List (List ℕ)) → before 46 (following 46 ps) ≡ []
-unfolding following before
-following-before [] = refl
-following-before (p ∷ ps) = refl
-
-module _ (p : List ℕ) (ps : List (List ℕ)) (e : Dotless (p ∷ ps) ≡ true) where
-  one-joined : others 46 (following 46 ps) ≡ ps → pieces 46 (p ++ following 46 ps) ≡ p ∷ ps
-  unfolding every
-  one-joined r =
-      pieces-into (λ x. not (eqb x 46)) 46 refl p (following 46 ps) (and-left (every (λ x. not (eqb x 46)) p) _ e)
-      ∙ rw (following-before ps, r, append-nil)
-
-others-following : (ps : List (List ℕ)) → Dotless ps ≡ true → others 46 (following 46 ps) ≡ ps
-unfolding following others every
-others-following [] e = refl
-others-following (p ∷ ps) e =
-    one-joined p ps e (others-following ps (and-right (every (λ x. not (eqb x 46)) p) _ e))
-
-pub pieces-joined : (p : List ℕ) (ps : List (List ℕ)) → Dotless (p ∷ ps) ≡ true → pieces 46 (joined 46 (p ∷ ps)) ≡ p ∷ ps
-unfolding joined every
-pieces-joined p ps e = one-joined p ps e (others-following ps (and-right (every (λ x. not (eqb x 46)) p) _ e))
-
 -- the labels of a domain as they are shown
 all-label-shown : {ws : List (List ℕ)} → Owns ws → every label (map shown ws) ≡ true
 unfolding every
@@ -137,7 +110,7 @@ module _ (w : List ℕ) (ws : List (List ℕ)) (o : Owns (w ∷ ws)) where
 
   whole-pieces : pieces 46 whole ≡ map shown (w ∷ ws)
   whole-pieces =
-      pieces-joined (shown w) (map shown ws)
+      pieces-joined (λ x. not (eqb x 46)) 46 refl (shown w) (map shown ws)
       (every-weaker label (every (λ x. not (eqb x 46))) label-dotless (map shown (w ∷ ws)) (all-label-shown o))
 
   whole-domain : domain whole ≡ true

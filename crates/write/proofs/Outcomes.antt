@@ -1,4 +1,5 @@
 -- What comes with each answer of the writers.
+--     answer-refused, answer-done    the answer of any call that writes, by its first row that holds
 --     refused-row, done-row      the answer tells whether a row held, and which
 --     refused-untouched          a refusal leaves the output as it was (R32)
 --     Wrote, done-wrote          success: address and key were in order, and the field stands in front of the rest of the output
@@ -24,12 +25,12 @@ use Rattle.write.specs.Writing.{writingRows, refusedWriting, writtenOf, 
 use Rattle.write.specs.declared.Written.the-variants.{Done, Refused}
 
 module _ (d : ℕ) where
-  answer-refused : (o : Option Refusal) (r : Refusal) → answeredBy o Refused (Done d) ≡ Refused r → o ≡ some r
+  pub answer-refused : (o : Option Refusal) (r : Refusal) → answeredBy o Refused (Done d) ≡ Refused r → o ≡ some r
   unfolding answeredBy
   answer-refused (some q) r e = ap some cc
   answer-refused none r e = cc
 
-  answer-done : (o : Option Refusal) (n : ℕ) → answeredBy o Refused (Done d) ≡ Done n → (o ≡ none) × (d ≡ n)
+  pub answer-done : (o : Option Refusal) (n : ℕ) → answeredBy o Refused (Done d) ≡ Done n → (o ≡ none) × (d ≡ n)
   unfolding answeredBy
   answer-done (some q) n e = (cc, cc)
   answer-done none n e = (refl, cc)
