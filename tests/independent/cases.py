@@ -1026,7 +1026,10 @@ class Cases:
 
     def table(self) -> bytes:
         """A table: mostly sound, sometimes broken in one place, sometimes of a bad length."""
-        octets = self.sound_table()
+        return self.sometimes_broken(self.sound_table())
+
+    def sometimes_broken(self, octets: bytes) -> bytes:
+        """Mostly the table itself; else one with a fault, of a bad length or of the old form."""
         kind = self.random.randrange(20)
         if kind == 0:
             if self.chance(0.3):
@@ -1130,27 +1133,57 @@ class Cases:
         """Table, receipt time, outer block, payload block and gossip setting."""
         return (self.table(), *self.message())
 
+    def everyone(self) -> list[Entry]:
+        """Entries of all peers, in half of the cases each with a key, so that long lists are not always disable."""
+        addresses = self.known()
+        fresh = self.chance(0.5)
+        held = []
+        for address in addresses:
+            entry = self.entry(address)
+            if fresh and entry.direct_key is None:
+                entry.last_seen = entry.autocrypt_timestamp = self.moment()
+                entry.direct_key, entry.mutual = self.good_key(), self.chance(0.7)
+            held.append(entry)
+        return held
+
     def recommending(self) -> tuple[bytes, bytes, bool, bool]:
         """Table, recipients, own preference and whether the mail is a reply."""
-        if self.chance(0.5):
-            # Every peer known, so that long lists are not always disable.
-            addresses = self.known()
-            fresh = self.chance(0.5)
-            held = []
-            for address in addresses:
-                entry = self.entry(address)
-                if fresh and entry.direct_key is None:
-                    entry.last_seen = entry.autocrypt_timestamp = self.moment()
-                    entry.direct_key, entry.mutual = self.good_key(), self.chance(0.7)
-                held.append(entry)
-            octets = table_of(held)
-        else:
-            octets = self.table()
+        octets = table_of(self.everyone()) if self.chance(0.5) else self.table()
         return octets, self.recipients(), self.chance(0.5), self.chance(0.3)
 
     def target(self) -> tuple[bytes, bytes, bool, bool, int]:
         """As above, and a list place."""
         return (*self.recommending(), self.list_place_number())
+
+    def quick(self) -> tuple[bytes, bytes, bool, bool]:
+        """As `recommending`, but mostly with a list made for its table, so that the first disable stands anywhere."""
+        if self.chance(0.25):
+            return self.recommending()
+        held = self.everyone()
+        keyed = [entry.address for entry in held if entry.direct_key is not None or entry.gossip_key is not None]
+        others = [entry.address for entry in held if entry.address not in keyed] + [b"nobody@n", b"x@y.z"]
+        recipients = self.joined(self.up_to_disable(keyed, others))
+        # A14: a fault behind everyone.
+        if self.chance(0.15):
+            recipients += self.one([b",", b", ,", b" Bob", b";", b" (", b")", b"\r\n", b", a@b@c", b", \"", b", g: a@b",
+                                    b"\x01", b", <>", b":", b"\\", b", a b@c"])
+        return self.sometimes_broken(table_of(held)), recipients, self.chance(0.5), self.chance(0.3)
+
+    def up_to_disable(self, keyed: list[bytes], others: list[bytes]) -> list[bytes]:
+        """Recipients, many of them equal: with keys up to some place, one without, then any; or none with a key."""
+        count = self.near(RECIPIENTS_LIMIT) if self.chance(0.1) else self.one([1, 1, 2, 2, 3, 4, 6])
+        few = self.random.sample(keyed, min(len(keyed), self.one([1, 2, 3, len(PEERS)])))
+        if not few or self.chance(0.1):
+            return [self.one(others) for _ in range(count)]
+        first = self.one([0, count - 1, self.random.randrange(count), count, count])
+        behind = self.one([few, others, few + others])
+        places = [few] * first + [others] + [behind] * count
+        return [self.one(choices) for choices in places[:count]]
+
+    def joined(self, addresses: list[bytes]) -> bytes:
+        """A list of these, some in another spelling: with commas alone, or with groups, names and comments."""
+        spelled = [self.spelled(address) if self.chance(0.3) else address for address in addresses]
+        return b",".join(spelled) if self.chance(0.3) else self.list_of(spelled)
 
     def one_slot(self) -> tuple[bytes, int, int]:
         """Table, slot, mostly one that the table has, and how many numbers are lent."""

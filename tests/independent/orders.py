@@ -66,10 +66,11 @@ def by_address(table: bytes) -> dict[bytes, Entry]:
 
 
 def advice(program, table: bytes, to: list[bytes], mutual: bool = True, reply: bool = False) -> tuple:
-    """What is recommended for recipients, and the octets of their target keys, the place past the list among them."""
-    recipients = b", ".join(to)
-    parts = [program.target_key(table, recipients, mutual, reply, place) for place in range(len(to) + 1)]
-    return program.recommend(table, recipients, mutual, reply), [table[at:at + length] for at, length in parts]
+    """What is recommended for recipients, in full and quickly, and the octets of their target keys, the place past the
+    list among them."""
+    call = table, b", ".join(to), mutual, reply
+    parts = [program.target_key(*call, place) for place in range(len(to) + 1)]
+    return program.recommend(*call), program.quick(*call), [table[at:at + length] for at, length in parts]
 
 
 class EachPremise:
@@ -157,7 +158,7 @@ class EachPremise:
             self.assertEqual(by_address(table), {JAN: Entry(JAN, 2000, 2000, TWO, True, 1500, ONE), A: Entry(A, 1500),
                                                  B: Entry(B, 1400)})
             for spelling in (JAN, TYPED_JAN, loud(JAN)):
-                self.assertEqual(advice(self.program, table, [spelling]), ((0, 0, 4), [TWO, b""]))
+                self.assertEqual(advice(self.program, table, [spelling]), ((0, 0, 4), (0, 0, 4, 1), [TWO, b""]))
         (_, table), (_, other) = self.orders([keyed(JAN, 1000, ONE), keyed(loud(JAN), 1000, TWO)], [None])
         self.assertEqual((by_address(table)[JAN].direct_key, by_address(other)[JAN].direct_key), (TWO, ONE))
 
@@ -257,7 +258,7 @@ class Agreeing:
 
 
 class AnyOrder:
-    """C11: with the premises, every order leads to the same entries, advice and target keys."""
+    """C11: with the premises, every order leads to the same entries, advice, counts and target keys."""
 
     program = None
     seed = 3

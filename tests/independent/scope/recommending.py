@@ -1,4 +1,4 @@
-"""Recommending: refusals 1, 2 and 10, the advice, and the target keys."""
+"""Recommending: refusals 1, 2 and 10, the advice, the quick answer, and the target keys."""
 
 from scope import table as tables
 from scope.address import addresses
@@ -24,19 +24,49 @@ def recommend(table: bytes, recipients: bytes, mutual: bool, reply: bool) -> tup
     `mutual` is the sender's own preference; `reply` says that the mail replies to an
     encrypted one.
     """
-    # R31: the refusals in their order. R1, R2: the table.
-    refusal, index = tables.check(table)
+    refusal, index, found = listed(table, recipients)
     if refusal != 0:
         return refusal, index, REFUSED
-    # R10: a list that is readable, with 1 to 100 addresses, each counted as often as it
-    # stands. L19: as an argument it is read as it is. L17: it may have any length.
-    found = addresses(recipients)
-    if found is None or not 1 <= len(found) <= RECIPIENTS_LIMIT:
-        return 10, 0, REFUSED
     held = tables.entries(table)
     # A1: the advice of the whole list.
     advices = [advice_for(entry_for(held, address), mutual, reply) for address in found]
     return 0, 0, whole_list(advices)
+
+
+def quick(table: bytes, recipients: bytes, mutual: bool, reply: bool) -> tuple[int, int, int, int]:
+    """The refusal number, 0 for none, the index that 2 carries, the advice, and how many
+    recipients were looked up."""
+    # A14: the list is read to its end before anyone is looked up. A13: a refusal counts none.
+    refusal, index, found = listed(table, recipients)
+    if refusal != 0:
+        return refusal, index, REFUSED, 0
+    held = tables.entries(table)
+    lowest, looked_up = ENCRYPT, 0
+    # A12: one after the other, in the order of the list.
+    for address in found:
+        # A13: each one counts, from 1, whether it stood there before or not.
+        looked_up += 1
+        advice = advice_for(entry_for(held, address), mutual, reply)
+        # A12: the first with disable is the last that is looked up. A5: disable is the answer then.
+        if advice == DISABLE:
+            return 0, 0, DISABLE, looked_up
+        # A5: without one it is the lowest.
+        lowest = min(lowest, advice)
+    return 0, 0, lowest, looked_up
+
+
+def listed(table: bytes, recipients: bytes) -> tuple[int, int, list[bytes]]:
+    """The refusal number, 0 for none, the index that 2 carries, and the addresses of the list."""
+    # R31: the refusals in their order. R1, R2: the table.
+    refusal, index = tables.check(table)
+    if refusal != 0:
+        return refusal, index, []
+    # R10: a list that is readable, with 1 to 100 addresses, each counted as often as it
+    # stands. L19: as an argument it is read as it is. L17: it may have any length.
+    found = addresses(recipients)
+    if found is None or not 1 <= len(found) <= RECIPIENTS_LIMIT:
+        return 10, 0, []
+    return 0, 0, found
 
 
 def entry_for(held: list[Entry | None], address: bytes) -> Entry | None:

@@ -24,7 +24,7 @@ class Determinism(unittest.TestCase):
                "header_block", "content_type", "address", "accented", "address_list", "recipients", "field_value",
                "key", "table", "broken_slot", "old_table", "listing_input", "message", "processing", "recommending",
                "target", "one_slot", "writing", "writing_gossip", "conversion", "international", "grown",
-               "script_label", "coded_label", "limit_label", "bad_label", "someone", "displaying"]
+               "script_label", "coded_label", "limit_label", "bad_label", "someone", "displaying", "quick"]
 
     def drawn(self, seed: int) -> list:
         cases = Cases(seed)
@@ -234,6 +234,30 @@ class Calls(unittest.TestCase):
         self.assertEqual(set(answers), {(1, 0), (2, 0), (10, 0), (0, 1), (0, 2), (0, 3), (0, 4)})
         self.assertGreater(min(answers.values()), 20)
 
+    def test_quick(self):
+        """A13, A14: the first disable stands everywhere, and faults with and without a disable in front of them."""
+        cases = Cases(SEED)
+        kinds, lengths = Counter(), Counter()
+        for _ in range(2500):
+            octets, recipients, mutual, reply = cases.quick()
+            number = recommending.recommend(octets, recipients, mutual, reply)[0]
+            found = address.addresses(recipients)
+            if number in (1, 2):
+                kinds[number] += 1
+            elif not found:
+                kinds["no list", disable_in_front(octets, recipients)] += 1
+            elif number == 10:
+                kinds[len(found), without_key(octets, found) != []] += 1
+            else:
+                lengths[len(found)] += 1
+                kinds.update(kinds_of(octets, recipients, found))
+        refused = {1, 2, ("no list", True), ("no list", False), (101, True), (101, False)}
+        places = {"first", "middle", "last", "nowhere", "only", "one with a key", "one without"}
+        grouped = {(kind, place) for kind in ("group", "empty group") for place in places}
+        self.assertEqual(set(kinds), refused | places | grouped)
+        self.assertGreater(min(kinds.values()), 5, kinds)
+        self.assertGreater(min(lengths[length] for length in (1, 2, 3, 4, 6, 99, 100)), 20, lengths)
+
     def test_target_keys(self):
         cases = Cases(SEED)
         answers = Counter()
@@ -309,6 +333,48 @@ class Calls(unittest.TestCase):
         self.assertTrue(any(len(octets) == 15 * SLOT for octets in inputs))
         words = {word for text in printed for word in text.split()}
         self.assertLessEqual({b"mutual", b"none", b"-", b"0", b"2048"}, words)
+
+
+def without_key(octets: bytes, found: list[bytes]) -> list[int]:
+    """The places, from 1, of those in a list who have disable by a sound table."""
+    held = table.entries(octets)
+    return [place for place, name in enumerate(found, 1)
+            if recommending.advice_for(recommending.entry_for(held, name), False, False) == recommending.DISABLE]
+
+
+def disable_in_front(octets: bytes, recipients: bytes) -> bool:
+    """Is there a readable list, with a disable, in front of what makes a list unreadable?"""
+    for end in range(len(recipients), 0, -1):
+        found = address.addresses(recipients[:end])
+        if found:
+            return without_key(octets, found) != []
+    return False
+
+
+def kinds_of(octets: bytes, recipients: bytes, found: list[bytes]) -> list:
+    """Where the first disable of a list stands (A13), and which groups are in the list."""
+    places = without_key(octets, found)
+    if len(found) == 1:
+        place = "one without" if places else "one with a key"
+    elif not places:
+        place = "nowhere"
+    elif len(places) == len(found):
+        place = "only"
+    else:
+        place = {1: "first", len(found): "last"}.get(places[0], "middle")
+    signs = signs_of(recipients)
+    kinds = [kind for kind, sign in (("group", b":"), ("empty group", b":;")) if sign in signs]
+    return [place] + [(kind, place) for kind in kinds]
+
+
+def signs_of(text: bytes) -> bytes:
+    """A readable list without its blanks, comments and quoted strings."""
+    signs, at = b"", 0
+    while at < len(text):
+        end = tokens.quoted(text, at) if text[at:at + 1] == b'"' else tokens.skip(text, at)
+        signs += text[at:at + 1] if end == at else b""
+        at = max(end, at + 1)
+    return signs
 
 
 def sort_of(octets: bytes) -> str:
@@ -685,6 +751,7 @@ class EveryLine(unittest.TestCase):
             (60, writing.write_autocrypt, cases.writing),
             (60, writing.write_gossip, cases.writing_gossip),
             (60, listing.listing, lambda: (cases.listing_input(),)),
+            (200, recommending.quick, cases.quick),
         ]
         before = sys.gettrace()
         for count, call, draw in rounds:
