@@ -1,6 +1,7 @@
 pub mod Rating
 pub mod Locating
 pub mod Advising
+pub mod First
 pub mod Overall
 pub mod Targets
 pub mod Keys

@@ -1,6 +1,7 @@
 -- Where the key to encrypt to lies, and that it is the entry's.
 --     key-direct .. key-none        each way through `key_part`
 --     target-nothing, target-there  each way through `target`
+--     handed-rest .. handed-unread      an address that is handed out of a readable list stands in front of the rest, which is readable
 --     Reaches t s place left here   what the loop of `target_at` knows
 --     reaches-begin .. reaches-unread     its steps
 --     the rulesets                  keeping, for `key_part`; targeting, for `target`; reaching, for `target_at`
@@ -8,11 +9,12 @@
 use Prim.Native.Nat.{ℕ, suc, _+_, _-_}
 use mathlib.Core.Path.{_≡_, sym, ap, _∙_}
 use mathlib.Core.Bool.{true, false}
-use mathlib.Core.List.{List, []}
+use mathlib.Core.List.{List, [], _∷_}
 use native.Mathlib.Omega.{arith}
 use native.Mathlib.Numerals.{add-one}
 use borrow.Author.Needs.{needs}
 use Rattle.octets.specs.Options.{orElse, isSome}
+use Rattle.octets.proofs.Options.{some-front, else-front}
 use Rattle.address.specs.Address.{canonical}
 use Rattle.heads.specs.declared.Head.{Head}
 use Rattle.addresslist.specs.List.{addresses}
@@ -20,13 +22,12 @@ use Rattle.addresslist.specs.Answers.{between, beginning, left, Hands}
 use Rattle.addresslist.specs.declared.ListCursor.{ListCursor}
 use Rattle.addresslist.specs.declared.NextAddress.{NextAddress}
 use Rattle.addresslist.specs.declared.NextAddress.the-variants.{Address, End, Unreadable}
-use Rattle.addresslist.proofs.Handing.{left-beginning, hand-plain, hand-from, hand-upto, hand-less}
+use Rattle.addresslist.proofs.Handing.{left-beginning, hand-gives, hand-plain, hand-from, hand-upto, hand-less, hand-end, hand-unread}
 use Rattle.lookup.specs.Held.{heldOf}
 use Rattle.lookup.specs.declared.Held.{Held}
 use Rattle.lookup.specs.declared.Held.the-variants.{Entry, NoEntry}
 use Rattle.advice.specs.Places.{noPart, keyPart, partIn, targetPart, targetAt}
 use Rattle.advice.specs.declared.Part.{Part}
-use Rattle.advice.proofs.Overall.{handed-rest, handed-given, handed-end, handed-unread}
 
 module _ (n : Head) (direct gossip : ℕ) where
   pub key-direct : n .direct ≡ true → _≡_ {A = Part} (record { start = direct; length = n .«direct_length» }) (keyPart n direct gossip)
@@ -54,6 +55,24 @@ module _ (t a : List ℕ) (h : Held) (e : h ≡ heldOf t (canonical a)) where
   target-there n d g q r p = rw (targetPart, sym e ∙ q) p
 
 pub ruleset targeting = (target-nothing, target-there, needs)
+
+module _ (s : List ℕ) (here : ListCursor) (k : NextAddress) (p : Hands s here k) where
+  module _ (r : isSome (left s here) ≡ true) (from to : ℕ) (next : ListCursor) (q : k ≡ Address from to next) where
+    handed-rest : isSome (left s next) ≡ true
+    handed-rest = sym (some-front (between s from to) (left s next)) ∙ rw (hand-gives s here k p from to next q) at r
+
+    handed-given : orElse [] (left s here) ≡ between s from to ∷ orElse [] (left s next)
+    handed-given =
+        ap (orElse []) (hand-gives s here k p from to next q)
+        ∙ else-front (between s from to) (left s next) handed-rest
+
+  handed-end : k ≡ End → orElse [] (left s here) ≡ []
+  unfolding orElse
+  handed-end q = rw (hand-end s here k p q)
+
+  handed-unread : k ≡ Unreadable → orElse [] (left s here) ≡ []
+  unfolding orElse
+  handed-unread q = rw (hand-unread s here k p q)
 
 -- The loop: the place in the whole list is the place that is left in the rest of it.
 pub record Reaches (t s : List ℕ) (place rest : ℕ) (here : ListCursor) : Type 0 where

@@ -2,6 +2,7 @@
 --     gap-of-35-days, gap-of-more    both ends of the limit on the gap (A3, C14)
 --     one-recipient                  no entry and no key; gossip alone; what a reply and preferences raise
 --     whole-list                     the four answers for a list
+--     which-place                    the place of the first disable
 --     which-key                      the key to encrypt to
 -- Assumes nothing.
 use Prim.Native.Nat.{ℕ, _+_}
@@ -11,7 +12,7 @@ use mathlib.Core.List.{List, [], _∷_, map}
 use mathlib.Core.Option.{Option, some, none}
 use Rattle.octets.specs.Options.{orElse}
 use Rattle.heads.specs.Entry.{Gossip, Entry}
-use Rattle.advice.specs.Advice.{stale, directOf, gossipOf, ratedBy, rated, raised, prefersBy, adviceFor, targetBy, targetOf, anyDisable, allEncrypt, anyDiscourage, overall}
+use Rattle.advice.specs.Advice.{stale, directOf, gossipOf, ratedBy, rated, raised, prefersBy, adviceFor, targetBy, targetOf, anyDisable, allEncrypt, anyDiscourage, overall, firstDisable}
 use Rattle.advice.specs.declared.Advice.{Advice}
 use Rattle.advice.specs.declared.Advice.the-variants.{Disable, Discourage, Available, Encrypt}
 
@@ -75,6 +76,19 @@ whole-list :
     ≡ Disable ∷ Encrypt ∷ Discourage ∷ Available ∷ []
 unfolding overall anyDisable allEncrypt anyDiscourage
 whole-list = refl
+
+-- A13: the first disable alone counts, and without one the length does
+which-place :
+    map firstDisable (
+    (Available ∷ Disable ∷ Available ∷ Disable ∷ [])
+    ∷ (Available ∷ Available ∷ [])
+    ∷ (Disable ∷ [])
+    ∷ (Discourage ∷ Encrypt ∷ Disable ∷ [])
+    ∷ []
+    )
+    ≡ 2 ∷ 2 ∷ 1 ∷ 3 ∷ []
+unfolding firstDisable
+which-place = refl
 
 which-key :
     map targetOf (none ∷ some (without none) ∷ some (without (some gossipKey)) ∷ some (seenAfter 0 false (some gossipKey)) ∷ [])

@@ -5,13 +5,18 @@
 --     raised, adviceFor        the advice for a recipient
 --     targetOf                 the key to encrypt to
 --     overall                  the advice for a whole list
+--     isDisable, firstDisable  how many recipients of a list are looked up
+--     DisableAt                where the first disable stands
 --     adviceIn, targetIn       the advice and the key for an address, by what a table holds of it
 --     advised, targets         the advice and the key for each address of a list
-use Prim.Native.Nat.{ℕ, _+_}
+--     entriesFor               what a table holds of each of them
+use Prim.Native.Nat.{ℕ, suc, _+_, _-_, _≤_}
+use mathlib.Core.Path.{_≡_}
 use mathlib.Core.Bool.{Bool, true, false, _&&_, _||_}
 use mathlib.Core.List.{List, [], _∷_, map}
 use mathlib.Core.Option.{Option, some, none}
 use lib.Dec.{ltb}
+use lib.ListN.{take, getD}
 use Rattle.octets.specs.Options.{orElse}
 use Rattle.address.specs.Address.{canonical}
 use Rattle.heads.specs.Entry.{Direct, Gossip, Entry}
@@ -109,6 +114,24 @@ overall list =
       ]
     ]
 
+-- A13: this recipient has disable
+abbrev pub isDisable : Advice → Bool
+isDisable Disable = true
+isDisable Discourage = false
+isDisable Available = false
+isDisable Encrypt = false
+
+-- A13: where in the list the first disable stands, from 1 on; where there is none, how long the list is
+unfoldable pub firstDisable : List Advice → ℕ
+firstDisable [] = 0
+firstDisable (a ∷ rest) = elim (isDisable a) [ true ↦ 1 | false ↦ suc (firstDisable rest) ]
+
+-- A13, C21: the recipient at this place, counted from 1, has disable, and none in front of it has
+pub record DisableAt (list : List Advice) (place : ℕ) : Type 0 where
+  pub counted : 1 ≤ place
+  pub there : getD list (place - 1) Encrypt ≡ Disable
+  pub before : anyDisable (take (place - 1) list) ≡ false
+
 -- A2, T15: the advice for an address as it stands in a list: its entry is that of its canonical form
 unfoldable pub adviceIn : List ℕ → Bool → Bool → List ℕ → Advice
 adviceIn t isMutual reply a = adviceFor isMutual reply (entryIn t (canonical a))
@@ -120,6 +143,10 @@ targetIn t a = targetOf (entryIn t (canonical a))
 -- A5: the advice for each address of a list, in order
 unfoldable pub advised : List ℕ → Bool → Bool → List (List ℕ) → List Advice
 advised t isMutual reply list = map (adviceIn t isMutual reply) list
+
+-- C21: what a table holds of each address of a list, in order
+unfoldable pub entriesFor : List ℕ → List (List ℕ) → List (Option Entry)
+entriesFor t list = map (λ a. entryIn t (canonical a)) list
 
 -- A6, A10: the target key for each address of a list, in order
 unfoldable pub targets : List ℕ → List (List ℕ) → List (List ℕ)

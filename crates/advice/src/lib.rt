@@ -1,5 +1,5 @@
-// Recommending (page A): what is advised for one recipient and for a whole list, and where the key to encrypt to lies in
-// the table. What is right is said by specs/Advice.antt, over entries; specs/Places.antt leads from there to the table.
+// Recommending (page A): what is advised for one recipient, and where the key to encrypt to lies in the table. What is
+// right is said by specs/Advice.antt, over entries; specs/Places.antt leads from there to the table.
 ghost use Prim.Native.Nat.{_≤_};
 ghost use mathlib.Core.Path.{_≡_};
 ghost use mathlib.Core.Bool.{true};
@@ -10,7 +10,7 @@ ghost use Rattle.addresslist.specs.List.{addresses};
 ghost use Rattle.heads.specs.Head.{timeLimit};
 ghost use Rattle.table.specs.Tagged.{Open};
 ghost use Rattle.lookup.specs.Held.{heldOf};
-ghost use Rattle.advice.specs.Advice.{raised, adviceIn, overall, advised};
+ghost use Rattle.advice.specs.Advice.{raised, isDisable, adviceIn};
 ghost use Rattle.advice.specs.Places.{ratedAs, lowerOf, keyPart, targetPart, targetAt};
 use addresslist::NextAddress;
 use heads::Head;
@@ -76,7 +76,7 @@ fn raise(advice: Advice, reply: bool, both: bool) -> Advice
 }
 
 // The lower of two: so a list gets the lowest of its recipients' advices (A5).
-fn lower(a: Advice, b: Advice) -> Advice
+pub fn lower(a: Advice, b: Advice) -> Advice
     ensures { λ r. ⌜ r ≡ lowerOf a b ⌝ }
 {
     match a {
@@ -97,6 +97,18 @@ fn lower(a: Advice, b: Advice) -> Advice
     }
 }
 
+// Does this recipient have disable (A13)?
+pub fn is_disable(advice: Advice) -> bool
+    ensures { λ r. ⌜ r ≡ isDisable advice ⌝ }
+{
+    match advice {
+        Advice::Disable => true,
+        Advice::Discourage => false,
+        Advice::Available => false,
+        Advice::Encrypt => false,
+    }
+}
+
 // What the table has of an address: its canonical form is looked for (T15).
 fn locate(table: &[u8], tags: &[u32; Slot::MOST], address: &[u8]) -> Held
     requires { ⌜ Open (now table) (now tags) × (plain (now address) ≡ true) ⌝ }
@@ -108,7 +120,7 @@ fn locate(table: &[u8], tags: &[u32; Slot::MOST], address: &[u8]) -> Held
 }
 
 // What is advised for one recipient (A2, A4).
-fn advise(
+pub fn advise(
     table: &[u8],
     tags: &[u32; Slot::MOST],
     address: &[u8],
@@ -128,32 +140,6 @@ fn advise(
             raise(rate(numbers), reply, both)
         }
         Held::NoEntry => Advice::Disable,
-    }
-}
-
-// What is advised for a whole list (A5), which has to be readable.
-pub fn overall_advice(
-    table: &[u8],
-    tags: &[u32; Slot::MOST],
-    recipients: &[u8],
-    mutual: bool,
-    reply: bool,
-) -> Advice
-    requires { ⌜ Open (now table) (now tags) × (isSome (addresses (now recipients)) ≡ true) ⌝ }
-    ensures { λ r. ⌜ r ≡ overall (advised (now (table .entry)) «mutual» reply (orElse [] (addresses (now (recipients .entry))))) ⌝ }
-{
-    let mut least = Advice::Encrypt;
-    let mut here = addresslist::start();
-    loop {
-        match addresslist::next_address(recipients, here) {
-            NextAddress::Address { from, to, next } => {
-                let one = advise(table, tags, &recipients[from..to], mutual, reply);
-                least = lower(least, one);
-                here = next;
-            }
-            NextAddress::End => return least,
-            NextAddress::Unreadable => return least,
-        }
     }
 }
 

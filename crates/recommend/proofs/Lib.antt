@@ -1,2 +1,4 @@
+pub mod Surveying
 pub mod Recommending
+pub mod Range
 pub mod SameEntries

@@ -1,12 +1,13 @@
 -- Recommending: what the code finds out, and what it answers by it.
 --     list-none, list-counted           the list (R10), as the code counts its addresses
 --     admits-not, admits-both           what `admit` answers, with the tags of the table
---     admitted-sound, admitted-list     where no row holds the table is sound, and the list is readable
+--     admitted-sound .. admitted-list   where no row holds the table is sound, and the list is readable and has 1 to 100 addresses
 --     table-taken                       and open with its tags
---     refused-advice .. part-given      the answers of both calls, by what `admit` answers
+--     refused-part .. part-given        the answer of `target_part`, by what `admit` answers
+--     table-open .. list-counted-up     that of `recommend_quick`, by the table and by what the walk over the list found
 --     part-end .. part-is-key           the part lies within the table, and its octets are the entry's key
---     done-advised, index-lowest        what comes with the first call's answer
---     the rulesets                      counting, for `is_recipient_list`; admitting, for `admit`; recommending, for `recommend`; parting, for
+--     done-advised .. index-lowest      what comes with the answer of `recommend`
+--     the rulesets                      counting, for `is_recipient_list`; admitting, for `admit`; recommending, for `recommend_quick`; parting, for
 --                                       `target_part`; handing, for `target_key`
 -- Assumes nothing.
 use Prim.Native.Nat.{ℕ, _+_, _-_, _^_, _<_, _≤_, zero-le}
@@ -22,12 +23,13 @@ use lib.ListN.{length, take, drop}
 use mir.Syntax.{w64}
 use mir.Val.{Fits}
 use Rattle.octets.specs.Options.{orElse, isSome}
+use Rattle.octets.proofs.Tests.{by-test}
 use Rattle.refusals.specs.Rows.{Row, _unless_, answeredBy, answerOf, someHolds}
 use Rattle.refusals.specs.declared.Refusal.{Refusal}
 use Rattle.refusals.specs.declared.Refusal.the-variants.{BrokenSlot, Recipients}
 use Rattle.refusals.specs.declared.Answer.{Answer}
 use Rattle.refusals.specs.declared.Answer.the-variants.{Done as Admitted, Refused as NotAdmitted}
-use Rattle.refusals.proofs.Rows.{by-refusal, none-here, none-front, none-behind, front-only, refused-is, done-is, answer-refused, answer-done, rows}
+use Rattle.refusals.proofs.Rows.{by-refusal, none-here, none-front, none-behind, front-only, refused-is, done-is, answer-refused, answer-done, unless-refuses, unless-passes, front-refuses, front-passes, no-row, rows}
 use Rattle.addresslist.specs.List.{addresses}
 use Rattle.addresslist.specs.Answers.{countedOf}
 use Rattle.addresslist.specs.declared.Counted.{Counted}
@@ -40,12 +42,14 @@ use Rattle.table.specs.Tagged.{Open}
 use Rattle.table.specs.declared.Checked.the-variants.{Sound}
 use Rattle.inspect.specs.Inspecting.{tableRows, Opens}
 use Rattle.inspect.proofs.Tables.{rows-sound, lowest-broken}
-use Rattle.advice.specs.Advice.{overall, advised}
+use Rattle.advice.specs.Advice.{overall, firstDisable, advised}
 use Rattle.advice.specs.Places.{noPart, targetAt, octetsAt, Within}
 use Rattle.advice.specs.declared.Advice.{Advice}
 use Rattle.advice.specs.declared.Part.{Part}
 use Rattle.advice.proofs.Keys.{place-within, place-octets}
-use Rattle.recommend.specs.Recommending.{recipientList, recommendingRows, refusedRecommending, Admits, recommendedOf, targetPartOf, targetKeyOf}
+use Rattle.recommend.specs.Recommending.{recipientList, recommendingRows, refusedRecommending, Admits, surveyOf, recommendedOf, lookedUpOf, targetPartOf, targetKeyOf}
+use Rattle.recommend.specs.declared.Surveyed.{Surveyed}
+use Rattle.recommend.specs.declared.Surveyed.the-variants.{Fit, Unfit}
 use Rattle.recommend.specs.declared.Recommended.{Recommended}
 use Rattle.recommend.specs.declared.Recommended.the-variants.{Done, Refused}
 
@@ -88,11 +92,12 @@ module _ (t s : List ℕ) (e : refusedRecommending t s ≡ none) where
   unfolding refusedRecommending recommendingRows
   admitted-sound = rows-sound Canonical t (none-front (tableRows t) last e)
 
-  pub admitted-list : isSome (addresses s) ≡ true
+  pub admitted-recipients : recipientList (addresses s) ≡ true
   unfolding refusedRecommending recommendingRows
-  admitted-list =
-      list-readable (addresses s)
-      (not-false (recipientList (addresses s)) (none-here Recipients _ [] (none-behind (tableRows t) last e)))
+  admitted-recipients = not-false (recipientList (addresses s)) (none-here Recipients _ [] (none-behind (tableRows t) last e))
+
+  pub admitted-list : isSome (addresses s) ≡ true
+  admitted-list = list-readable (addresses s) admitted-recipients
 
 -- by what `admit` answers
 pub table-taken : (t tags s : List ℕ) (k : Answer) → k ≡ Admitted → Admits t tags s k → Open t tags
@@ -102,10 +107,6 @@ module _ (t s : List ℕ) (k : Answer) (e : k ≡ answerOf (refusedRecommending 
   module _ (r : Refusal) (q : k ≡ NotAdmitted r) where
     out : refusedRecommending t s ≡ some r
     out = answer-refused (refusedRecommending t s) r (sym e ∙ q)
-
-    pub refused-advice : (m reply : Bool) → Refused r ≡ recommendedOf t s m reply
-    unfolding recommendedOf
-    refused-advice m reply = sym (refused-is Refused _ (refusedRecommending t s) r out)
 
     pub refused-part : (place : ℕ) → noPart ≡ targetPartOf t s place
     unfolding targetPartOf
@@ -118,17 +119,84 @@ module _ (t s : List ℕ) (k : Answer) (e : k ≡ answerOf (refusedRecommending 
     pub list-given : isSome (addresses s) ≡ true
     list-given = admitted-list t s in-order
 
-    pub advice-given : (m reply : Bool) (a : Advice) → a ≡ overall (advised t m reply (orElse [] (addresses s))) → Done a ≡ recommendedOf t s m reply
-    unfolding recommendedOf
-    advice-given m reply a h = ap Done h ∙ sym (done-is Refused _ (refusedRecommending t s) in-order)
-
     pub part-given : (place : ℕ) (p : Part) → p ≡ targetAt t (orElse [] (addresses s)) place → p ≡ targetPartOf t s place
     unfolding targetPartOf
     part-given place p h = h ∙ sym (done-is (λ (x : Refusal). noPart) _ (refusedRecommending t s) in-order)
 
-pub ruleset recommending = (refused-advice, table-taken, list-given, advice-given, needs)
-
 pub ruleset parting = (refused-part, table-taken, list-given, part-given, needs)
+
+-- `recommend_quick`: k is the answer on the table, and z what the walk over the list found
+module _ (t s : List ℕ) (m reply : Bool) where
+  abbrev all : List Advice
+  all = advised t m reply (orElse [] (addresses s))
+
+  apart : (a : Advice) (n : ℕ) → Fit a n ≡ Unfit → ⊥
+  apart a n e = let z : _≡_ {A = ℕ} 0 1 = cc in omega arith
+
+  module _ (z : Surveyed) (e : z ≡ surveyOf t m reply (addresses s)) where
+    unfit-list : z ≡ Unfit → recipientList (addresses s) ≡ false
+    unfolding surveyOf
+    unfit-list q =
+        by-test (recipientList (addresses s))
+        (λ y. let w : Unfit ≡ Fit (overall all) (firstDisable all) = sym q ∙ e ∙ rw (surveyOf, y) in absurd (apart _ _ (sym w)))
+        (λ n. n)
+
+    fit-list : (a : Advice) (n : ℕ) → z ≡ Fit a n → (recipientList (addresses s) ≡ true) × ((a ≡ overall all) × (n ≡ firstDisable all))
+    unfolding surveyOf
+    fit-list a n q =
+        by-test (recipientList (addresses s))
+        (λ y. let w : Fit a n ≡ Fit (overall all) (firstDisable all) = sym q ∙ e ∙ rw (surveyOf, y) in (y, (cc, cc)))
+        (λ y. let w : Fit a n ≡ Unfit = sym q ∙ e ∙ rw (surveyOf, y) in absurd (apart a n w))
+
+  module _ (tags : List ℕ) (k : Answer) (h : Opens t tags k) where
+    module _ {A : Type 0} (f : Refusal → A) (d : A) where
+      abbrev answered : A
+      answered = answeredBy (refusedRecommending t s) f d
+
+      at-table : (r : Refusal) → k ≡ NotAdmitted r → f r ≡ answered
+      unfolding refusedRecommending recommendingRows
+      at-table r q = front-refuses f d (tableRows t) _ k (h .answer) (f r) r q refl
+
+      at-list : k ≡ Admitted → recipientList (addresses s) ≡ false → f Recipients ≡ answered
+      unfolding refusedRecommending recommendingRows
+      at-list q e = front-passes f d (tableRows t) _ k (h .answer) (f Recipients) q (unless-refuses f d Recipients [] (f Recipients) _ e refl)
+
+      at-end : k ≡ Admitted → recipientList (addresses s) ≡ true → d ≡ answered
+      unfolding refusedRecommending recommendingRows
+      at-end q e = front-passes f d (tableRows t) _ k (h .answer) d q (unless-passes f d Recipients [] d _ e (no-row f d d refl))
+
+    pub table-open : k ≡ Admitted → Open t tags
+    table-open q = h .opens q
+
+    module _ (r : Refusal) (q : k ≡ NotAdmitted r) where
+      pub table-refused : (x : Recommended) → x ≡ Refused r → x ≡ recommendedOf t s m reply
+      unfolding recommendedOf
+      table-refused x w = w ∙ at-table Refused (Done (overall all)) r q
+
+      pub table-uncounted : (n : ℕ) → n ≡ 0 → n ≡ lookedUpOf t s m reply
+      unfolding lookedUpOf
+      table-uncounted n w = w ∙ at-table (λ (x : Refusal). 0) (firstDisable all) r q
+
+    module _ (q : k ≡ Admitted) (z : Surveyed) (e : z ≡ surveyOf t m reply (addresses s)) where
+      module _ (u : z ≡ Unfit) where
+        pub list-refused : (x : Recommended) → x ≡ Refused Recipients → x ≡ recommendedOf t s m reply
+        unfolding recommendedOf
+        list-refused x w = w ∙ at-list Refused (Done (overall all)) q (unfit-list z e u)
+
+        pub list-uncounted : (n : ℕ) → n ≡ 0 → n ≡ lookedUpOf t s m reply
+        unfolding lookedUpOf
+        list-uncounted n w = w ∙ at-list (λ (x : Refusal). 0) (firstDisable all) q (unfit-list z e u)
+
+      module _ (a : Advice) (n : ℕ) (u : z ≡ Fit a n) where
+        pub list-advised : Done a ≡ recommendedOf t s m reply
+        unfolding recommendedOf
+        list-advised = let w = fit-list z e a n u in ap Done (w .1 .0) ∙ at-end Refused (Done (overall all)) q (w .0)
+
+        pub list-counted-up : n ≡ lookedUpOf t s m reply
+        unfolding lookedUpOf
+        list-counted-up = let w = fit-list z e a n u in w .1 .1 ∙ at-end (λ (x : Refusal). 0) (firstDisable all) q (w .0)
+
+pub ruleset recommending = (table-open, table-refused, table-uncounted, list-refused, list-uncounted, list-advised, list-counted-up, needs)
 
 -- the part, and the key that it is
 module _ (t s : List ℕ) (place : ℕ) where
@@ -185,6 +253,10 @@ module _ (t s : List ℕ) (m reply : Bool) where
   pub done-advised : (a : Advice) → recommendedOf t s m reply ≡ Done a → a ≡ advice
   unfolding recommendedOf
   done-advised a e = by-answer (refusedRecommending t s) (Done a) e (λ r q z. cc) (λ q z. cc)
+
+  pub done-admitted : (a : Advice) → recommendedOf t s m reply ≡ Done a → refusedRecommending t s ≡ none
+  unfolding recommendedOf
+  done-admitted a e = by-answer (refusedRecommending t s) (Done a) e (λ r q z. let n : _≡_ {A = ℕ} 0 1 = cc in absurd (omega arith)) (λ q z. q)
 
   pub index-lowest : (i : ℕ) → recommendedOf t s m reply ≡ Refused (BrokenSlot i) → Broken t i
   unfolding recommendedOf refusedRecommending recommendingRows someHolds

@@ -5,8 +5,11 @@ ghost use lib.ListN.{length};
 ghost use Rattle.addresslist.specs.List.{addresses};
 ghost use Rattle.advice.specs.Places.{octetsAt};
 ghost use Rattle.table.specs.Table.{mostSlots};
-ghost use Rattle.recommend.specs.Recommending.{recipientList, Admits, recommendedOf, targetPartOf, targetKeyOf};
+ghost use Rattle.table.specs.Tagged.{Open};
+ghost use Rattle.recommend.specs.Recommending.{recipientList, Admits, surveyOf, recommendedOf, lookedUpOf, targetPartOf, targetKeyOf};
+ghost use Rattle.recommend.specs.declared.Recommended.the-variants.{Refused};
 use addresslist::Counted;
+use addresslist::NextAddress;
 use advice::Advice;
 use advice::Part;
 use refusals::Answer;
@@ -17,6 +20,19 @@ use slots::Slot;
 pub enum Recommended {
     Done(Advice),
     Refused(Refusal),
+}
+
+// That answer, and how many recipients were looked up for it, 0 with a refusal (A12, A13).
+pub struct Quick {
+    pub answer: Recommended,
+    pub looked_up: usize,
+}
+
+// What a walk over the list finds: the advice for all recipients and how many were looked up for it; or it is no list of
+// 1 to 100 addresses (R10).
+enum Surveyed {
+    Fit { advice: Advice, looked_up: usize },
+    Unfit,
 }
 
 // R10: at most so many addresses.
@@ -32,7 +48,7 @@ fn is_recipient_list(list: &[u8]) -> bool
     }
 }
 
-// Refusals 1, 2 and 10: are the table and the list such that a recommendation can be given? The tags of the table come
+// Refusals 1, 2 and 10: are the table and the list such that a target key can be looked for? The tags of the table come
 // with the answer.
 fn admit(table: &[u8], tags: &mut [u32; Slot::MOST], recipients: &[u8]) -> Answer
     requires { ⌜ length (now tags) ≡ mostSlots ⌝ }
@@ -49,6 +65,62 @@ fn admit(table: &[u8], tags: &mut [u32; Slot::MOST], recipients: &[u8]) -> Answe
     }
 }
 
+// One walk over the list: is it one of 1 to 100 addresses (R10), and if so, what is advised for all of them (A5)?
+// Recipients are looked up until one has disable (A12). From there on, addresses are only read (A14): no advice is lower.
+// A 101st address settles it, so nobody behind the 100th is looked up.
+fn survey(
+    table: &[u8],
+    tags: &[u32; Slot::MOST],
+    recipients: &[u8],
+    mutual: bool,
+    reply: bool,
+) -> Surveyed
+    requires { ⌜ Open (now table) (now tags) ⌝ }
+    ensures { λ r. ⌜ r ≡ surveyOf (now (table .entry)) «mutual» reply (addresses (now (recipients .entry))) ⌝ }
+{
+    let mut least = Advice::Encrypt;
+    let mut count = 0;
+    let mut looked_up = 0;
+    let mut here = addresslist::start();
+    loop {
+        match addresslist::next_address(recipients, here) {
+            NextAddress::Address { from, to, next } => {
+                if count == MOST_RECIPIENTS {
+                    return Surveyed::Unfit;
+                }
+                count += 1;
+                if !advice::is_disable(least) {
+                    let one = advice::advise(table, tags, &recipients[from..to], mutual, reply);
+                    least = advice::lower(least, one);
+                    looked_up = count;
+                }
+                here = next;
+            }
+            NextAddress::End => {
+                if count == 0 {
+                    return Surveyed::Unfit;
+                }
+                return Surveyed::Fit {
+                    advice: least,
+                    looked_up,
+                };
+            }
+            NextAddress::Unreadable => return Surveyed::Unfit,
+        }
+    }
+}
+
+// A refusal has the count 0 (A13).
+fn uncounted(refusal: Refusal) -> Quick
+    ensures { λ r. ⌜ r .answer ≡ Refused refusal ⌝ }
+    ensures { λ r. ⌜ r .«looked_up» ≡ 0 ⌝ }
+{
+    Quick {
+        answer: Recommended::Refused(refusal),
+        looked_up: 0,
+    }
+}
+
 // What is advised for a mail to these recipients (A1). `recipients` is a list of 1 to 100 addresses as in a To field, read
 // as it is, so that a line ending in it makes it unreadable (L19). `mutual` is the user's own preference, and `reply` is
 // true for a reply to an encrypted mail. For the whole list the lowest advice of its recipients is answered (A5), from low
@@ -57,16 +129,27 @@ fn admit(table: &[u8], tags: &mut [u32; Slot::MOST], recipients: &[u8]) -> Answe
 pub fn recommend(table: &[u8], recipients: &[u8], mutual: bool, reply: bool) -> Recommended
     ensures { λ r. ⌜ r ≡ recommendedOf (now (table .entry)) (now (recipients .entry)) «mutual» reply ⌝ }
 {
+    let quick = recommend_quick(table, recipients, mutual, reply);
+    quick.answer
+}
+
+// The same answer for the same arguments, and how many recipients were looked up for it (A12). They are looked up in the
+// order of the list, the first with disable as the last. So the count is the place of that one, from 1, and the length of
+// the list where nobody has disable (A13); it is 0 with a refusal. The list is read to its end all the same (A14).
+pub fn recommend_quick(table: &[u8], recipients: &[u8], mutual: bool, reply: bool) -> Quick
+    ensures { λ r. ⌜ r .answer ≡ recommendedOf (now (table .entry)) (now (recipients .entry)) «mutual» reply ⌝ }
+    ensures { λ r. ⌜ r .«looked_up» ≡ lookedUpOf (now (table .entry)) (now (recipients .entry)) «mutual» reply ⌝ }
+{
     let mut tags = [0u32; Slot::MOST];
-    match admit(table, &mut tags, recipients) {
-        Answer::Done => Recommended::Done(advice::overall_advice(
-            table,
-            &tags,
-            recipients,
-            mutual,
-            reply,
-        )),
-        Answer::Refused(refusal) => Recommended::Refused(refusal),
+    match inspect::open_table(table, &mut tags) {
+        Answer::Done => match survey(table, &tags, recipients, mutual, reply) {
+            Surveyed::Fit { advice, looked_up } => Quick {
+                answer: Recommended::Done(advice),
+                looked_up,
+            },
+            Surveyed::Unfit => uncounted(Refusal::Recipients),
+        },
+        Answer::Refused(refusal) => uncounted(refusal),
     }
 }
 

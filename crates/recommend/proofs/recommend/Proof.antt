@@ -1,8 +1,0 @@
--- `recommend::recommend` meets its contract: the laws of `Recommending` answer every need. Assumes nothing.
-use Rattle.recommend.proofs.Recommending.{recommending}
-use Rattle.recommend.proofs.recommend as fn
-
-pub recommend-spec : {M : Type 1} → fn.Statement.statement M
-recommend-spec =
-    fn.Tie.close (fn.Tie.spec (λ c. search recommending) (λ c. search recommending) (λ c. search recommending)
-    (λ c. search recommending) (λ c. search recommending) (λ c. search recommending))
