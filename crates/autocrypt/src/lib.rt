@@ -3,10 +3,12 @@
 //     check, entry                             look at a table (T13, T14)
 //     convert                                  bring a table of an older version to the addresses of this one (T16)
 //     process, Gossip                          take in a received mail (U1), with the gossip setting (G1)
-//     recommend, target_key, target_part       advice for a mail to be sent, and the keys to encrypt to (A1, A6)
+//     recommend, recommend_quick               advice for a mail to be sent (A1), and how many were looked up (A12)
+//     target_key, target_part                  the keys to encrypt to (A6)
 //     write_autocrypt, write_gossip            write a field for a mail to be sent (W1)
 //     display                                  an address as it is shown (W11)
 //     Answer, Recommended, Written             what calls answer, each with a case for a refusal
+//     Quick                                    the answer of recommend_quick, with its count (A13)
 //     Advice, Part                             an advice (A1), and a part of a table (A6)
 //     Refusal, number, index                   why a call refuses, its number, and the index that comes with 2 (R33)
 //
@@ -20,8 +22,10 @@ pub use display::display;
 pub use inspect::check;
 pub use inspect::entry;
 pub use process::process;
+pub use recommend::Quick;
 pub use recommend::Recommended;
 pub use recommend::recommend;
+pub use recommend::recommend_quick;
 pub use recommend::target_key;
 pub use recommend::target_part;
 pub use refusals::Answer;

@@ -1,14 +1,16 @@
 -- Answers put into numbers.
 --     of-done, of-refused                    an answer as the code puts it into numbers
 --     of-wrote, of-not-written               that of the writers
---     of-advice, of-not-advised, of-part     those of recommending
+--     of-advice .. of-part                   those of recommending
+--     count-most                             the count of recipients fits
 --     numbers-same .. part-same              equal answers have the same numbers: what a call ensures of its answer, said of its numbers
 --     set-take .. set-unset                  the gossip setting
 --     of-message, left-by-message            processing, with the setting as it came
 --     the rulesets                           answering, and for messages processing
 -- Assumes nothing.
-use Prim.Native.Nat.{ℕ}
+use Prim.Native.Nat.{ℕ, _≤_}
 use mathlib.Core.Path.{_≡_, refl, ap, _∙_}
+use mathlib.Core.Bool.{Bool}
 use mathlib.Core.List.{List}
 use borrow.Author.Needs.{needs}
 use borrow.Author.Tests.{eq-eqb, ne-eqb}
@@ -22,14 +24,18 @@ use Rattle.advice.specs.declared.Part.{Part as Place}
 use Rattle.process.specs.Processing.{refusedProcessing, leftByProcessing}
 use Rattle.settings.specs.declared.Gossip.{Gossip}
 use Rattle.settings.specs.declared.Gossip.the-variants.{Take, Skip, Unset}
+use Rattle.recommend.specs.Recommending.{mostRecipients, recommendedOf, lookedUpOf, quickOf}
+use Rattle.recommend.specs.declared.Quick.{Quick as Quickly}
 use Rattle.recommend.specs.declared.Recommended.{Recommended}
 use Rattle.recommend.specs.declared.Recommended.the-variants.{Done as Advised, Refused as NotAdvised}
+use Rattle.recommend.proofs.Range.{looked-up-most, quick-whole}
 use Rattle.write.specs.declared.Written.{Written as Writing}
 use Rattle.write.specs.declared.Written.the-variants.{Done as Wrote, Refused as NotWritten}
-use Rattle.cabi.specs.Numbers.{inNumbers, writtenInNumbers, settingOf, adviceNumber, adviceInNumbers, partInNumbers}
+use Rattle.cabi.specs.Numbers.{inNumbers, writtenInNumbers, settingOf, adviceNumber, adviceInNumbers, quickInNumbers, partInNumbers}
 use Rattle.cabi.specs.declared.numbers.Answer.{Answer}
 use Rattle.cabi.specs.declared.numbers.Advice.{Advice}
 use Rattle.cabi.specs.declared.numbers.Part.{Part}
+use Rattle.cabi.specs.declared.numbers.Quick.{Quick}
 use Rattle.cabi.specs.declared.numbers.Written.{Written}
 
 -- what a call ensures of its answer, said of its numbers
@@ -41,6 +47,15 @@ written-same r a b p q = p ∙ ap writtenInNumbers q
 
 pub advice-same : (r : Advice) (a b : Recommended) → r ≡ adviceInNumbers a → a ≡ b → r ≡ adviceInNumbers b
 advice-same r a b p q = p ∙ ap adviceInNumbers q
+
+module _ (t s : List ℕ) (m reply : Bool) (q : Quickly) where
+  pub quick-same : (r : Quick) → r ≡ quickInNumbers q → q .answer ≡ recommendedOf t s m reply → q .«looked_up» ≡ lookedUpOf t s m reply
+      → r ≡ quickInNumbers (quickOf t s m reply)
+  quick-same r p e n = p ∙ ap quickInNumbers (quick-whole t s m reply q e n)
+
+  -- A13: the count is 100 at most, and so one of 32 bits
+  pub count-most : q .«looked_up» ≡ lookedUpOf t s m reply → q .«looked_up» ≤ mostRecipients
+  count-most n = rw n (looked-up-most t s m reply)
 
 pub part-same : (r : Part) (a b : Place) → r ≡ partInNumbers a → a ≡ b → r ≡ partInNumbers b
 part-same r a b p q = p ∙ ap partInNumbers q
@@ -76,11 +91,17 @@ module _ (r : Recommended) where
   unfolding adviceInNumbers
   of-not-advised n i f e p q = rw (e, p, q)
 
+pub of-quick :
+    (q : Quickly) (a : Advice) → a ≡ adviceInNumbers (q .answer)
+    → _≡_ {A = Quick} (record { number = a .number; index = a .index; advice = a .advice; «looked_up» = q .«looked_up» }) (quickInNumbers q)
+unfolding quickInNumbers
+of-quick q a e = rw e
+
 pub of-part : (p : Place) → _≡_ {A = Part} (record { start = p .start; length = p .length }) (partInNumbers p)
 unfolding partInNumbers
 of-part p = refl
 
-pub ruleset answering = (of-done, of-refused, of-wrote, of-not-written, of-advice, of-not-advised, of-part, numbers-same, written-same, advice-same, part-same, needs)
+pub ruleset answering = (of-done, of-refused, of-wrote, of-not-written, of-advice, of-not-advised, of-quick, of-part, numbers-same, written-same, advice-same, quick-same, count-most, part-same, needs)
 
 -- G1: take, skip, and unset for every other number
 module _ (n : ℕ) where

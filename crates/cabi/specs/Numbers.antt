@@ -1,8 +1,9 @@
--- SCOPE, R33, R34, G1, A1 and A6: answers in numbers, as C has them.
+-- SCOPE, R33, R34, G1, A1, A6 and A12: answers in numbers, as C has them.
 --     inNumbers                        the number of a refusal, and the index that comes with 2; 0 and 0 where there is none
 --     writtenInNumbers                 the length of the field; a refusal has none, and 0 stands for that
 --     settingOf                        the gossip setting
 --     adviceNumber, adviceInNumbers    the advice, 0 where the call refuses
+--     quickInNumbers                   the advice and how many recipients were looked up
 --     partInNumbers                    a part of the table
 use Prim.Native.Nat.{ℕ}
 use mathlib.Core.Bool.{true, false}
@@ -15,6 +16,7 @@ use Rattle.advice.specs.declared.Advice.the-variants.{Disable, Discourage, Avai
 use Rattle.advice.specs.declared.Part.{Part as Place}
 use Rattle.settings.specs.declared.Gossip.{Gossip}
 use Rattle.settings.specs.declared.Gossip.the-variants.{Take, Skip, Unset}
+use Rattle.recommend.specs.declared.Quick.{Quick as Quickly}
 use Rattle.recommend.specs.declared.Recommended.{Recommended}
 use Rattle.recommend.specs.declared.Recommended.the-variants.{Done as Advised, Refused as NotAdvised}
 use Rattle.write.specs.declared.Written.{Written as Writing}
@@ -22,6 +24,7 @@ use Rattle.write.specs.declared.Written.the-variants.{Done as Wrote, Refused as
 use Rattle.cabi.specs.declared.numbers.Answer.{Answer}
 use Rattle.cabi.specs.declared.numbers.Advice.{Advice}
 use Rattle.cabi.specs.declared.numbers.Part.{Part}
+use Rattle.cabi.specs.declared.numbers.Quick.{Quick}
 use Rattle.cabi.specs.declared.numbers.Written.{Written}
 
 -- R33: 0, or the number of the refusal; the index is 0 with all answers but 2
@@ -49,6 +52,12 @@ adviceNumber Encrypt = 4
 unfoldable pub adviceInNumbers : Recommended → Advice
 adviceInNumbers (Advised a) = record { number = 0; index = 0; advice = adviceNumber a }
 adviceInNumbers (NotAdvised r) = record { number = numberOf r; index = indexOf r; advice = 0 }
+
+-- A12, A13: the numbers of the advice, and how many recipients were looked up
+unfoldable pub quickInNumbers : Quickly → Quick
+quickInNumbers q =
+    let same = adviceInNumbers (q .answer) in
+    record { number = same .number; index = same .index; advice = same .advice; «looked_up» = q .«looked_up» }
 
 -- A6: start and length of a part, counted from the table's first octet
 unfoldable pub partInNumbers : Place → Part

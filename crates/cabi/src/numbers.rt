@@ -1,6 +1,8 @@
 // Answers in numbers, as C has them. What each field says stands in specs/Numbers.antt.
+ghost use Prim.Native.Nat.{_≤_};
 ghost use mathlib.Core.Path.{_≡_};
-ghost use Rattle.cabi.specs.Numbers.{inNumbers, writtenInNumbers, adviceNumber, adviceInNumbers, partInNumbers};
+ghost use Rattle.recommend.specs.Recommending.{mostRecipients};
+ghost use Rattle.cabi.specs.Numbers.{inNumbers, writtenInNumbers, adviceNumber, adviceInNumbers, quickInNumbers, partInNumbers};
 
 // vienghulac_answer: 0 or the number of a refusal, and the index of a slot with 2, else 0 (R33).
 #[repr(C)]
@@ -22,6 +24,15 @@ pub struct Advice {
     pub number: u32,
     pub index: u32,
     pub advice: u32,
+}
+
+// vienghulac_quick: the same, and how many recipients were looked up, 0 with a refusal (A12, A13).
+#[repr(C)]
+pub struct Quick {
+    pub number: u32,
+    pub index: u32,
+    pub advice: u32,
+    pub looked_up: u32,
 }
 
 // vienghulac_part: start and length of a part, counted from the table's first octet; 0 and 0 where it is empty (A6, A7).
@@ -90,6 +101,21 @@ pub fn advice_in_numbers(answer: autocrypt::Recommended) -> Advice
             index: autocrypt::index(r),
             advice: 0,
         },
+    }
+}
+
+// A12: the numbers of the advice, and the count, which fits (A13).
+pub fn quick_in_numbers(quick: autocrypt::Quick) -> Quick
+    requires { ⌜ quick .«looked_up» ≤ mostRecipients ⌝ }
+    ensures { λ r. ⌜ r ≡ quickInNumbers quick ⌝ }
+{
+    let answer = quick.answer;
+    let same = advice_in_numbers(answer);
+    Quick {
+        number: same.number,
+        index: same.index,
+        advice: same.advice,
+        looked_up: quick.looked_up as u32,
     }
 }
 

@@ -2,9 +2,10 @@
 use crate::numbers;
 use crate::numbers::Advice;
 use crate::numbers::Part;
+use crate::numbers::Quick;
 ghost use mathlib.Core.Path.{_≡_};
-ghost use Rattle.recommend.specs.Recommending.{recommendedOf, targetPartOf};
-ghost use Rattle.cabi.specs.Numbers.{adviceInNumbers, partInNumbers};
+ghost use Rattle.recommend.specs.Recommending.{recommendedOf, quickOf, targetPartOf};
+ghost use Rattle.cabi.specs.Numbers.{adviceInNumbers, quickInNumbers, partInNumbers};
 
 // `recommend` of the library: should a mail to these recipients be encrypted (A1)? `recipients` is a list of 1 to 100
 // addresses, not folded, `mutual` the user's own preference, and `reply` is 1 for a reply to an encrypted mail, else 0.
@@ -20,6 +21,21 @@ pub extern "C" fn vienghulac_recommend(
     ensures { λ r. ⌜ r ≡ adviceInNumbers (recommendedOf (now (table .entry)) (now (recipients .entry)) «mutual» reply) ⌝ }
 {
     numbers::advice_in_numbers(autocrypt::recommend(table, recipients, mutual, reply))
+}
+
+// `recommend_quick` of the library: the same for the same arguments, and how many recipients were looked up (A12). That is
+// the place of the first with disable, from 1, and the length of the list where nobody has it (A13); with a refusal it is
+// 0, like the advice.
+#[no_mangle]
+pub extern "C" fn vienghulac_recommend_quick(
+    table: &[u8],
+    recipients: &[u8],
+    mutual: bool,
+    reply: bool,
+) -> Quick
+    ensures { λ r. ⌜ r ≡ quickInNumbers (quickOf (now (table .entry)) (now (recipients .entry)) «mutual» reply) ⌝ }
+{
+    numbers::quick_in_numbers(autocrypt::recommend_quick(table, recipients, mutual, reply))
 }
 
 // `target_part` of the library: the key to encrypt to for the recipient at a place of the list, from 0, as start and

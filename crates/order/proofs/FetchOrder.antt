@@ -15,7 +15,7 @@ use Rattle.heads.specs.Entry.{Entry}
 use Rattle.table.specs.Table.{checked}
 use Rattle.table.specs.declared.Checked.the-variants.{Sound}
 use Rattle.update.specs.Message.{Message, entryAfter, GoodMessage}
-use Rattle.recommend.proofs.SameEntries.{recommended-alike, key-alike}
+use Rattle.recommend.proofs.SameEntries.{recommended-alike, quick-alike, key-alike}
 use Rattle.order.specs.Fetching.{Form, after, fetchedIn, fits, allFitIn, slotForm, fetched, allFit, Agreeing, SayTheSame}
 use Rattle.order.proofs.Permuting.{permuted-stands, folded, Steps, folded-permuted}
 use Rattle.order.proofs.Shares.{Known}
@@ -91,8 +91,9 @@ pub say-the-same : (t u : List ℕ) → Alike slotForm t u → SayTheSame t u
 say-the-same t u h =
     record {
       entry = h .entry;
-      recommendation = λ recipients. recommended-alike t u (h .sound .sound) (h .sound-too .sound) (h .entry) recipients;
-      target-key = λ recipients. key-alike t u (h .sound .sound) (h .sound-too .sound) (h .entry) recipients;
+      recommendation = λ recipients. recommended-alike t u (h .sound .sound) (h .sound-too .sound) recipients (h .entry);
+      quick = λ recipients. quick-alike t u (h .sound .sound) (h .sound-too .sound) recipients (h .entry);
+      target-key = λ recipients. key-alike t u (h .sound .sound) (h .sound-too .sound) recipients (h .entry);
     }
 
 -- C11: from one sound table, two orders of the same messages lead to tables that say the same, where neither order refuses one for room and any two

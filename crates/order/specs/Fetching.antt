@@ -19,7 +19,7 @@ use Rattle.table.specs.Entries.{entryIn}
 use Rattle.table.specs.declared.Checked.the-variants.{Sound}
 use Rattle.update.specs.Message.{Message, GoodMessage, hasRoom}
 use Rattle.delivery.specs.Delivery.{delivered}
-use Rattle.recommend.specs.Recommending.{recommendedOf, targetKeyOf}
+use Rattle.recommend.specs.Recommending.{recommendedOf, quickOf, targetKeyOf}
 use Rattle.order.specs.Brought.{bringsDirect, bringsGossip}
 
 -- A form of table: which tables are sound, what holds of every message that is read for one, the entry of an address, whether there is room for a
@@ -79,8 +79,10 @@ pub record Agree (m n : Message) : Type 0 where
 unfoldable pub Agreeing : List (Option Message) → Type 0
 Agreeing list = (m n : Message) → List·Memᴰ (some m) list → List·Memᴰ (some n) list → Agree m n
 
--- C11: every address has the same entry, every list of recipients gets the same advice, and every place in it the same key octets
+-- C11: every address has the same entry, every list of recipients gets the same advice with the same count, and every place in it the same key
+-- octets
 pub record SayTheSame (t u : List ℕ) : Type 0 where
   pub entry : (a : List ℕ) → entryIn t a ≡ entryIn u a
   pub recommendation : (recipients : List ℕ) (isMutual reply : Bool) → recommendedOf t recipients isMutual reply ≡ recommendedOf u recipients isMutual reply
+  pub quick : (recipients : List ℕ) (isMutual reply : Bool) → quickOf t recipients isMutual reply ≡ quickOf u recipients isMutual reply
   pub target-key : (recipients : List ℕ) (place : ℕ) → targetKeyOf t recipients place ≡ targetKeyOf u recipients place

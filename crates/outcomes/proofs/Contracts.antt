@@ -21,6 +21,7 @@ use Rattle.convert.proofs.convert as convert
 use Rattle.process.proofs.process as process
 use Rattle.inspect.proofs.entry as entry
 use Rattle.recommend.proofs.recommend as recommend
+use Rattle.recommend.proofs.recommend_quick as recommend-quick
 use Rattle.recommend.proofs.target_part as target-part
 use Rattle.recommend.proofs.target_key as target-key
 use Rattle.write.proofs.write_autocrypt as write-autocrypt
@@ -31,12 +32,13 @@ use Rattle.cabi.proofs.tables.vienghulac_convert as vienghulac-convert
 use Rattle.cabi.proofs.messages.vienghulac_process as vienghulac-process
 use Rattle.cabi.proofs.tables.vienghulac_entry as vienghulac-entry
 use Rattle.cabi.proofs.recommending.vienghulac_recommend as vienghulac-recommend
+use Rattle.cabi.proofs.recommending.vienghulac_recommend_quick as vienghulac-recommend-quick
 use Rattle.cabi.proofs.recommending.vienghulac_target_key as vienghulac-target-key
 use Rattle.cabi.proofs.writing.vienghulac_write_autocrypt as vienghulac-write-autocrypt
 use Rattle.cabi.proofs.writing.vienghulac_write_gossip as vienghulac-write-gossip
 use Rattle.cabi.proofs.writing.vienghulac_display as vienghulac-display
-use Rattle.outcomes.specs.Outcomes.{Number, Index, Check, Convert, Process, Entry, Recommend, TargetPart, TargetKey, WriteAutocrypt, WriteGossip, Display}
-use Rattle.outcomes.specs.OutcomesInC.{VienghulacCheck, VienghulacConvert, VienghulacProcess, VienghulacEntry, VienghulacRecommend, VienghulacTargetKey, VienghulacWriteAutocrypt, VienghulacWriteGossip, VienghulacDisplay}
+use Rattle.outcomes.specs.Outcomes.{Number, Index, Check, Convert, Process, Entry, Recommend, RecommendQuick, TargetPart, TargetKey, WriteAutocrypt, WriteGossip, Display}
+use Rattle.outcomes.specs.OutcomesInC.{VienghulacCheck, VienghulacConvert, VienghulacProcess, VienghulacEntry, VienghulacRecommend, VienghulacRecommendQuick, VienghulacTargetKey, VienghulacWriteAutocrypt, VienghulacWriteGossip, VienghulacDisplay}
 use Rattle.outcomes.specs.Contracts.{ensuring}
 
 -- in every model of the toolchain's logic
@@ -65,6 +67,10 @@ module _ {M : Type 1} (𝓤 : URA M) (H : Heap 𝓤) (A : Atoms 𝓤) (mem : Mem
   pub recommend-contract : recommend.spec 𝓤 H A mem run
       ≡ ensuring 𝓤 H A recommend.ended (λ κs a r e. Recommend (now (a .0)) (now (a .1 .0)) (a .1 .1 .0) (a .1 .1 .1 .0) r)
   recommend-contract = refl
+
+  pub recommend-quick-contract : recommend-quick.spec 𝓤 H A mem run
+      ≡ ensuring 𝓤 H A recommend-quick.ended (λ κs a r e. RecommendQuick (now (a .0)) (now (a .1 .0)) (a .1 .1 .0) (a .1 .1 .1 .0) r)
+  recommend-quick-contract = refl
 
   pub target-part-contract : target-part.spec 𝓤 H A mem run
       ≡ ensuring 𝓤 H A target-part.ended
@@ -109,6 +115,11 @@ module _ {M : Type 1} (𝓤 : URA M) (H : Heap 𝓤) (A : Atoms 𝓤) (mem : Mem
       ≡ ensuring 𝓤 H A vienghulac-recommend.ended
       (λ κs a r e. VienghulacRecommend (now (a .0)) (now (a .1 .0)) (a .1 .1 .0) (a .1 .1 .1 .0) r)
   vienghulac-recommend-contract = refl
+
+  pub vienghulac-recommend-quick-contract : vienghulac-recommend-quick.spec 𝓤 H A mem run
+      ≡ ensuring 𝓤 H A vienghulac-recommend-quick.ended
+      (λ κs a r e. VienghulacRecommendQuick (now (a .0)) (now (a .1 .0)) (a .1 .1 .0) (a .1 .1 .1 .0) r)
+  vienghulac-recommend-quick-contract = refl
 
   pub vienghulac-target-key-contract : vienghulac-target-key.spec 𝓤 H A mem run
       ≡ ensuring 𝓤 H A vienghulac-target-key.ended

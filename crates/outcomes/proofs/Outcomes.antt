@@ -18,7 +18,9 @@ use Rattle.inspect.proofs.Showing.{refused-untouched as unshown}
 use Rattle.convert.proofs.Outcomes.{refused-untouched as unconverted}
 use Rattle.settings.specs.declared.Gossip.{Gossip}
 use Rattle.process.proofs.Outcomes.{refused-untouched as unprocessed}
+use Rattle.recommend.specs.declared.Quick.{Quick}
 use Rattle.recommend.specs.declared.Recommended.{Recommended}
+use Rattle.recommend.proofs.Range.{quick-whole}
 use Rattle.names.specs.Names.{autocrypt as autocryptName, gossip as gossipName}
 use Rattle.write.specs.declared.Written.{Written}
 use Rattle.write.specs.declared.Written.the-variants.{Refused as NotWritten}
@@ -27,9 +29,10 @@ use Rattle.display.proofs.Outcomes.{refused-untouched as undisplayed}
 use Rattle.cabi.specs.declared.numbers.Answer.{Answer as AnswerInC}
 use Rattle.cabi.specs.declared.numbers.Advice.{Advice}
 use Rattle.cabi.specs.declared.numbers.Part.{Part as PartInC}
+use Rattle.cabi.specs.declared.numbers.Quick.{Quick as QuickInC}
 use Rattle.cabi.specs.declared.numbers.Written.{Written as WrittenInC}
-use Rattle.outcomes.specs.OutcomesInC.{VienghulacCheck, VienghulacConvert, VienghulacProcess, VienghulacEntry, VienghulacRecommend, VienghulacTargetKey, VienghulacWriteAutocrypt, VienghulacWriteGossip, VienghulacDisplay}
-use Rattle.outcomes.specs.Outcomes.{Meets, Number, Index, Check, Convert, Process, Entry, Recommend, TargetPart, TargetKey, WriteAutocrypt, WriteGossip, Display}
+use Rattle.outcomes.specs.OutcomesInC.{VienghulacCheck, VienghulacConvert, VienghulacProcess, VienghulacEntry, VienghulacRecommend, VienghulacRecommendQuick, VienghulacTargetKey, VienghulacWriteAutocrypt, VienghulacWriteGossip, VienghulacDisplay}
+use Rattle.outcomes.specs.Outcomes.{Meets, Number, Index, Check, Convert, Process, Entry, Recommend, RecommendQuick, TargetPart, TargetKey, WriteAutocrypt, WriteGossip, Display}
 
 pub one-answer : {A : Type 0} (defined r q : A) → r ≡ defined → q ≡ defined → r ≡ q
 one-answer defined r q h k = h ∙ sym k
@@ -63,6 +66,11 @@ entry-unique table slot numbers r q left other = one-outcome _ _ r q left other
 pub recommend-unique : (table recipients : List ℕ) (isMutual reply : Bool) (r q : Recommended)
     → AllOf (Recommend table recipients isMutual reply r) → AllOf (Recommend table recipients isMutual reply q) → r ≡ q
 recommend-unique table recipients isMutual reply r q = one-answer _ r q
+
+pub recommend-quick-unique : (table recipients : List ℕ) (isMutual reply : Bool) (r q : Quick)
+    → AllOf (RecommendQuick table recipients isMutual reply r) → AllOf (RecommendQuick table recipients isMutual reply q) → r ≡ q
+recommend-quick-unique table recipients isMutual reply r q h k =
+    one-answer _ r q (quick-whole table recipients isMutual reply r (h .0) (h .1)) (quick-whole table recipients isMutual reply q (k .0) (k .1))
 
 pub target-part-unique : (table recipients : List ℕ) (isMutual reply : Bool) (place : ℕ) (r q : Part)
     → AllOf (TargetPart table recipients isMutual reply place r) → AllOf (TargetPart table recipients isMutual reply place q) → r ≡ q
@@ -104,6 +112,10 @@ vienghulac-entry-unique table slot numbers r q left other = one-outcome _ _ r q 
 pub vienghulac-recommend-unique : (table recipients : List ℕ) (isMutual reply : Bool) (r q : Advice)
     → AllOf (VienghulacRecommend table recipients isMutual reply r) → AllOf (VienghulacRecommend table recipients isMutual reply q) → r ≡ q
 vienghulac-recommend-unique table recipients isMutual reply r q = one-answer _ r q
+
+pub vienghulac-recommend-quick-unique : (table recipients : List ℕ) (isMutual reply : Bool) (r q : QuickInC)
+    → AllOf (VienghulacRecommendQuick table recipients isMutual reply r) → AllOf (VienghulacRecommendQuick table recipients isMutual reply q) → r ≡ q
+vienghulac-recommend-quick-unique table recipients isMutual reply r q = one-answer _ r q
 
 pub vienghulac-target-key-unique : (table recipients : List ℕ) (isMutual reply : Bool) (place : ℕ) (r q : PartInC)
     → AllOf (VienghulacTargetKey table recipients isMutual reply place r) → AllOf (VienghulacTargetKey table recipients isMutual reply place q) → r ≡ q

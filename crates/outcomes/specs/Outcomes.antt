@@ -5,7 +5,8 @@
 --     Number, Index, Check               number, index, check
 --     Convert                            convert
 --     Process, Entry                     process, entry
---     Recommend, TargetPart, TargetKey   recommend, target_part, target_key
+--     Recommend, RecommendQuick          recommend, recommend_quick
+--     TargetPart, TargetKey              target_part, target_key
 --     WriteAutocrypt, WriteGossip        write_autocrypt, write_gossip
 --     Display                            display
 -- Number and values of an answer come from one definition for each call (C5).
@@ -24,7 +25,8 @@ use Rattle.inspect.specs.Inspecting.{tableRows, refusedShowing, leftByShowing}
 use Rattle.convert.specs.Converting.{refusedConverting, leftByConverting}
 use Rattle.process.specs.Processing.{refusedProcessing, leftByProcessing}
 use Rattle.settings.specs.declared.Gossip.{Gossip}
-use Rattle.recommend.specs.Recommending.{recommendedOf, targetPartOf, targetKeyOf}
+use Rattle.recommend.specs.Recommending.{recommendedOf, lookedUpOf, targetPartOf, targetKeyOf}
+use Rattle.recommend.specs.declared.Quick.{Quick}
 use Rattle.recommend.specs.declared.Recommended.{Recommended}
 use Rattle.names.specs.Names.{autocrypt as autocryptName, gossip as gossipName}
 use Rattle.write.specs.Writing.{writtenOf, leftByWriting}
@@ -63,6 +65,11 @@ Entry table slot numbers r left = Meets (answerOf (refusedShowing table (length 
 -- A1: what `recommend` answers
 abbrev pub Recommend : List ℕ → List ℕ → Bool → Bool → Recommended → List (Type 0)
 Recommend table recipients isMutual reply r = (r ≡ recommendedOf table recipients isMutual reply) ∷ []
+
+-- A12, A13: what `recommend_quick` answers: what `recommend` does, and the count
+abbrev pub RecommendQuick : List ℕ → List ℕ → Bool → Bool → Quick → List (Type 0)
+RecommendQuick table recipients isMutual reply r =
+    (r .answer ≡ recommendedOf table recipients isMutual reply) ∷ (r .«looked_up» ≡ lookedUpOf table recipients isMutual reply) ∷ []
 
 -- A6, A7, A9: the part that `target_part` answers, which does not depend on preference and reply
 abbrev pub TargetPart : List ℕ → List ℕ → Bool → Bool → ℕ → Part → List (Type 0)

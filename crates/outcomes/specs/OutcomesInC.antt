@@ -3,7 +3,8 @@
 --     VienghulacCheck, VienghulacProcess                 vienghulac_check, vienghulac_process
 --     VienghulacConvert                                  vienghulac_convert
 --     VienghulacEntry                                    vienghulac_entry
---     VienghulacRecommend, VienghulacTargetKey           vienghulac_recommend, vienghulac_target_key
+--     VienghulacRecommend, VienghulacRecommendQuick      vienghulac_recommend, vienghulac_recommend_quick
+--     VienghulacTargetKey                                vienghulac_target_key
 --     VienghulacWriteAutocrypt, VienghulacWriteGossip    vienghulac_write_autocrypt, vienghulac_write_gossip
 --     VienghulacDisplay                                  vienghulac_display
 use Prim.Native.Nat.{ℕ}
@@ -15,14 +16,15 @@ use Rattle.refusals.specs.Rows.{firstOf, answerOf}
 use Rattle.inspect.specs.Inspecting.{tableRows, refusedShowing, leftByShowing}
 use Rattle.convert.specs.Converting.{refusedConverting, leftByConverting}
 use Rattle.process.specs.Processing.{refusedProcessing, leftByProcessing}
-use Rattle.recommend.specs.Recommending.{recommendedOf, targetPartOf}
+use Rattle.recommend.specs.Recommending.{recommendedOf, quickOf, targetPartOf}
 use Rattle.names.specs.Names.{autocrypt as autocryptName, gossip as gossipName}
 use Rattle.write.specs.Writing.{writtenOf, leftByWriting}
 use Rattle.display.specs.Displaying.{displayedOf, leftByDisplaying}
-use Rattle.cabi.specs.Numbers.{inNumbers, writtenInNumbers, settingOf, adviceInNumbers, partInNumbers}
+use Rattle.cabi.specs.Numbers.{inNumbers, writtenInNumbers, settingOf, adviceInNumbers, quickInNumbers, partInNumbers}
 use Rattle.cabi.specs.declared.numbers.Answer.{Answer}
 use Rattle.cabi.specs.declared.numbers.Advice.{Advice}
 use Rattle.cabi.specs.declared.numbers.Part.{Part}
+use Rattle.cabi.specs.declared.numbers.Quick.{Quick}
 use Rattle.cabi.specs.declared.numbers.Written.{Written}
 use Rattle.outcomes.specs.Outcomes.{Meets}
 
@@ -47,6 +49,10 @@ VienghulacEntry table slot numbers r left = Meets (inNumbers (answerOf (refusedS
 -- A1: what `vienghulac_recommend` answers
 abbrev pub VienghulacRecommend : List ℕ → List ℕ → Bool → Bool → Advice → List (Type 0)
 VienghulacRecommend table recipients isMutual reply r = (r ≡ adviceInNumbers (recommendedOf table recipients isMutual reply)) ∷ []
+
+-- A12, A13: what `vienghulac_recommend_quick` answers
+abbrev pub VienghulacRecommendQuick : List ℕ → List ℕ → Bool → Bool → Quick → List (Type 0)
+VienghulacRecommendQuick table recipients isMutual reply r = (r ≡ quickInNumbers (quickOf table recipients isMutual reply)) ∷ []
 
 -- A6, A7, A9: what `vienghulac_target_key` answers
 abbrev pub VienghulacTargetKey : List ℕ → List ℕ → Bool → Bool → ℕ → Part → List (Type 0)
