@@ -88,7 +88,8 @@ extern "C" {
 #define VIENGHULAC_GOSSIP_TAKE 1
 #define VIENGHULAC_GOSSIP_SKIP 2
 
-/* The advice of vienghulac_recommend, from low to high (A1); the first comes with a refusal. */
+/* The advice of vienghulac_recommend and vienghulac_recommend_quick, from low to high (A1); the first comes with a
+ * refusal. */
 #define VIENGHULAC_REFUSED 0
 #define VIENGHULAC_DISABLE 1
 #define VIENGHULAC_DISCOURAGE 2
@@ -117,6 +118,14 @@ typedef struct {
     uint32_t index;
     uint32_t advice;
 } vienghulac_advice;
+
+/* The same, and how many recipients were looked up; 0 with a refusal (A13). */
+typedef struct {
+    uint32_t number;
+    uint32_t index;
+    uint32_t advice;
+    uint32_t looked_up;
+} vienghulac_quick;
 
 /* A part of a table: from table[start] on, so many octets. An empty part has start and length 0. */
 typedef struct {
@@ -195,6 +204,24 @@ vienghulac_answer vienghulac_process(uint8_t *table, size_t table_length, uint64
  * Answers 0 with an advice from VIENGHULAC_DISABLE to VIENGHULAC_ENCRYPT, or 1, 2 or 10. */
 vienghulac_advice vienghulac_recommend(const uint8_t *table, size_t table_length,
                                        const uint8_t *recipients, size_t recipients_length, bool mutual, bool reply);
+
+/* The same advice at the same cost, and how many recipients were looked up for it: for a window that asks after every
+ * letter, and marks the one for whom nothing can be encrypted. Recipients are looked up in the order of the list, and
+ * none behind the first with VIENGHULAC_DISABLE (A12).
+ *
+ *     vienghulac_quick quick = vienghulac_recommend_quick(table, table_length, to, to_length, mutual, reply);
+ *     if (quick.advice == VIENGHULAC_DISABLE) mark(quick.looked_up - 1);
+ *
+ * It takes what vienghulac_recommend takes. Number, index and advice are always those that vienghulac_recommend gives.
+ * `looked_up` is the place of the first recipient with VIENGHULAC_DISABLE, counted from 1; vienghulac_target_key counts
+ * from 0, and has that recipient one lower. Where nobody has it, `looked_up` is the length of the list (A13). The list
+ * is read to its end all the same: a fault behind that recipient gives 10 (A14).
+ *
+ * Borrowed: `table` and `recipients`.
+ * Answers 0 with an advice and a count from 1 to 100, or 1, 2 or 10. */
+vienghulac_quick vienghulac_recommend_quick(const uint8_t *table, size_t table_length,
+                                            const uint8_t *recipients, size_t recipients_length,
+                                            bool mutual, bool reply);
 
 /* The key to encrypt to for one recipient. It takes what vienghulac_recommend takes, and the recipient's place in the
  * list, counted from 0; the answer does not depend on `mutual` and `reply` (A9).

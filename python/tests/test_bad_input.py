@@ -7,7 +7,7 @@ from letters import RECEIPT, letter, old_table, table_with
 
 from vienghulac import (
     Gossip, Refused, Table, autocrypt_field, autocrypt_header, check, convert, display, entries, gossip_field,
-    gossip_header, process, recommend, target_key,
+    gossip_header, process, recommend, recommend_quick, target_key,
 )  # fmt: skip
 
 LIST = b"a@x"
@@ -16,6 +16,7 @@ LIST = b"a@x"
 CALLS = [
     (process, dict(receipt=RECEIPT, outer=letter(b"a@x"), payload=b"", gossip=Gossip.TAKE)),
     (recommend, dict(recipients=LIST, mutual=True, reply=False)),
+    (recommend_quick, dict(recipients=LIST, mutual=True, reply=False)),
     (target_key, dict(recipients=LIST, mutual=True, reply=False, place=0)),
     (autocrypt_field, dict(address=LIST, key=b"k", mutual=True)),
     (autocrypt_header, dict(address=LIST, key=b"k", mutual=True)),
@@ -39,7 +40,7 @@ KINDS = {"receipt": "number", "place": "number", "slots": "number", "mutual": "t
 
 
 def on_tables(call):
-    return call in (process, recommend, target_key)
+    return call in (process, recommend, recommend_quick, target_key)
 
 
 def cases():
@@ -58,7 +59,7 @@ def test_wrong_types(call, arguments):
     assert bytes(table) == before
 
 
-@pytest.mark.parametrize("call", [process, recommend, target_key, entries])
+@pytest.mark.parametrize("call", [process, recommend, recommend_quick, target_key, entries])
 @pytest.mark.parametrize("wrong", [None, bytes(4_392), "table", 0])
 def test_wrong_tables(call, wrong):
     good = dict(CALLS).get(call, {})
@@ -78,7 +79,8 @@ def test_missing_and_surplus_arguments():
     table, _ = table_with(b"a@x")
     for call in (
         lambda: process(table), lambda: recommend(table, LIST, True, True, 1), lambda: autocrypt_field(LIST),
-        lambda: display(), lambda: display(LIST, LIST),
+        lambda: display(), lambda: display(LIST, LIST), lambda: recommend_quick(table),
+        lambda: recommend_quick(table, LIST, True, True, 1),
     ):  # fmt: skip
         with pytest.raises(TypeError):
             call()
@@ -89,6 +91,7 @@ def test_every_kind_of_octets(kind):
     table = Table(kind(bytes(4_392)))
     process(table, RECEIPT, kind(letter(b"a@x", b"key")), kind(b""))
     assert recommend(table, kind(b"a@x")).name == "AVAILABLE"
+    assert recommend_quick(table, kind(b"a@x, b@x, a@x")) == recommend_quick(table, b"a@x, b@x, a@x") == (1, 2)
     assert target_key(table, kind(b"a@x")) == b"key"
     assert autocrypt_field(kind(b"a@x"), kind(b"foo")) == b"Autocrypt: addr=a@x; keydata=\r\n Zm9v\r\n"
     assert display(kind(b"A@xn--nda")) == "a@ö".encode()
@@ -124,6 +127,7 @@ def test_a_class_that_lies_about_its_length(base):
     process(plain, RECEIPT, outer, payload, Gossip.TAKE)
     assert bytes(told) == bytes(plain) and len(entries(told)) == 2
     assert recommend(told, Liar(b"a@x, b@x")) == recommend(told, b"a@x, b@x")
+    assert recommend_quick(told, Liar(b"a@x, b@x")) == recommend_quick(told, b"a@x, b@x")
     assert target_key(told, Liar(b"a@x")) == b"key"
 
 
@@ -155,7 +159,7 @@ def test_a_subclass_of_a_table_is_one():
 
     table = Named.new(1)
     process(table, RECEIPT, letter(b"a@x", b"key"))
-    assert recommend(table, b"a@x").name == "AVAILABLE"
+    assert recommend(table, b"a@x").name == "AVAILABLE" == recommend_quick(table, b"a@x").advice.name
     assert target_key(table, b"a@x") == b"key" == entries(table)[0].direct_key
 
 
@@ -183,10 +187,11 @@ def test_refusals_of_each_call_R31_R32():
             process(table, *arguments)
         assert (caught.value.number, caught.value.slot) == (number, None)
         assert bytes(table) == before
-    for recipients in (b"", b"a@x,", b",".join([b"a@x"] * 101)):
-        with pytest.raises(Refused) as caught:
-            recommend(table, recipients)
-        assert caught.value.number == 10
+    for call in (recommend, recommend_quick):
+        for recipients in (b"", b"a@x,", b",".join([b"a@x"] * 101)):
+            with pytest.raises(Refused) as caught:
+                call(table, recipients)
+            assert (caught.value.number, caught.value.slot) == (10, None)
     for write in (autocrypt_field, gossip_field, autocrypt_header, gossip_header):
         for number, arguments in {9: (b"<a@x>", b"key"), 11: (b"a@x", bytes(2_049))}.items():
             with pytest.raises(Refused) as caught:

@@ -12,7 +12,8 @@ from scope import conversion, processing, recommending
 from scope import table as tables
 
 from vienghulac import (
-    REFUSALS, SLOT, Advice, Gossip, Refused, Table, check, convert, entries, process, recommend, target_key,
+    REFUSALS, SLOT, Advice, Gossip, Refused, Table, check, convert, entries, process, recommend, recommend_quick,
+    target_key,
 )  # fmt: skip
 
 SEED = int(os.environ.get("VIENGHULAC_SEED", "1"))
@@ -76,6 +77,16 @@ def test_recommend_and_target_key_as_the_independent_program():
         assert (b"" if key is None else bytes(key)) == octets[start : start + length]
         seen.add(advice)
     assert seen == {None, *Advice}
+
+
+def test_recommend_quick_as_the_independent_program():
+    seen = set()
+    for octets, table, *asked in on_sound_tables(Cases(SEED).quick, 3_000):
+        number, slot, quick = answered(recommend_quick, table, *asked)
+        assert (number, slot, *(quick or (0, 0))) == recommending.quick(octets, *asked)
+        assert (number, slot, quick and quick.advice) == answered(recommend, table, *asked)
+        seen.add(quick and (quick.advice, min(quick.looked_up, 2)))
+    assert seen == {None, *((advice, looked_up) for advice in Advice for looked_up in (1, 2))}
 
 
 def test_entries_as_the_independent_program():

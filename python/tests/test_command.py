@@ -19,12 +19,6 @@ from vienghulac import REFUSALS, Gossip, Table, _command, autocrypt_field, entri
 ALICE, BOB, CAROL, DAVE = "alice@autocrypt.example", "bob@autocrypt.example", "carol@autocrypt.example", "dave@mail.example"
 
 
-@pytest.fixture
-def imported(table_file):
-    answer("import", INBOX, "--table", table_file)
-    return table_file
-
-
 # import
 
 
@@ -256,7 +250,8 @@ def test_check(imported, tmp_path):
         ("import", "mbox", "--table", "t", "--receipt", "yesterday"), ("field", "a@x"), ("check",), ("list", "--table", "t", "more"),
         ("convert",), ("convert", "--table", "t"), ("check", "t", "--no-wait"),
         ("display",), ("display", "a@x", "b@x"), ("display", "--table", "t", "a@x"),
-        ("key", "--table", "t", "a@x", "--display"),
+        ("key", "--table", "t", "a@x", "--display"), ("key", "--table", "t", "a@x", "--quick"),
+        ("recommend", "--quick", "--table", "t"),
         ("field", "a@x", "--key", "k", "--mutual", "--gossip"), ("list", "--table", "t", "--xml"),
     ],
 )  # fmt: skip
@@ -277,6 +272,7 @@ def test_help_names_the_keys_of_json(imported):
     key, table = EXAMPLES / "alice.key", ("--table", imported)
     for command, *words in (
         ("import", INBOX, *table), ("list", *table), ("recommend", BOB, *table), ("key", BOB, *table),
+        ("recommend", "--quick", BOB, *table),
         ("field", ALICE, "--key", key), ("display", ALICE), ("check", imported), ("convert", imported),
     ):  # fmt: skip
         answered = json.loads(answer(command, "--json", *words))
@@ -315,6 +311,15 @@ def test_help_of_display_tells_what_is_shown_and_what_is_not():
     ):  # fmt: skip
         assert words in text
     assert "--display" in answer("list", "--help").decode()
+
+
+def test_help_of_recommend_tells_what_is_counted():
+    text = " ".join(answer("recommend", "--help").decode().split())
+    for words in (
+        "none behind the first without a key", "as in 'disable 2'", "counted from 1", "it is one less",
+        "else the length of the list", "read to its end all the same",
+    ):  # fmt: skip
+        assert words in text
 
 
 def test_the_console_script_is_the_same():

@@ -18,7 +18,9 @@ from contextlib import contextmanager
 import pytest
 from letters import RECEIPT, gossip, letter, old_table, table_with
 
-from vienghulac import Gossip, Refused, Table, _library, convert, display, entries, process, recommend, target_key
+from vienghulac import (
+    Gossip, Refused, Table, _library, convert, display, entries, process, recommend, recommend_quick, target_key,
+)  # fmt: skip
 
 THREADS = 4
 
@@ -232,6 +234,7 @@ def test_a_key_goes_on_while_only_reads_happen(table_file):
     table, (key, _) = table_with(b"a@x", b"b@x")
     view = target_key(table, b"a@x")
     recommend(table, b"a@x, b@x")
+    recommend_quick(table, b"a@x, b@x, c@x")
     target_key(table, b"b@x")
     entries(table)
     table.save(table_file)
@@ -377,7 +380,7 @@ def test_two_threads_lose_nothing(eager):
 
 def watch(monkeypatch, watcher):
     """Let a watcher see the memory of the table as each call of the library begins and ends."""
-    for name in ("process", "recommend", "target_key", "entry"):
+    for name in ("process", "recommend", "recommend_quick", "target_key", "entry"):
 
         def watched(memory, *rest, call=getattr(_library, name)):
             with watcher(memory):
@@ -401,9 +404,9 @@ def test_one_call_at_a_time_on_a_table(monkeypatch):
     watch(monkeypatch, watcher)
     calls = [
         lambda: process(table, RECEIPT, letter(b"a@x", b"key")), lambda: recommend(table, b"a@x"),
-        lambda: target_key(table, b"a@x"), lambda: entries(table),
+        lambda: recommend_quick(table, b"a@x"), lambda: target_key(table, b"a@x"), lambda: entries(table),
     ]  # fmt: skip
-    in_threads(lambda number: [calls[(number + turn) % 4]() for turn in range(20)])
+    in_threads(lambda number: [calls[(number + turn) % len(calls)]() for turn in range(20)])
     assert met == [1] * 20 * THREADS
 
 

@@ -43,10 +43,10 @@ def test_everything_public_is_listed_and_documented():
 
 
 def test_nothing_public_has_gone():
-    """What version 0.4 had, a program may still name."""
+    """What version 0.5 had, a program may still name."""
     older = "Advice Entry FieldValue Gossip Locked Octets REFUSALS Refused SLOT SLOTS Table autocrypt_field autocrypt_header"
-    older += " check convert entries gossip_field gossip_header open_table process recommend target_key"
-    assert set(vienghulac.__all__) == {*older.split(), "display"}
+    older += " check convert display entries gossip_field gossip_header open_table process recommend target_key"
+    assert set(vienghulac.__all__) == {*older.split(), "QuickAdvice", "recommend_quick"}
 
 
 def test_the_words_of_a_version():
@@ -83,7 +83,7 @@ def test_the_library_calls_nothing_but_memory_functions():
 def test_the_library_has_the_functions_of_the_header():
     header = (ROOT / "include" / "vienghulac.h").read_text()
     declared = set(re.findall(r"^vienghulac_\w+ (vienghulac_\w+)\(", header, re.MULTILINE))
-    assert len(declared) == 9
+    assert len(declared) == 10
     symbols = output("readelf", "--dyn-syms", "--wide", LIBRARY)
     exported = set(re.findall(r"FUNC\s+GLOBAL\s+DEFAULT\s+\d+\s+(\w+)\n", symbols))
     assert exported == declared
@@ -129,12 +129,18 @@ def test_the_package_is_strictly_typed():
 
 USER = """
 from typing import Optional
-from vienghulac import Advice, Table, autocrypt_header, convert, display, open_table, process, recommend, target_key
+from vienghulac import (
+    Advice, QuickAdvice, Table, autocrypt_header, convert, display, open_table, process, recommend, recommend_quick,
+    target_key,
+)
 
 table: Table = Table.new(slots=4)
 older: Table = convert(bytearray(bytes(table)))
 process(table, 0, b"From: a@x")
 advice: Advice = recommend(table, bytearray(b"a@x"), mutual=True)
+quick: QuickAdvice = recommend_quick(table, bytearray(b"a@x"), mutual=True)
+advice, looked_up = quick
+at: int = looked_up - 1
 key: Optional[memoryview] = target_key(table, memoryview(b"a@x"))
 name, value = autocrypt_header(b"a@x", b"key")
 text: str = name + value
@@ -151,6 +157,7 @@ def test_its_users_are_checked_too(tmp_path):
     output(*words, "good.py", cwd=tmp_path)
     wrong = ["recommend(table, 'a@x')", "bytes(target_key(table, b'a@x'))", "open_table('t').slots", "convert(table)"]
     wrong += ["display('a@x')", "text = display(b'a@x')"]
+    wrong += ["recommend_quick(table, 'a@x')", "advice = recommend_quick(table, b'a@x')", "quick.looked_up = 2"]
     (tmp_path / "bad.py").write_text(USER + "\n".join(wrong) + "\n")
     bad = subprocess.run([*words, "bad.py"], capture_output=True, text=True, cwd=tmp_path)
-    assert bad.returncode == 1 and "Found 6 errors" in bad.stdout
+    assert bad.returncode == 1 and "Found 9 errors" in bad.stdout

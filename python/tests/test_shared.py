@@ -531,12 +531,6 @@ def test_a_forked_process_waits_as_any_other(table_file):
 # The command.
 
 
-@pytest.fixture
-def imported(table_file):
-    answer("import", INBOX, "--table", table_file)
-    return table_file
-
-
 def asked(mailbox, table_file):
     """An import that says that it waits."""
     words = words_of("import", mailbox, "--table", table_file)

@@ -24,6 +24,12 @@ taken only by a call that asks for them, since each new one takes a slot of the 
 
     process(table, receipt, header_block, payload, Gossip.TAKE)
 
+Marking: a window that asks for advice after every letter calls `recommend_quick`. It gives the
+advice of `recommend` at the same cost, and says how many recipients were looked up. With DISABLE
+the last of them is the first for whom nothing can be encrypted, and the count is its place, from 1:
+
+    advice, looked_up = recommend_quick(table, recipients)  # Advice.DISABLE, 2: the second has no key
+
 Older tables: a table that a version before 0.4 stored may be refused with 2. That version told
 names apart by the case of letters with accents, and of Greek and Cyrillic letters. `convert` takes
 the octets of such a table, puts together the entries that are one person's, and leaves a table of
@@ -64,7 +70,8 @@ from ._fields import FieldValue, autocrypt_field, autocrypt_header, display, gos
 from ._refusals import REFUSALS, Refused
 from ._shared import Locked, open_table
 from ._table import (
-    SLOT, SLOTS, Advice, Entry, Gossip, Table, check, convert, entries, process, recommend, target_key,
+    SLOT, SLOTS, Advice, Entry, Gossip, QuickAdvice, Table, check, convert, entries, process, recommend,
+    recommend_quick, target_key,
 )  # fmt: skip
 
 __all__ = [
@@ -74,6 +81,7 @@ __all__ = [
     "Gossip",
     "Locked",
     "Octets",
+    "QuickAdvice",
     "REFUSALS",
     "Refused",
     "SLOT",
@@ -90,5 +98,6 @@ __all__ = [
     "open_table",
     "process",
     "recommend",
+    "recommend_quick",
     "target_key",
 ]

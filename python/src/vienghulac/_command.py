@@ -23,7 +23,9 @@ from ._files import read_file, replace_file
 from ._mailbox import Mailbox, NoMailbox, open_mailbox
 from ._refusals import BAD_SLOT, REFUSALS, Refused
 from ._shared import Locked, convert_file, open_table
-from ._table import SLOT, Entry, Gossip, Table, convert, entries, process, read_octets, recommend, target_key
+from ._table import (
+    SLOT, Entry, Gossip, Table, convert, entries, process, read_octets, recommend, recommend_quick, target_key,
+)  # fmt: skip
 from ._usage import Command, parser
 
 _KEY_LIMIT = 2_048
@@ -317,11 +319,13 @@ def _counted(stored: bytes, converted: bytes) -> tuple[int, int]:
 
 
 def _recommend(options: argparse.Namespace) -> int:
-    advice = recommend(_load(options.table), os.fsencode(options.recipients), options.mutual, options.reply)
+    asked = _load(options.table), os.fsencode(options.recipients), options.mutual, options.reply
+    advice, looked_up = recommend_quick(*asked) if options.quick else (recommend(*asked), None)
+    counted = {} if looked_up is None else {"looked_up": looked_up}
     if options.json:
-        _print_json({"advice": advice.name.lower(), "advice_number": advice.value})
+        _print_json({"advice": advice.name.lower(), "advice_number": advice.value, **counted})
     else:
-        print(advice.name.lower())
+        print(advice.name.lower(), *counted.values())
     return 0
 
 

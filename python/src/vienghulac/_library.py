@@ -33,6 +33,16 @@ class AdviceAnswer(ctypes.Structure):
     advice: int
 
 
+class QuickAnswer(ctypes.Structure):
+    """vienghulac_quick"""
+
+    _fields_ = [(name, ctypes.c_uint32) for name in ("number", "index", "advice", "looked_up")]
+    number: int
+    index: int
+    advice: int
+    looked_up: int
+
+
 class Part(ctypes.Structure):
     """vienghulac_part"""
 
@@ -107,6 +117,7 @@ check = _declared("vienghulac_check", Answer, *_BLOCK)
 convert = _declared("vienghulac_convert", Answer, *_BLOCK)  # it writes the block, so never lend it `bytes`
 process = _declared("vienghulac_process", Answer, *_TABLE, _NUMBER, *_BLOCK, *_BLOCK, _GOSSIP)
 recommend = _declared("vienghulac_recommend", AdviceAnswer, *_TABLE, *_BLOCK, _TRUTH, _TRUTH)
+recommend_quick = _declared("vienghulac_recommend_quick", QuickAnswer, *_TABLE, *_BLOCK, _TRUTH, _TRUTH)
 target_key = _declared("vienghulac_target_key", Part, *_TABLE, *_BLOCK, _TRUTH, _TRUTH, _NUMBER)
 entry = _declared("vienghulac_entry", Answer, *_TABLE, _NUMBER, ctypes.POINTER(Numbers), _NUMBER)
 write_autocrypt = _declared("vienghulac_write_autocrypt", Written, *_BLOCK, *_BLOCK, _TRUTH, *_BLOCK)

@@ -11,7 +11,8 @@ and goes on reading the key that it was made of.
 
 A call of a Python function costs about as much as the conversion of an argument for the library. So the calls on a table
 know what they are nearly always given by its exact type, in place, and ask `_arguments` about all else; and they enter
-`_release` only where a view may be out.
+`_release` only where a view may be out. The two calls for advice share one function, and so each costs one such call
+more.
 """
 
 from __future__ import annotations
@@ -21,7 +22,7 @@ import enum
 import threading
 import weakref
 from dataclasses import dataclass
-from typing import Optional
+from typing import Any, Callable, NamedTuple, Optional
 
 from . import _library
 from ._arguments import Octets, number, octets, truth
@@ -59,6 +60,17 @@ class Advice(enum.IntEnum):
 
 
 _ADVICE = {advice.value: advice for advice in Advice}  # looked up in a fraction of the time of Advice(number)
+
+
+class QuickAdvice(NamedTuple):
+    """An advice, and how many recipients were looked up for it.
+
+    With DISABLE the last of these is the first for whom nothing can be encrypted: `looked_up` is the place of that one,
+    counted from 1. With any other advice it is the length of the list.
+    """
+
+    advice: Advice
+    looked_up: int
 
 
 def read_octets(path: FilePath) -> bytes:
@@ -186,9 +198,21 @@ def _need_table(table: Table) -> None:
 
 
 def _asked(table: Table, recipients: Octets, mutual: bool, reply: bool) -> tuple[bytes, bool, bool]:
-    """The arguments of `recommend` and `target_key`, where one is not of the type that it nearly always has."""
+    """The arguments of the calls for advice and keys, where one is not of the type that it nearly always has."""
     _need_table(table)
     return octets(recipients, "recipients"), truth(mutual, "mutual"), truth(reply, "reply")
+
+
+def _advised(call: Callable[..., Any], table: Table, recipients: Octets, mutual: bool, reply: bool) -> Any:
+    """What `recommend` or `recommend_quick` of the library answers, if it does not refuse."""
+    if type(table) is not Table or type(recipients) is not bytes or type(mutual) is not bool or type(reply) is not bool:
+        recipients, mutual, reply = _asked(table, recipients, mutual, reply)
+    with table._guard:
+        answer = call(table._address, table._length, recipients, len(recipients), mutual, reply)
+    refused = answer.number
+    if refused:
+        raise refusal(refused, answer.index)
+    return answer
 
 
 def process(
@@ -230,16 +254,20 @@ def recommend(table: Table, recipients: Octets, mutual: bool = False, reply: boo
     `recipients` is a list of 1 to 100 addresses as in a To field, but without line endings. `mutual` is the user's own
     preference. `reply` says that the mail replies to an encrypted one. Raises `Refused` (10).
     """
-    if type(table) is not Table or type(recipients) is not bytes or type(mutual) is not bool or type(reply) is not bool:
-        recipients, mutual, reply = _asked(table, recipients, mutual, reply)
-    with table._guard:
-        answer: _library.AdviceAnswer = _library.recommend(
-            table._address, table._length, recipients, len(recipients), mutual, reply
-        )
-    refused = answer.number
-    if refused:
-        raise refusal(refused, answer.index)
+    answer: _library.AdviceAnswer = _advised(_library.recommend, table, recipients, mutual, reply)
     return _ADVICE[answer.advice]
+
+
+def recommend_quick(table: Table, recipients: Octets, mutual: bool = False, reply: bool = False) -> QuickAdvice:
+    """The advice of `recommend`, for a window that asks after every letter; and which recipient the window can mark.
+
+    It takes what `recommend` takes, and costs the same. Recipients are looked up in the order of the list, and none
+    behind the first for whom nothing can be encrypted. The place of that one, counted from 1, comes with the advice;
+    where there is no such recipient, the length of the list does. `target_key` counts from 0, and has it at
+    `looked_up - 1`. The list is read to its end all the same: raises `Refused` (10) just where `recommend` does.
+    """
+    answer: _library.QuickAnswer = _advised(_library.recommend_quick, table, recipients, mutual, reply)
+    return QuickAdvice(_ADVICE[answer.advice], answer.looked_up)
 
 
 def target_key(

@@ -68,7 +68,15 @@ of 1 to 100 addresses) should be encrypted:
   available    it can be, if the user asks for it
   encrypt      it should be
 
-With --json: advice, that word; advice_number, 1 to 4 in this order."""
+With --quick the advice is the same, and behind it stands how many of the
+RECIPIENTS were looked up, as in 'disable 2'. They are looked up in their order,
+and none behind the first without a key. So with disable it is the place of
+that one, counted from 1 (for --place of the command key it is one less), else
+the length of the list. The list is read to its end all the same: it is refused
+(10) just where it is without --quick.
+
+With --json: advice, that word; advice_number, 1 to 4 in this order; with
+--quick also looked_up, that count."""
 
 _KEY = """\
 Write the key to encrypt to, for one of the RECIPIENTS (one argument, a list as
@@ -176,6 +184,7 @@ def parser(commands: Mapping[str, Command]) -> argparse.ArgumentParser:
     made.add_argument("recipients", metavar="RECIPIENTS", help="a list of addresses, as in a To field")
     made.add_argument("--mutual", action="store_true", help="the sender prefers encryption too")
     made.add_argument("--reply", action="store_true", help="the mail answers an encrypted one")
+    made.add_argument("--quick", action="store_true", help="also say how many were looked up")
 
     made = command("field", _FIELD, "write a field to send")
     made.add_argument("address", metavar="ADDRESS", help="the sender's address; with --gossip the recipient's")
