@@ -359,8 +359,80 @@ static void talk(void) {
     expect("no whole slots", advice.number == 1 && advice.advice == VIENGHULAC_REFUSED);
 }
 
+/* Lists, and the answer for each without and with a reply; k@x has a key, g@x one by gossip, n@x an entry without any,
+ * and o@x no entry. The first five are the table of A13. */
+static const struct {
+    const char *recipients;
+    vienghulac_quick plain, reply;
+} quickly[] = {
+    {"k@x, n@x, k@x, n@x", {0, 0, VIENGHULAC_DISABLE, 2}, {0, 0, VIENGHULAC_DISABLE, 2}},
+    {"k@x, k@x", {0, 0, VIENGHULAC_AVAILABLE, 2}, {0, 0, VIENGHULAC_ENCRYPT, 2}},
+    {"n@x", {0, 0, VIENGHULAC_DISABLE, 1}, {0, 0, VIENGHULAC_DISABLE, 1}},
+    {"e:;, g: k@x, n@x;, k@x", {0, 0, VIENGHULAC_DISABLE, 2}, {0, 0, VIENGHULAC_DISABLE, 2}},
+    {"n@x,", {10, 0, VIENGHULAC_REFUSED, 0}, {10, 0, VIENGHULAC_REFUSED, 0}},
+    {"g@x, K@X, g@x", {0, 0, VIENGHULAC_DISCOURAGE, 3}, {0, 0, VIENGHULAC_ENCRYPT, 3}},
+    {"g@x, k@x, e:;, o@x", {0, 0, VIENGHULAC_DISABLE, 3}, {0, 0, VIENGHULAC_DISABLE, 3}},
+    {"o@x, k@x, g: k@x", {10, 0, VIENGHULAC_REFUSED, 0}, {10, 0, VIENGHULAC_REFUSED, 0}},
+};
+
+/* Is this the quick answer, and has vienghulac_recommend the same three numbers? */
+static bool is_quick(const uint8_t *table, size_t length, const char *list, bool reply, vienghulac_quick expected) {
+    vienghulac_quick quick = vienghulac_recommend_quick(table, length, octets(list), strlen(list), false, reply);
+    vienghulac_advice plain = vienghulac_recommend(table, length, octets(list), strlen(list), false, reply);
+    return memcmp(&quick, &expected, sizeof quick) == 0 && plain.number == expected.number &&
+           plain.index == expected.index && plain.advice == expected.advice;
+}
+
+/* A13, A14: lists of 99, 100 and 101, the first disable nowhere, at the last place, at the fiftieth and so on. */
+static void ask_for_many(const uint8_t *table, size_t length) {
+    const vienghulac_quick too_many = {10, 0, VIENGHULAC_REFUSED, 0};
+    for (uint32_t many = 99; many <= 101; many++) {
+        const uint32_t places[] = {many, 50, 2, 1};
+        char list[4 * 101 + 1] = "";
+        put_times(list, "k@x", (int)many, ",");
+        vienghulac_quick expected = {0, 0, VIENGHULAC_AVAILABLE, many};
+        expect("a long list", is_quick(table, length, list, false, many > 100 ? too_many : expected));
+        expected.advice = VIENGHULAC_DISABLE;
+        for (int i = 0; i < 4; i++) {
+            list[4 * (places[i] - 1)] = 'n';
+            expected.looked_up = places[i];
+            expect("a long list with a disable", is_quick(table, length, list, true, many > 100 ? too_many : expected));
+        }
+    }
+}
+
+/* A12 to A14, and R31: the quick answer and its refusals. */
+static void ask_quickly(void) {
+    static uint8_t table[4 * VIENGHULAC_SLOT], before[sizeof table];
+    const vienghulac_quick no_table = {1, 0, VIENGHULAC_REFUSED, 0}, no_list = {10, 0, VIENGHULAC_REFUSED, 0};
+    const vienghulac_quick broken = {2, 3, VIENGHULAC_REFUSED, 0};
+    store(table, "k@x", 9, "foo");
+    store(table + VIENGHULAC_SLOT, "n@x", 5, NULL);
+    store(table + 2 * VIENGHULAC_SLOT, "g@x", 5, NULL);
+    table[2 * VIENGHULAC_SLOT + 4] |= VIENGHULAC_BIT_GOSSIP;
+    table[2 * VIENGHULAC_SLOT + 34] = 1;
+    table[2 * VIENGHULAC_SLOT + 2344] = 'g';
+    memcpy(before, table, sizeof table);
+
+    for (size_t i = 0; i < sizeof quickly / sizeof *quickly; i++) {
+        expect("a quick answer", is_quick(table, sizeof table, quickly[i].recipients, false, quickly[i].plain));
+        expect("and for a reply", is_quick(table, sizeof table, quickly[i].recipients, true, quickly[i].reply));
+    }
+    ask_for_many(table, sizeof table);
+    expect("the table stays", memcmp(table, before, sizeof table) == 0);
+
+    expect("quickly: no recipients", is_quick(table, sizeof table, "", false, no_list));
+    expect("quickly: no whole slots", is_quick(table, sizeof table - 1, "k@x", false, no_table));
+    table[4 * VIENGHULAC_SLOT - 1] = 1;
+    expect("quickly: a broken slot", is_quick(table, sizeof table, "n@x", false, broken));
+    expect("quickly: a broken slot and no list", is_quick(table, sizeof table, "n@x,", false, broken));
+    vienghulac_quick q = vienghulac_recommend_quick(NULL, 0, NULL, 0, true, true);
+    expect("quickly: nothing lent", memcmp(&q, &no_table, sizeof q) == 0);
+}
+
 int main(void) {
     talk();
+    ask_quickly();
     ask_for_gossip();
     look_for_nothing();
     bring_up_to_date();

@@ -173,7 +173,7 @@ static void make_old(void) {
 }
 
 typedef struct {
-    uint64_t numbers[3];
+    uint64_t numbers[4];
 } answer;
 
 static answer process(void) {
@@ -195,6 +195,11 @@ static answer convert(void) {
 static answer recommend(void) {
     vienghulac_advice a = vienghulac_recommend(table, sizeof table, recipients.octets, recipients.length, true, false);
     return (answer){{a.number, a.index, a.advice}};
+}
+
+static answer recommend_quick(void) {
+    vienghulac_quick q = vienghulac_recommend_quick(table, sizeof table, recipients.octets, recipients.length, true, false);
+    return (answer){{q.number, q.index, q.advice, q.looked_up}};
 }
 
 static answer target_key(void) {
@@ -326,6 +331,7 @@ static void in_another_script(void) {
     processes("process: both blocks long, domains in UTF-8", LONGEST, LONGEST, 250, 0);
     make_recipients(&recipients);
     same("recommend: domains in UTF-8", recommend, 0, OTHERS);
+    same("recommend_quick: domains in UTF-8", recommend_quick, 0, OTHERS);
     same("target_key: domains in UTF-8", target_key, 3, OTHERS);
     make_longest(&address);
     expect("the longest address", address.length == 873);
@@ -357,6 +363,8 @@ int main(void) {
     out.length = VIENGHULAC_FIELD;
     same("check", check, 0, OTHERS);
     same("recommend", recommend, 0, OTHERS);
+    same("recommend_quick", recommend_quick, 0, OTHERS);
+    expect("all recipients are looked up", recommend_quick().numbers[3] == 100);
     same("target_key", target_key, 3, OTHERS);
     same("entry", entry, 0, OTHERS);
     same("write_autocrypt", write_autocrypt, 0, OTHERS);

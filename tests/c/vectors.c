@@ -95,6 +95,18 @@ static bool recommend(void) {
     return right & unchanged(table) & unchanged(recipients);
 }
 
+static bool recommend_quick(void) {
+    block table = lend(), recipients = lend();
+    bool mutual = number(), reply = number();
+    vienghulac_quick q =
+        vienghulac_recommend_quick(table.lent, table.length, recipients.lent, recipients.length, mutual, reply);
+    bool right = q.number == number();
+    right &= q.index == number();
+    right &= q.advice == number();
+    right &= q.looked_up == number();
+    return right & unchanged(table) & unchanged(recipients);
+}
+
 static bool target_key(void) {
     block table = lend(), recipients = lend();
     bool mutual = number(), reply = number();
@@ -164,6 +176,7 @@ int main(int count, char **words) {
         case 7: expect("entry", entry()); break;
         case 8: expect("convert", convert()); break;
         case 9: expect("display", display()); break;
+        case 10: expect("recommend_quick", recommend_quick()); break;
         default: give_up("no such call");
         }
     }

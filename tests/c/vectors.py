@@ -14,7 +14,7 @@ sys.path.insert(0, str(Path(__file__).resolve().parents[1] / "independent"))
 from cases import Cases  # noqa: E402
 from scope import conversion, displaying, processing, recommending, table as tables, writing  # noqa: E402
 
-CHECK, PROCESS, RECOMMEND, TARGET_KEY, WRITE_AUTOCRYPT, WRITE_GOSSIP, ENTRY, CONVERT, DISPLAY = range(1, 10)
+CHECK, PROCESS, RECOMMEND, TARGET_KEY, WRITE_AUTOCRYPT, WRITE_GOSSIP, ENTRY, CONVERT, DISPLAY, QUICK = range(1, 11)
 
 
 def number(value: int) -> bytes:
@@ -48,8 +48,14 @@ def entry(cases: Cases, table: bytes, slot: int, many: int, answer: tuple[int, i
     return case(ENTRY, table, lent, slot, refusal, index, written + lent[len(written) :])
 
 
+def quick(cases: Cases) -> bytes:
+    """One case of `recommend_quick`."""
+    call = cases.quick()
+    return case(QUICK, *call, *recommending.quick(*call))
+
+
 def made(cases: Cases) -> bytes:
-    """One case of each call; of `process` one mail with three settings."""
+    """One case of each other call; of `process` one mail with three settings."""
     table = cases.table()
     one = case(CHECK, table, *tables.check(table))
     table = cases.conversion()
@@ -75,5 +81,6 @@ def made(cases: Cases) -> bytes:
 if __name__ == "__main__":
     cases = Cases(int(os.environ.get("VIENGHULAC_SEED", "1")))
     with open(sys.argv[1], "wb") as file:
-        for _ in range(int(sys.argv[2])):
-            file.write(made(cases))
+        for make in (made, quick):  # one after the other: what the calls of before draw stays as it was
+            for _ in range(int(sys.argv[2])):
+                file.write(make(cases))

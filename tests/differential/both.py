@@ -46,6 +46,11 @@ class Both:
     def target_key(self, *call):
         return self._same("target_key", *call)
 
+    def quick(self, *call):
+        answer = calls.quick(*call)
+        self._held("recommend_quick", self.library.recommend_quick(*call), answer, call)
+        return answer
+
     # Where the independent program is told how much room there is, the library is lent it, and must leave the rest.
 
     def entry_numbers(self, *call):

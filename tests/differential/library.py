@@ -13,6 +13,10 @@ class Advice(ctypes.Structure):
     _fields_ = [("number", ctypes.c_uint32), ("index", ctypes.c_uint32), ("advice", ctypes.c_uint32)]
 
 
+class Quick(ctypes.Structure):
+    _fields_ = [*Advice._fields_, ("looked_up", ctypes.c_uint32)]
+
+
 class Part(ctypes.Structure):
     _fields_ = [("start", ctypes.c_uint64), ("length", ctypes.c_uint64)]
 
@@ -76,11 +80,19 @@ class Library(Bound):
         """As above."""
         return self._write("display", READ, [address, len(address)], out)
 
+    def _asked(self, name: str, answer: type, table: bytes, recipients: bytes, mutual: bool, reply: bool):
+        kinds = READ + READ + [ctypes.c_bool, ctypes.c_bool]
+        return self._call(name, answer, kinds, table, len(table), recipients, len(recipients), mutual, reply)
+
     def recommend(self, table: bytes, recipients: bytes, mutual: bool, reply: bool) -> tuple[int, int, int]:
         """The number, the index, and the advice."""
-        kinds = READ + READ + [ctypes.c_bool, ctypes.c_bool]
-        r = self._call("recommend", Advice, kinds, table, len(table), recipients, len(recipients), mutual, reply)
+        r = self._asked("recommend", Advice, table, recipients, mutual, reply)
         return r.number, r.index, r.advice
+
+    def recommend_quick(self, table: bytes, recipients: bytes, mutual: bool, reply: bool) -> tuple[int, int, int, int]:
+        """The same, and how many were looked up."""
+        r = self._asked("recommend_quick", Quick, table, recipients, mutual, reply)
+        return r.number, r.index, r.advice, r.looked_up
 
     def target_key(self, table: bytes, recipients: bytes, mutual: bool, reply: bool, place: int) -> tuple[int, int]:
         """Start and length of the part of the table."""

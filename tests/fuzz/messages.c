@@ -1,11 +1,9 @@
 /* Messages one after the other, on one small table, given to the library and to the C program of bench/: after each the
- * answers, the whole tables, the advice for a list, its keys, two written fields and an address shown are compared.
+ * answers, the whole tables, the advices for a list, its keys, two written fields and an address shown are compared.
  *
  * The input: an octet for the number of slots; then for each message an octet of choices, the outer block, the payload
  * and a list, each ended by two octets 254. seeds.py writes such inputs. */
-#include "../../bench/peer/peer.h"
-#include "../../include/vienghulac.h"
-#include "lend.h"
+#include "advice.h"
 
 enum { SLOTS = 4, BLOCK = 65537, TEXT = 4096, PLACES = 3 };
 
@@ -27,21 +25,6 @@ static void compare_process(block mine, block theirs, uint8_t choices, block out
     same("process", a.number, b.number);
     same("index of process", a.index, b.index);
     same_octets("table", mine.at, theirs.at, mine.length);
-}
-
-static void compare_advice(block table, uint8_t choices, block list) {
-    bool mutual = choices & 4, reply = choices & 8;
-    vienghulac_advice a = vienghulac_recommend(table.at, table.length, list.at, list.length, mutual, reply);
-    peer_advice b = peer_recommend(table.at, table.length, list.at, list.length, mutual, reply);
-    same("recommend", a.number, b.number);
-    same("index of recommend", a.index, b.index);
-    same("advice", a.advice, b.advice);
-    for (uint64_t place = 0; place < PLACES; place++) {
-        vienghulac_part p = vienghulac_target_key(table.at, table.length, list.at, list.length, mutual, reply, place);
-        peer_part q = peer_target_key(table.at, table.length, list.at, list.length, mutual, reply, place);
-        same("start of a key", p.start, q.start);
-        same("length of a key", p.length, q.length);
-    }
 }
 
 /* The list as an address, the payload's beginning as a key: both fields, into as much room as the choices say. */
@@ -103,7 +86,7 @@ int LLVMFuzzerTestOneInput(const uint8_t *octets, size_t length) {
         payload = lend(payload_room, payload.at, payload.length);
         list = lend(list_room, list.at, list.length);
         compare_process(mine, theirs, choices, outer, payload);
-        compare_advice(mine, choices, list);
+        compare_advice(mine, list, choices & 4, choices & 8, PLACES);
         compare_fields(choices, list, key);
         compare_display(choices, list);
     }

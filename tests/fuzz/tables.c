@@ -1,14 +1,12 @@
 /* Tables made of patches, given to the check of the library and to that of the C program of bench/: the answers are
- * compared, and the advice and keys for a list by each table that both take for sound. Before that a copy for each is
+ * compared, and the advices and keys for a list by each table that both take for sound. Before that a copy for each is
  * converted (T16): the answers and the whole tables are compared.
  *
  * The input: an octet for the number of slots, one by which the length is off, then patches: two octets for the place,
  * the lower one first, one for the length, and the octets. seeds.py writes such inputs. */
-#include "../../bench/peer/peer.h"
-#include "../../include/vienghulac.h"
-#include "lend.h"
+#include "advice.h"
 
-enum { SLOTS = 4 };
+enum { SLOTS = 4, PLACES = 7 };
 
 static const char list[] =
     "alice@a.example, Bob <bob@b.example>, g: carol@c.example, p=q+r@g.example;, x@y, \xc3\x89VA@f.example, "
@@ -66,15 +64,6 @@ int LLVMFuzzerTestOneInput(const uint8_t *octets, size_t length) {
     same("check", a.number, b.number);
     same("index of check", a.index, b.index);
     if (a.number != 0) return 0;
-    vienghulac_advice c = vienghulac_recommend(table.at, table.length, asked.at, asked.length, true, false);
-    peer_advice d = peer_recommend(table.at, table.length, asked.at, asked.length, true, false);
-    same("recommend", c.number, d.number);
-    same("advice", c.advice, d.advice);
-    for (uint64_t place = 0; place < 7; place++) {
-        vienghulac_part p = vienghulac_target_key(table.at, table.length, asked.at, asked.length, true, false, place);
-        peer_part q = peer_target_key(table.at, table.length, asked.at, asked.length, true, false, place);
-        same("start of a key", p.start, q.start);
-        same("length of a key", p.length, q.length);
-    }
+    compare_advice(table, asked, true, false, PLACES);
     return 0;
 }

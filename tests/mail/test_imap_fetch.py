@@ -36,6 +36,7 @@ SENDERS = Letters(SEED, 30)
 BOX = SENDERS.mailbox(400)
 
 Asked = tuple[list[bytes], bool, bool]  # recipients, the user's own preference, and whether the mail is a reply
+Said = tuple[int, tuple[int, int], list[bytes]]  # the advice, the quick advice with its count, and the target keys
 
 
 def run(
@@ -94,19 +95,19 @@ class Expected:
             self.numbers[number] += 1
         self.table = table
 
-    def says(self, asked: Asked) -> tuple[int, list[bytes]]:
-        to, switches = b", ".join(asked[0]), asked[1:]
-        number, _, advice = calls.recommend(self.table, to, *switches)
+    def says(self, asked: Asked) -> Said:
+        call = self.table, b", ".join(asked[0]), *asked[1:]
+        number, _, advice = calls.recommend(*call)
         assert number == 0
-        parts = [calls.target_key(self.table, to, *switches, place) for place in range(len(asked[0]) + 1)]
-        return advice, [self.table[start : start + length] for start, length in parts]
+        parts = [calls.target_key(*call, place) for place in range(len(asked[0]) + 1)]
+        return advice, calls.quick(*call)[2:], [self.table[start : start + length] for start, length in parts]
 
 
-def library_says(table: vienghulac.Table, asked: Asked) -> tuple[int, list[bytes]]:
-    """The library's advice and target keys, as `Expected.says` has them."""
-    to, switches = b", ".join(asked[0]), asked[1:]
-    keys = [vienghulac.target_key(table, to, *switches, place) for place in range(len(asked[0]) + 1)]
-    return vienghulac.recommend(table, to, *switches), [bytes(key or b"") for key in keys]
+def library_says(table: vienghulac.Table, asked: Asked) -> Said:
+    """What the library says, as `Expected.says` has it."""
+    call = table, b", ".join(asked[0]), *asked[1:]
+    keys = [vienghulac.target_key(*call, place) for place in range(len(asked[0]) + 1)]
+    return vienghulac.recommend(*call), vienghulac.recommend_quick(*call), [bytes(key or b"") for key in keys]
 
 
 def questions(addresses: list[bytes]) -> list[Asked]:
@@ -137,7 +138,7 @@ class Order(unittest.TestCase):
         self.assertEqual(len(held), len(table) // SLOT)  # no slot is free, and there was no 8
         asked = questions(letters.addresses)
         answers = [expected.says(one) for one in asked]
-        self.assertEqual({advice for advice, _ in answers}, {1, 2, 3, 4})
+        self.assertEqual({advice for advice, _, _ in answers}, {1, 2, 3, 4})
         fill(SERVER, mailbox, box)
         printed, tables = [], []
         with tempfile.TemporaryDirectory() as folder:
