@@ -47,6 +47,7 @@ struct library {
     peer_answer (*convert)(uint8_t *, size_t);
     peer_answer (*process)(uint8_t *, size_t, uint64_t, const uint8_t *, size_t, const uint8_t *, size_t, uint8_t);
     peer_advice (*recommend)(const uint8_t *, size_t, const uint8_t *, size_t, bool, bool);
+    peer_quick (*recommend_quick)(const uint8_t *, size_t, const uint8_t *, size_t, bool, bool);
     peer_part (*target_key)(const uint8_t *, size_t, const uint8_t *, size_t, bool, bool, uint64_t);
     peer_written (*write_autocrypt)(const uint8_t *, size_t, const uint8_t *, size_t, bool, uint8_t *, size_t);
 };
@@ -76,6 +77,7 @@ static void load(struct library *library) {
     load_one(opened, library, "convert", &library->convert);
     load_one(opened, library, "process", &library->process);
     load_one(opened, library, "recommend", &library->recommend);
+    load_one(opened, library, "recommend_quick", &library->recommend_quick);
     load_one(opened, library, "target_key", &library->target_key);
     load_one(opened, library, "write_autocrypt", &library->write_autocrypt);
 }
@@ -180,6 +182,20 @@ static void round_recommend(const struct one_case *one, const struct library *li
     }
 }
 
+static void round_quick(const struct one_case *one, const struct library *library, uint8_t *table) {
+    for (uint32_t i = 0; i < one->count; i++) {
+        const struct call *call = &one->calls[i];
+        sink += library->recommend_quick(table, one->table.n, call->first.s, call->first.n, true, false).looked_up;
+    }
+}
+
+static void round_target(const struct one_case *one, const struct library *library, uint8_t *table) {
+    for (uint32_t i = 0; i < one->count; i++) {
+        const struct call *call = &one->calls[i];
+        sink += library->target_key(table, one->table.n, call->first.s, call->first.n, true, false, 0).length;
+    }
+}
+
 static void round_check(const struct one_case *one, const struct library *library, uint8_t *table) {
     sink += library->check(table, one->table.n).number;
 }
@@ -250,6 +266,8 @@ static void add_row(const struct one_case *one, const struct library *library, c
 static round_of *round_by(const struct one_case *one, const struct library *library) {
     if (processes(one)) return library->process ? round_process : NULL;
     if (strcmp(one->kind, "recommend") == 0) return library->recommend ? round_recommend : NULL;
+    if (strcmp(one->kind, "quick") == 0) return library->recommend_quick ? round_quick : NULL;
+    if (strcmp(one->kind, "target") == 0) return library->target_key ? round_target : NULL;
     if (strcmp(one->kind, "check") == 0) return library->check ? round_check : NULL;
     if (converts(one)) return library->convert ? round_convert : NULL;
     if (strcmp(one->kind, "write") == 0) return library->write_autocrypt ? round_write : NULL;
@@ -292,6 +310,14 @@ static void expect(bool right, const struct one_case *one, const char *what) {
 
 static bool same_table(const struct text *a, const struct text *b) { return a->n == b->n && memcmp(a->s, b->s, a->n) == 0; }
 
+/* Do two libraries find the same key for the first recipient? */
+static bool same_target(const struct library *a, const struct library *b, const struct text *table, size_t n,
+                        const struct text *recipients) {
+    peer_part x = a->target_key(table->s, n, recipients->s, recipients->n, true, false, 0);
+    peer_part y = b->target_key(table->s, n, recipients->s, recipients->n, true, false, 0);
+    return x.start == y.start && x.length == y.length;
+}
+
 /* Do two libraries answer the same to every call of a case, and leave the same behind? */
 static bool agree(const struct one_case *one, const struct library *a, const struct library *b) {
     bool same = true;
@@ -312,11 +338,13 @@ static bool agree(const struct one_case *one, const struct library *a, const str
             peer_advice x = a->recommend(left.s, n, first->s, first->n, true, false);
             peer_advice y = b->recommend(right.s, n, first->s, first->n, true, false);
             same = x.number == y.number && x.index == y.index && x.advice == y.advice;
-            if (a->target_key && b->target_key) {
-                peer_part p = a->target_key(left.s, n, first->s, first->n, true, false, 0);
-                peer_part q = b->target_key(right.s, n, first->s, first->n, true, false, 0);
-                same = same && p.start == q.start && p.length == q.length;
-            }
+            if (a->target_key && b->target_key) same = same && same_target(a, b, &left, n, first);
+        } else if (strcmp(one->kind, "quick") == 0) {
+            peer_quick x = a->recommend_quick(left.s, n, first->s, first->n, true, false);
+            peer_quick y = b->recommend_quick(right.s, n, first->s, first->n, true, false);
+            same = memcmp(&x, &y, sizeof x) == 0;
+        } else if (strcmp(one->kind, "target") == 0) {
+            same = same_target(a, b, &left, n, first);
         } else if (strcmp(one->kind, "check") == 0) {
             peer_answer x = a->check(left.s, n), y = b->check(right.s, n);
             same = x.number == y.number && x.index == y.index;

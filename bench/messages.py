@@ -6,8 +6,8 @@ writes one file for each case, and `cases.tsv`, which names for each file the ca
 of rows that it belongs to, the number that the group grows with, and the used slots of its table. A file holds a table and
 the arguments of calls, each with its length before it (four octets, little-endian): the table; the number of calls; for
 each call two texts (outer block and payload; recipients and nothing; address and key; nothing at all where the call
-takes a table alone). `process` asks for gossip, and `process-unset` says nothing about it. `convert` has nothing to do,
-and `convert-old` has: its table is put back before each call.
+takes a table alone). `process` asks for gossip, and `process-unset` says nothing about it. `target` asks for the key of
+the first recipient. `convert` has nothing to do, and `convert-old` has: its table is put back before each call.
 
 All messages of a case have the same instant as their Date, in many zones: an equal date replaces, so that a call writes
 the same key again each time and costs the same, however often it is repeated.
@@ -42,6 +42,9 @@ LIBRARIES = ["ours", "peer", "peer3"]
 BLOCKS = LIBRARIES + ["gmime", "memcpy"]
 CHECKS = LIBRARIES + ["read"]
 TABLE_ALONE = [(b"", b"")]
+
+# A recipient whom no table of the bench has, and who therefore gets disable.
+STRANGER = b'"Nobody" <nobody@unknown.example>'
 
 # Small letters of two octets each: for the vowels, and for all letters.
 ACCENTS = str.maketrans("aeiou", "áéíöü")
@@ -223,6 +226,15 @@ class Maker:
         return fields
 
 
+def with_stranger(recipients: list[bytes], place: int | None) -> list[bytes]:
+    """The last recipient gives way to the stranger, who stands at the place, counted from 1; nobody does where there is none.
+    So a list has the same octets wherever he stands, and costs the same to read."""
+    if place is None:
+        return recipients
+    rest = recipients[:-1]
+    return rest[:place - 1] + [STRANGER] + rest[place - 1:]
+
+
 def without_autocrypt(block: bytes) -> bytes:
     """The same block without its Autocrypt field."""
     before, field = block.split(b"Autocrypt: addr=", 1)
@@ -281,6 +293,25 @@ def long_local_parts(n: int, letters: int) -> list[bytes]:
 def long_names(n: int) -> list[bytes]:
     """Addresses of 254 octets that differ in their last octets only."""
     return [b"a" * 64 + b"@" + (b"b" * 63 + b".") * 2 + b"b" * 57 + b"%04d" % i for i in range(n)]
+
+
+def quick_cases(make: Maker, few: bool):
+    """A quick answer for 100 recipients: the first disable at a place or nowhere, and at the last place with a comma behind,
+    so that the list is refused. `recommend` on the very same lists, and the call for a target key on those that are refused,
+    which it only reads. And the growth with the place."""
+    table = make.table(256)
+    lists = [[make.named(address) for address in make.people(make.addresses, 100)] for _ in range(8)]
+
+    def calls(place: int | None, tail: bytes = b"") -> list[tuple[bytes, bytes]]:
+        return [(b", ".join(with_stranger(one, place)) + tail, b"") for one in lists]
+
+    refused = calls(100, b",")
+    for where, told in (("at-1", calls(1)), ("at-50", calls(50)), ("nowhere", calls(None)), ("refused", refused)):
+        for call in ("quick", "recommend"):
+            yield f"{call}-{where}", 256, 256, call, LIBRARIES, table, told
+    yield "target-refused", 256, 256, "target", LIBRARIES, table, refused
+    for place in (1, 20) if few else (1, 2, 5, 10, 20, 35, 50, 75, 100):
+        yield "grow-quick", place, 256, "quick", LIBRARIES, table, calls(place)
 
 
 def cases(few: bool):
@@ -380,6 +411,9 @@ def cases(few: bool):
         field = make.small_gossip(other)
         calls = [(outer, field * (BLOCK_LIMIT // len(field)))]
         yield "hostile-coded-tags", BLOCK_LIMIT // len(field), 256, "process", LIBRARIES, table, calls
+
+    # New rows come last, so that those above draw the same random numbers as before.
+    yield from quick_cases(make, few)
 
 
 def counted(octets: bytes) -> bytes:

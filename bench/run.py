@@ -27,6 +27,14 @@ ROOT = BENCH.parent
 BUILD = ROOT / "build" / "bench"
 RECEIPT = 1_700_000_000
 SIZES = [1, 16, 64, 256]
+# The calls with 100 recipients: those for an advice, and the one that only reads a list with a fault.
+QUICK = {
+    **{f"{call}-{where}": f"{call}, 100 recipients, {words}"
+       for where, words in (("at-1", "first disable at place 1"), ("at-50", "first disable at place 50"),
+                            ("nowhere", "no disable"), ("refused", "a fault at the end"))
+       for call in ("quick", "recommend")},
+    "target-refused": "target key, 100 recipients, a fault at the end",
+}
 CALLS = {
     "key": "process, with a key",
     "keyless": "process, without a key",
@@ -35,6 +43,7 @@ CALLS = {
     "unasked-bare": "process, the same mails without their payload",
     "recommend-1": "recommend, 1 recipient",
     "recommend-20": "recommend, 20 recipients",
+    **QUICK,
     "check": "check of the whole table",
     "check-accents": "check of the same with accents in each address",
     "check-cyrillic": "check of the same with Cyrillic addresses",
@@ -52,6 +61,7 @@ GROWTHS = {
     "grow-check": ("used slots, check of the whole table", "slot"),
     "grow-gossip": ("gossip fields of three octets of key, 15 recipients, 16 used slots", "field"),
     "grow-recipients": ("recipients, 256 used slots", "recipient"),
+    "grow-quick": ("the place of the first disable among 100 recipients, 256 used slots", "place"),
 }
 HOSTILE = {
     "hostile-listed": "10,000 recipients in 60 KB, 64 KB of gossip about the last 255 of them",
@@ -299,6 +309,21 @@ def python_table(times: Times) -> str:
     return markdown(head, rows)
 
 
+def above_check(counts: Times, group: str, program: str) -> float | None:
+    """The instructions of a row of 256 slots, without those of the check of its table."""
+    whole, check = counts.get((f"{group}.256", program)), counts.get(("check.256", program))
+    return None if whole is None or check is None else whole - check
+
+
+def quick_table(counts: Times) -> str:
+    """100 recipients on 256 slots, without what each call pays before it reads the list."""
+    rows = []
+    for group, words in QUICK.items():
+        ours, peer = (above_check(counts, group, program) for program in ("ours", "peer"))
+        rows.append([words, short(ours), short(peer), short(ratio(ours, peer))])
+    return markdown(["instructions above the check", "ours", "C -O2", "ours / C"], rows)
+
+
 def targets(times: Times, counts: Times) -> str:
     """What is aimed at, beside what was measured."""
     rows: list[list[str]] = []
@@ -336,6 +361,10 @@ def targets(times: Times, counts: Times) -> str:
         aim_at_both("convert, nothing to do: {} / of check", used, f"convert.{used}", f"check.{used}", 1.1)
     for name, words in (("accents", "addresses with accents"), ("cyrillic", "Cyrillic addresses")):
         aim_at_both(f"convert, nothing to do, {words}: {{}} / of check", 256, f"convert-{name}.256", f"check-{name}.256", 1.1)
+    for words, above, below, limit in (("first disable at place 1: {} / of reading the list", "quick-at-1", "target-refused", 1.1),
+                                       ("no disable: {} / of recommend", "quick-nowhere", "recommend-nowhere", 1.02)):
+        aim("quick, " + words.format("instructions above the check"), 256,
+            ratio(above_check(counts, above, "ours"), above_check(counts, below, "ours")), limit, True)
     return markdown(["target", "slots", "wanted", "measured", ""], rows)
 
 
@@ -449,7 +478,8 @@ def report(data: Path, passes: int, record: bool) -> None:
     head = f"Measured: {machine()}; best of {passes} interleaved passes; CPU time."
     missing = [] if ("key.64", "ours") in times else [
         "**To be filled by a run with the finished library: rows of ours with `-` were not there when this was measured.**"]
-    text = "\n\n".join([head] + missing + [main_table(cases, times, counts), python_table(times), targets(times, counts), sentences])
+    text = "\n\n".join([head] + missing + [main_table(cases, times, counts), python_table(times), quick_table(counts),
+                                             targets(times, counts), sentences])
     (BUILD / "table.md").write_text(text + "\n")
     print(text)
     if record:

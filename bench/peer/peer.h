@@ -9,6 +9,7 @@
 
 typedef struct { uint32_t number; uint32_t index; } peer_answer;
 typedef struct { uint32_t number; uint32_t index; uint32_t advice; } peer_advice;
+typedef struct { uint32_t number; uint32_t index; uint32_t advice; uint32_t looked_up; } peer_quick;
 typedef struct { uint64_t start; uint64_t length; } peer_part;
 typedef struct { uint64_t number; uint64_t length; } peer_written;
 
@@ -22,6 +23,9 @@ peer_answer peer_process(uint8_t *table, size_t table_length, uint64_t receipt,
 
 peer_advice peer_recommend(const uint8_t *table, size_t table_length,
                            const uint8_t *recipients, size_t recipients_length, bool mutual, bool reply);
+
+peer_quick peer_recommend_quick(const uint8_t *table, size_t table_length,
+                                const uint8_t *recipients, size_t recipients_length, bool mutual, bool reply);
 
 peer_part peer_target_key(const uint8_t *table, size_t table_length,
                           const uint8_t *recipients, size_t recipients_length, bool mutual, bool reply, uint64_t place);

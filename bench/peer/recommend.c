@@ -21,7 +21,7 @@ static uint32_t advice_for(const uint8_t *slot, bool mutual, bool reply) {
     return mutual && slot[BITS_AT] & MUTUAL ? ENCRYPT : AVAILABLE;
 }
 
-/* What both calls do first: the number of recipients, with the answer's number where it is 0. */
+/* What all calls here do first: the number of recipients, with the answer's number where it is 0. */
 static long opened(struct book *book, peer_answer *answer, const uint8_t *table, size_t table_length,
                    const uint8_t *recipients, size_t n, struct span *found) {
     *answer = open_book(book, table, table_length);
@@ -32,20 +32,28 @@ static long opened(struct book *book, peer_answer *answer, const uint8_t *table,
     return 0;
 }
 
-peer_advice peer_recommend(const uint8_t *table, size_t table_length,
-                           const uint8_t *recipients, size_t recipients_length, bool mutual, bool reply) {
+/* The lowest advice decides (A5), and none is lower than disable: whoever stands behind the first is not looked up. */
+peer_quick peer_recommend_quick(const uint8_t *table, size_t table_length,
+                                const uint8_t *recipients, size_t recipients_length, bool mutual, bool reply) {
     struct book book;
     struct span found[RECIPIENTS_LIMIT];
     peer_answer answer;
-    uint32_t given[ENCRYPT + 1] = {0};
+    uint32_t least = ENCRYPT, looked_up = 0;
     long count = opened(&book, &answer, table, table_length, recipients, recipients_length, found);
 
-    if (count == 0) return (peer_advice){answer.number, answer.index, REFUSED};
-    for (long i = 0; i < count; i++) {
-        given[advice_for(slot_of(&book, table, recipients + found[i].at, found[i].length), mutual, reply)]++;
+    if (count == 0) return (peer_quick){answer.number, answer.index, REFUSED, 0};
+    while (looked_up < count && least != DISABLE) {
+        const struct span *one = &found[looked_up++];
+        uint32_t advice = advice_for(slot_of(&book, table, recipients + one->at, one->length), mutual, reply);
+        if (advice < least) least = advice;
     }
-    uint32_t advice = given[DISABLE] ? DISABLE : given[ENCRYPT] == count ? ENCRYPT : given[DISCOURAGE] ? DISCOURAGE : AVAILABLE;
-    return (peer_advice){0, 0, advice};
+    return (peer_quick){0, 0, least, looked_up};
+}
+
+peer_advice peer_recommend(const uint8_t *table, size_t table_length,
+                           const uint8_t *recipients, size_t recipients_length, bool mutual, bool reply) {
+    peer_quick quick = peer_recommend_quick(table, table_length, recipients, recipients_length, mutual, reply);
+    return (peer_advice){quick.number, quick.index, quick.advice};
 }
 
 peer_part peer_target_key(const uint8_t *table, size_t table_length,

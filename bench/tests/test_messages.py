@@ -1,4 +1,4 @@
-"""The tables of the bench are what its rows say of them."""
+"""The tables of the bench, and its lists with a disable, are what its rows say of them."""
 import sys
 import unittest
 from dataclasses import replace
@@ -8,15 +8,18 @@ ROOT = Path(__file__).resolve().parents[2]
 sys.path += [str(ROOT / "bench"), str(ROOT / "tests" / "independent")]
 
 from messages import cases  # noqa: E402
-from scope import conversion, table as tables  # noqa: E402
+from scope import conversion, recommending, table as tables  # noqa: E402
 from scope.address import canonical  # noqa: E402
+from scope.recommending import DISABLE, DISCOURAGE, REFUSED  # noqa: E402
 
 
 class Tables(unittest.TestCase):
     @classmethod
     def setUpClass(cls):
-        cls.made = [(f"{group}.{number}", call, used, table) for group, number, used, call, _, table, _ in cases(few=True)]
+        rows = list(cases(few=True))
+        cls.made = [(f"{group}.{number}", call, used, table) for group, number, used, call, _, table, _ in rows]
         cls.tables = {name: table for name, _, _, table in cls.made}
+        cls.lists = {f"{group}.{number}": [first for first, _ in calls] for group, number, *_, calls in rows}
 
     def entries(self, name: str) -> list[tables.Entry]:
         return tables.entries(self.tables[name])
@@ -57,6 +60,26 @@ class Tables(unittest.TestCase):
         self.assertEqual(len(free), 32)
         # Some of them had the capital, and with others the slot had it that they were merged into.
         self.assertEqual({i % 8 for i in free}, {0, 7})
+
+    def test_first_disable_A13(self):
+        """It stands where the row says, and last where the list has a fault, which is one octet more. Otherwise a list has the
+        same octets wherever it stands. The other calls are given the same lists."""
+        answers = {"quick-at-1.256": (0, 0, DISABLE, 1), "quick-at-50.256": (0, 0, DISABLE, 50),
+                   "quick-nowhere.256": (0, 0, DISCOURAGE, 100), "quick-refused.256": (10, 0, REFUSED, 0),
+                   "grow-quick.1": (0, 0, DISABLE, 1), "grow-quick.20": (0, 0, DISABLE, 20)}
+        self.assertEqual({name for name, call, _, _ in self.made if call == "quick"}, set(answers))
+        for name, answer in answers.items():
+            for recipients in self.lists[name]:
+                self.assertEqual(recommending.quick(self.tables[name], recipients, True, False), answer, name)
+            if name.startswith("quick"):
+                self.assertEqual(self.lists[name.replace("quick", "recommend")], self.lists[name], name)
+        refused = self.lists["quick-refused.256"]
+        self.assertEqual(self.lists["target-refused.256"], refused)
+        readable = [recipients[:-1] for recipients in refused]
+        for recipients in readable:
+            self.assertEqual(recommending.quick(self.tables["quick-refused.256"], recipients, True, False), (0, 0, DISABLE, 100))
+        for name in ("quick-at-1.256", "quick-at-50.256"):
+            self.assertEqual([sorted(octets) for octets in self.lists[name]], [sorted(octets) for octets in readable], name)
 
 
 if __name__ == "__main__":

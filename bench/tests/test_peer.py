@@ -33,7 +33,7 @@ class Program:
 
     def __init__(self, peer: Library):
         self.check, self.convert, self.process = peer.check, peer.convert, peer.process
-        self.recommend, self.target_key = peer.recommend, peer.target_key
+        self.recommend, self.quick, self.target_key = peer.recommend, peer.recommend_quick, peer.target_key
         self.peer = peer
 
     def written(self, call, *words) -> tuple[int, bytes]:
@@ -83,6 +83,10 @@ class PeerTest(unittest.TestCase):
 
     def test_recommend(self):
         seen = self.same(self.cases.recommending, recommending.recommend, self.peer.recommend)
+        self.assertEqual(seen, {0, 1, 2, 10})
+
+    def test_quick_A12_A13(self):
+        seen = self.same(self.cases.quick, recommending.quick, self.peer.recommend_quick)
         self.assertEqual(seen, {0, 1, 2, 10})
 
     def test_target_key(self):
