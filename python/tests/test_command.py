@@ -282,44 +282,32 @@ def test_help_names_the_keys_of_json(imported):
         assert ("number" in keys) == (command in ("check", "convert"))
 
 
-def test_help_of_import_tells_where_blocks_and_times_come_from():
-    text = " ".join(answer("import", "--help").decode().split())
-    for words in ("up to and including the first empty line", "'From ' line", "file's time", "--receipt", "no gossip is taken"):
-        assert words in text
-
-
-def test_help_of_import_tells_of_the_lock():
-    text = " ".join(answer("import", "--help").decode().split())
-    for words in (".NAME.lock", "says so after a second", "with --no-wait it fails at once"):
-        assert words in text
-
-
-def test_help_of_convert_tells_what_it_counts_and_what_it_leaves():
-    text = " ".join(answer("convert", "--help").decode().split())
-    for words in (
-        "as renamed, those that hold an entry with another spelling", "as merged, those that became free",
-        "only where something changes", "What is refused stays as it is", "with --no-wait such a file fails at once",
-    ):  # fmt: skip
-        assert words in text
-
-
-def test_help_of_display_tells_what_is_shown_and_what_is_not():
-    text = " ".join(answer("display", "--help").decode().split())
-    for words in (
-        "What is shown can be typed in place of the address", "a label stays as it is where it does not decode",
-        "escaped with a backslash", "letters of several scripts look alike", "is refused (9)",
-    ):  # fmt: skip
-        assert words in text
-    assert "--display" in answer("list", "--help").decode()
-
-
-def test_help_of_recommend_tells_what_is_counted():
-    text = " ".join(answer("recommend", "--help").decode().split())
-    for words in (
+# What the help of a command has to tell beyond its options.
+TOLD = {
+    "import": [
+        "up to and including the first empty line", "'From ' line", "file's time", "--receipt", "no gossip is taken",
+        ".NAME.lock", "says so after a second", "with --no-wait it fails at once",
+    ],
+    "list": ["--display"],
+    "recommend": [
         "none behind the first without a key", "as in 'disable 2'", "counted from 1", "it is one less",
         "else the length of the list", "read to its end all the same",
-    ):  # fmt: skip
-        assert words in text
+    ],
+    "convert": [
+        "as renamed, those that hold an entry with another spelling", "as merged, those that became free",
+        "only where something changes", "What is refused stays as it is", "with --no-wait such a file fails at once",
+    ],
+    "display": [
+        "What is shown can be typed in place of the address", "a label stays as it is where it does not decode",
+        "escaped with a backslash", "letters of several scripts look alike", "is refused (9)",
+    ],
+}  # fmt: skip
+
+
+@pytest.mark.parametrize("command", TOLD)
+def test_help_tells(command):
+    text = " ".join(answer(command, "--help").decode().split())
+    assert [words for words in TOLD[command] if words not in text] == []
 
 
 def test_the_console_script_is_the_same():
