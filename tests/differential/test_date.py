@@ -1,11 +1,31 @@
-"""Crate date against the independent program: good dates, each part at both ends of its limit, damaged ones."""
+"""Crates date and calendar against the independent program: good dates, each part at both ends of its limit, damaged
+ones, and the days of all years."""
 import unittest
+from collections.abc import Iterator
 
 from against import Cases
 from scope import date
 from probe import SEED, Probe
 
 MONTHS = b"Jan Feb Mar Apr May Jun Jul Aug Sep Oct Nov Dec".split()
+
+
+def months(first: int, last: int) -> Iterator[tuple[int, int, int, int]]:
+    """Each month of the years: year, month, its length, and the days from 1970 to its first day. The days are counted
+    along, since the independent program's walk begins anew for every date; that walk gives the first count, and must
+    agree with the last."""
+    days = date.days_from_1970(first, 1, 1)
+    for year in range(first, last + 1):
+        for month in range(1, 13):
+            length = date.days_in_month(year, month)
+            yield year, month, length, days
+            days += length
+    assert days == date.days_from_1970(last + 1, 1, 1)
+
+
+def midnight(days: int) -> int:
+    """The Date of midnight in UTC, so many days after 1970; before 1970 it is 0, and shows only that the day is there (D13)."""
+    return max(days * date.DAY, 0)
 
 
 class Date(unittest.TestCase):
@@ -33,6 +53,23 @@ class Date(unittest.TestCase):
             for month in MONTHS:
                 for day in (0, 1, 28, 29, 30, 31, 32):
                     self.same(b"%d %s %04d 00:00:00 +0000" % (day, month, year))
+
+    def day(self, year: int, month: int, day: int) -> int | None:
+        """What the library reads for midnight of a day, in UTC."""
+        return self.probe.date(b"%d %s %d 00:00 +0000" % (day, MONTHS[month - 1], year))
+
+    def test_every_month_D8_D13(self):
+        """In all years that can be written: the first day of a month, its 28th, its last, and the one behind that."""
+        for year, month, length, days in months(1900, 9999):
+            for day in (1, 28, length):
+                self.assertEqual(self.day(year, month, day), midnight(days + day - 1), (year, month, day))
+            self.assertIsNone(self.day(year, month, length + 1), (year, month))
+
+    def test_every_day_of_a_cycle_D8_D13(self):
+        """After 400 years the calendar begins again."""
+        for year, month, length, days in months(2000, 2399):
+            for day in range(1, length + 1):
+                self.assertEqual(self.day(year, month, day), midnight(days + day - 1), (year, month, day))
 
     def test_numbers(self):
         """Each number, with each count of digits, around its limits."""

@@ -53,6 +53,10 @@ DATES = [
     b"(a)1(b)Jan(c)2001(d)00(e):(f)00(g):(h)00(i)+0000(j)", b"1 Jan 2001 00:00 GMT (\x01)", b"1 Jan 2001 00:00 GMT\r", b"",
 ]
 
+# D8, D9: the turns of centuries, both ends of a cycle of 400 years, of the years that can be written and of those before
+# 1970, and texts that are no year
+YEARS = [b"1900", b"1969", b"1999", b"2000", b"2099", b"2100", b"2399", b"2400", b"9999", b"1899", b"10000"]
+
 # How many code points a case may have, and how many octets their code.
 ROOM = 256
 
@@ -105,6 +109,13 @@ def answer(kind: bytes, text: bytes) -> bytes:
     if kind in (b"k", b"q"):
         place = tokens.skip(text, 0) if kind == b"k" else tokens.quoted(text, 0)
         return (b"unreadable" if place is None else b"%d" % place) + b"\n"
+    if kind == b"y":
+        year = date.year_of(text)
+        if year is None:
+            return b"no year\n"
+        first = date.days_from_1970(1900, 1, 1)
+        months = [(date.days_from_1970(year, month, 1) - first, date.days_in_month(year, month)) for month in range(1, 13)]
+        return b"".join(b"%d %d\n" % month for month in months)
     if kind == b"p":
         points = utf8.points(text)
         if points is None:
@@ -121,7 +132,7 @@ def answer(kind: bytes, text: bytes) -> bytes:
 
 
 def cases() -> list[tuple[bytes, bytes]]:
-    kinds = ((b"b", TEXTS), (b"e", KEYS), (b"k", COMMENTS), (b"q", QUOTED), (b"d", DATES), (b"p", SCRIPTS), (b"u", CODES))
+    kinds = ((b"b", TEXTS), (b"e", KEYS), (b"k", COMMENTS), (b"q", QUOTED), (b"d", DATES), (b"y", YEARS), (b"p", SCRIPTS), (b"u", CODES))
     return [(kind, text) for kind, texts in kinds for text in texts]
 
 

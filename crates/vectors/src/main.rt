@@ -4,6 +4,7 @@
 //     k TEXT   the place behind the spaces, tabs and comments that open the text (L2); or unreadable
 //     q TEXT   the place behind the quoted string whose opening quote opens the text (L3); or unreadable
 //     d TEXT   a Date value (page D), in seconds since 1970; or unavailable
+//     y TEXT   a year (D9): of each month, the days from 1 January 1900 to its first day, and its length (D8); or no year
 //     p TEXT   the Punycode of the code points of a text in UTF-8, put into lower case (L21, L23); or ill-formed, or no room
 //     u TEXT   the code points that a Punycode text decodes to (L23), as octets of UTF-8 in hexadecimal; or nothing, or no room
 // What it must print stands in `stdout`, as the independent program printed it.
@@ -14,6 +15,9 @@ ghost use lib.ListN.{length};
 ghost use Rattle.utf8.specs.Utf8.{scalars};
 ghost use Rattle.coder.specs.Steps.{Points};
 use codepoints::Read;
+use datewords::meaning;
+use datewords::meaning::Meaning;
+use datewords::meaning::Place;
 use decoder::Decoded;
 use libc::STDOUT_FILENO;
 use octets::Laid;
@@ -92,6 +96,32 @@ fn run_date(text: &[u8]) {
     }
 }
 
+fn print_month(year: u64, month: u64)
+    requires { ⌜ (1900 ≤ year) × (year ≤ 9999) ⌝ }
+    requires { ⌜ (1 ≤ month) × (month ≤ 12) ⌝ }
+{
+    io::print_decimal(STDOUT_FILENO, calendar::day_count(year, month, 1));
+    print(b" ");
+    print_number(calendar::month_length(year, month));
+}
+
+fn print_year(year: u64)
+    requires { ⌜ (1900 ≤ year) × (year ≤ 9999) ⌝ }
+{
+    let mut month = 1;
+    while month <= 12 {
+        print_month(year, month);
+        month += 1;
+    }
+}
+
+fn run_year(text: &[u8]) {
+    match meaning::meant(Place::Year, text) {
+        Meaning::Value(year) => print_year(year),
+        Meaning::Nothing => print(b"no year\n"),
+    }
+}
+
 fn print_line(s: &[u8]) {
     print(s);
     print(b"\n");
@@ -149,6 +179,7 @@ fn run(line: &[u8]) {
         b'k' => print_place(tokens::skip(text, 0)),
         b'q' => print_place(tokens::quoted(text, 1)),
         b'd' => run_date(text),
+        b'y' => run_year(text),
         b'p' => run_code(text),
         b'u' => run_points(text),
         _ => print(b"?\n"),
