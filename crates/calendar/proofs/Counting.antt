@@ -1,20 +1,19 @@
--- The calendar: leap years, the table of the months, and the two walks that count days.
---     leap-.., month-..             a test or a place of the table, and what the definition says
---     leapDay-small, monthLength-small, year-bound, month-bound, day-bound     bounds, so that no sum wraps
---     Walked                        the invariant of both walks: the days of the k years or months passed
+-- The calendar: leap years, the lengths of the months, and how many days there can be.
+--     leap-.., leapDay-..     the tests of a year, and what the definition says
+--     each-month              what is computed for the twelve months
+--     month-..                the length of a month
+--     monthLength-small, year-bound, month-bound, day-bound     bounds, so that no sum wraps
 -- Assumes nothing.
-use Prim.Native.Nat.{ℕ, zero, suc, _+_, _-_, _*_, _%_, _≤_, _<_}
+use Prim.Native.Nat.{ℕ, zero, suc, _+_, _-_, _*_, _/_, _%_, _≤_}
 use mathlib.Core.Path.{_≡_, refl, sym, _∙_}
-use mathlib.Core.Bool.{Bool, true, false}
-use native.Mathlib.Numerals.{add-one}
+use mathlib.Core.Bool.{Bool, true, false, cond}
 use native.Mathlib.Omega.{arith}
-use mir.Val.{Fits}
-use mir.Syntax.{w64}
 use borrow.Author.Needs.{needs}
-use borrow.Author.Tests.{eq-eqb, ne-eqb}
+use borrow.Author.Tests.{eq-eqb, ne-eqb, eqb-true}
 use lib.Dec.{eqb}
 use lib.ListN.{getD}
 use Rattle.octets.proofs.Lists.{at-most}
+use Rattle.octets.proofs.Tests.{by-test, allBelow, all-below}
 use Rattle.calendar.specs.Calendar.{leap, leapDay, monthLengths, monthLength, yearDays, monthDays, dayCount}
 
 module _ (year : ℕ) where
@@ -35,34 +34,41 @@ module _ (year : ℕ) where
     unfolding leapDay
     leapDay-none q = rw (leapDay, sym e ∙ q)
 
-  module _ (month : ℕ) where
-    pub month-february : (n : ℕ) → n ≡ leapDay year → month ≡ 2 → 28 + n ≡ monthLength year month
-    unfolding monthLength
-    month-february n e h = rw (monthLength, eq-eqb _ _ h, e)
+    pub leapDay-by : (P : ℕ → Type 0) → (b ≡ true → P 1) → (b ≡ false → P 0) → P (leapDay year)
+    leapDay-by P t f = by-test b (λ q. rw (← leapDay-one q) (t q)) (λ q. rw (← leapDay-none q) (f q))
 
-    pub month-other : (month ≡ 2 → ⊥) → getD monthLengths (month - 1) 0 ≡ monthLength year month
-    unfolding monthLength
-    month-other h = rw (monthLength, ne-eqb _ _ h)
+  leapDay-small : leapDay year ≤ 1
+  leapDay-small = leapDay-by (leap year) refl (λ n. n ≤ 1) (λ q. omega arith) (λ q. omega arith)
 
--- no year has more than one leap day, no month more than 31 days
-leapDay-small : (year : ℕ) → leapDay year ≤ 1
-unfolding leapDay
-leapDay-small year = go (leap year) refl
-  where
-    go : (b : Bool) → leap year ≡ b → leapDay year ≤ 1
-    go true e = rw (leapDay, e) (omega arith)
-    go false e = rw (leapDay, e) (omega arith)
+-- two rules that agree on each of the twelve months, by computing them
+pub each-month :
+    (f g : ℕ → ℕ) → allBelow (λ k. eqb (f (k + 1)) (g (k + 1))) 12 ≡ true → (month : ℕ) → 1 ≤ month → month ≤ 12 → f month ≡ g month
+each-month f g q month h l =
+    let e : month - 1 + 1 ≡ month = omega arith in
+    let t : eqb (f (month - 1 + 1)) (g (month - 1 + 1)) ≡ true = all-below (λ k. eqb (f (k + 1)) (g (k + 1))) 12 q (month - 1) (omega arith) in
+    eqb-true (f month) (g month) (rw e at t)
 
-pub month-table : (month : ℕ) → getD monthLengths (month - 1) 0 ≤ 31
-month-table month = at-most 31 monthLengths (omega arith) (month - 1)
+month-rule :
+    (month : ℕ) → 1 ≤ month → month ≤ 12 → cond (eqb month 2) 28 (30 + (month + month / 8) % 2) ≡ getD monthLengths (month - 1) 0
+month-rule = each-month _ _ refl
+
+module _ (year month : ℕ) where
+  pub month-february : (n : ℕ) → n ≡ leapDay year → month ≡ 2 → 28 + n ≡ monthLength year month
+  unfolding monthLength
+  month-february n e h = rw (monthLength, eq-eqb _ _ h, e)
+
+  pub month-other : 1 ≤ month → month ≤ 12 → (month ≡ 2 → ⊥) → 30 + (month + month / 8) % 2 ≡ monthLength year month
+  unfolding monthLength
+  month-other f l h = rw (monthLength, ne-eqb _ _ h) (rw (ne-eqb month 2 h) at (month-rule month f l))
 
 pub monthLength-small : (year month : ℕ) → monthLength year month ≤ 31
 unfolding monthLength
-monthLength-small year month = go (eqb month 2) refl
-  where
-    go : (b : Bool) → eqb month 2 ≡ b → monthLength year month ≤ 31
-    go true e = rw (monthLength, e) (omega (arith, leapDay-small year))
-    go false e = rw (monthLength, e) (month-table month)
+monthLength-small year month =
+    by-test (eqb month 2)
+    (λ e. rw (monthLength, e) (omega (arith, leapDay-small year)))
+    (λ e. rw (monthLength, e) (at-most 31 monthLengths (omega arith) (month - 1)))
+
+pub ruleset calendar = (leap-hundred, leap-other, leapDay-one, leapDay-none, month-february, month-other, needs)
 
 pub year-bound : (k : ℕ) → yearDays k ≤ 366 * k
 unfolding yearDays
@@ -74,72 +80,6 @@ unfolding monthDays
 month-bound year zero = omega arith
 month-bound year (suc k) = omega (arith, month-bound year k, monthLength-small year (suc k))
 
-pub ruleset calendar =
-    (leap-hundred, leap-other, leapDay-one, leapDay-none, month-february, month-other, month-table, needs)
-
--- the days of the k years or months passed, of n, none longer than `most`
-pub record Walked (daysOf : ℕ → ℕ) (most n days k : ℕ) : Type 0 where
-  pub upto : k ≤ n
-  pub so-far : days ≡ daysOf k
-  pub room : days ≤ most * k
-
-module _ (daysOf : ℕ → ℕ) (most n : ℕ) where
-  set-out : daysOf 0 ≡ 0 → Walked daysOf most n 0 0
-  set-out e = record { upto = omega arith; so-far = sym e; room = omega arith }
-
-  module _ (days k : ℕ) (h : Walked daysOf most n days k) where
-    arrived : n ≤ k → days ≡ daysOf n
-    arrived l = let e : k ≡ n = omega (arith, h .upto) in rw (← e) (h .so-far)
-
-    one-more : (m : ℕ) → m ≤ most → k < n → daysOf (k + 1) ≡ daysOf k + m → Walked daysOf most n (days + m) (k + 1)
-    one-more m b l e = record { upto = omega arith; so-far = rw (e, h .so-far); room = omega (arith, h .room) }
-
-module _ (years : ℕ) where
-  pub no-year : Walked yearDays 366 years 0 0
-  unfolding yearDays
-  no-year = set-out yearDays 366 years refl
-
-  module _ (days k : ℕ) (h : Walked yearDays 366 years days k) where
-    pub year-done : years ≤ k → days ≡ yearDays years
-    year-done = arrived yearDays 366 years days k h
-
-    pub year-more : (n : ℕ) → n ≤ 1 → k < years → n ≡ leapDay (1900 + k) → Walked yearDays 366 years (days + (365 + n)) (k + 1)
-    unfolding yearDays
-    year-more n b l e = one-more yearDays 366 years days k h (365 + n) (omega arith) l (rw (add-one, yearDays, e))
-
-module _ (year months : ℕ) where
-  pub no-month : Walked (monthDays year) 31 months 0 0
-  unfolding monthDays
-  no-month = set-out (monthDays year) 31 months refl
-
-  module _ (days k : ℕ) (h : Walked (monthDays year) 31 months days k) where
-    pub month-done : months ≤ k → days ≡ monthDays year months
-    month-done = arrived (monthDays year) 31 months days k h
-
-    pub month-more : (n : ℕ) → n ≤ 31 → k < months → n ≡ monthLength year (k + 1) → Walked (monthDays year) 31 months (days + n) (k + 1)
-    unfolding monthDays
-    month-more n b l e = one-more (monthDays year) 31 months days k h n b l (rw (add-one, monthDays, e, add-one))
-
--- the whole count
-module _ (year month day y m : ℕ) (ey : y ≡ yearDays (year - 1900)) (em : m ≡ monthDays year (month - 1)) where
-  pub counted : y + m + (day - 1) ≡ dayCount year month day
-  unfolding dayCount
-  counted = rw (dayCount, ey, em)
-
-  module _ (hy : year ≤ 9999) (hm : month ≤ 12) where
-    small : y + m ≤ 3000000
-    small = omega (arith, year-bound (year - 1900), month-bound year (month - 1), ey, em)
-
-    pub years-fit : Fits w64 (y + m)
-    years-fit = record { fits = omega (arith, small) }
-
-    pub days-fit : day ≤ 31 → Fits w64 (y + m + (day - 1))
-    days-fit h = record { fits = omega (arith, small) }
-
 pub day-bound : (year month day : ℕ) → year ≤ 9999 → month ≤ 12 → day ≤ 31 → dayCount year month day ≤ 3000000
 unfolding dayCount
 day-bound year month day hy hm hd = omega (arith, year-bound (year - 1900), month-bound year (month - 1))
-
-pub ruleset walking = (no-year, year-done, year-more, no-month, month-done, month-more, needs)
-
-pub ruleset counting = (counted, years-fit, days-fit, needs)
