@@ -9,13 +9,13 @@ ghost use Rattle.attributes.specs.Steps.{addressAt, Stands, stated, Step
 use runs::Class;
 
 // Where something stands in the value: from the place `from` up to the place `to`.
-struct Bounds {
-    from: usize,
-    to: usize,
+pub struct Bounds {
+    pub from: usize,
+    pub to: usize,
 }
 
 // The names that a field knows, and the others: ignored or unknown (F5).
-enum Name {
+pub enum Name {
     Addr,
     PreferEncrypt,
     Keydata,
@@ -85,7 +85,7 @@ fn leave_blanks(s: &[u8], from: usize, to: usize) -> usize
 }
 
 // The places that are left when the blanks at both ends are taken off (F2).
-fn trim(s: &[u8], from: usize, to: usize) -> Bounds
+pub fn trim(s: &[u8], from: usize, to: usize) -> Bounds
     requires { ⌜ Within (now s) from to ⌝ }
     ensures { λ r. ⌜ Trimmed (now (s .entry)) from to r ⌝ }
 {
@@ -98,7 +98,7 @@ fn trim(s: &[u8], from: usize, to: usize) -> Bounds
 }
 
 // Which name it is. Names are compared octet by octet (F4).
-fn name_of(name: &[u8]) -> Name
+pub fn name_of(name: &[u8]) -> Name
     ensures { λ r. ⌜ r ≡ nameOf (now (name .entry)) ⌝ }
 {
     if octets::same(name, b"addr") {

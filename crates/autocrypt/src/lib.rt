@@ -7,7 +7,8 @@
 //     target_key, target_part                  the keys to encrypt to (A6)
 //     write_autocrypt, write_gossip            write a field for a mail to be sent (W1)
 //     display                                  an address as it is shown (W11)
-//     Answer, Recommended, Written             what calls answer, each with a case for a refusal
+//     lint                                     what is wrong with the fields of a mail to be sent (O1)
+//     Answer, Recommended, Written, Linted     what calls answer, each with a case for a refusal
 //     Quick                                    the answer of recommend_quick, with its count (A13)
 //     Advice, Part                             an advice (A1), and a part of a table (A6)
 //     Refusal, number, index                   why a call refuses, its number, and the index that comes with 2 (R33)
@@ -21,6 +22,8 @@ pub use convert::convert;
 pub use display::display;
 pub use inspect::check;
 pub use inspect::entry;
+pub use lint::Linted;
+pub use lint::lint;
 pub use process::process;
 pub use recommend::Quick;
 pub use recommend::Recommended;

@@ -2,12 +2,14 @@
 --     Run              what `write_groups` answers: a text has been read a way, and its octets are written
 --     NoneFit          what is refused: octets that have no room, or none at all
 --     Turned           what `write_next` answers
+--     Passed           what `pass_groups` answers
 use Prim.Native.Nat.{ℕ, _+_, _-_, _<_, _≤_}
 use mathlib.Core.Path.{_≡_}
 use mathlib.Core.List.{List}
 use mathlib.Core.Option.{Option, some}
 use lib.ListN.{length, drop}
 use Rattle.octets.specs.Octets.{withoutBlanks}
+use Rattle.octets.specs.Options.{isSome}
 use Rattle.octets.specs.Written.{putAt}
 use Rattle.letters.specs.Base64.{before, decode}
 use Rattle.base64.specs.declared.Turn.{Turn}
@@ -39,3 +41,9 @@ TurnedTo s at d to out Refused = NoneFit (decode (withoutBlanks (drop at s))) (l
 pub record Turned (s : List ℕ) (at : ℕ) (d : List ℕ) (to : ℕ) (out : List ℕ) (r : Turn) : Type 0 where
   pub same : length out ≡ length d
   pub says : TurnedTo s at d to out r
+
+-- s is Base64 from the place `at` on exactly where it is from the place i on
+pub record Passed (s : List ℕ) (at i : ℕ) : Type 0 where
+  pub same : isSome (decode (withoutBlanks (drop at s))) ≡ isSome (decode (withoutBlanks (drop i s)))
+  pub onward : at ≤ i
+  pub upto : i ≤ length s

@@ -1,15 +1,17 @@
-// Base64 as key data has it (SCOPE, F9): a text is decoded with its blanks left out. What is right is said by `decode` of
-// letters/specs/Base64.antt. Octets are written as the lines of a field by the crate `keylines`.
+// Base64 as key data has it (SCOPE, F9): a text is decoded with its blanks left out, or it is only asked whether it is Base64.
+// What is right is said by `decode` of letters/specs/Base64.antt. Octets are written as the lines of a field by the crate
+// `keylines`.
 ghost use Prim.Native.Nat.{_+_, _≤_};
 ghost use mathlib.Core.Path.{_≡_};
 ghost use mathlib.Core.List.{[], _∷_};
 ghost use lib.ListN.{length, drop};
 ghost use Rattle.octets.specs.Octets.{withoutBlanks};
+ghost use Rattle.octets.specs.Options.{isSome};
 ghost use Rattle.octets.specs.Written.{putAt};
 ghost use Rattle.letters.specs.Base64.{decode as octetsOf};
 ghost use Rattle.letters.specs.Tables.{Signs};
 ghost use Rattle.base64.specs.Answers.{decodedOf, Decodes};
-ghost use Rattle.base64.specs.Steps.{Run, Turned};
+ghost use Rattle.base64.specs.Steps.{Run, Turned, Passed};
 use groups::Next;
 use groups::Whole;
 use runs::Class;
@@ -134,4 +136,48 @@ pub fn decode(src: &[u8], out: &mut [u8]) -> Decoded
 {
     let table = letters::signs();
     write(&table, src, out)
+}
+
+// How far the groups go from the place `at` on, behind blanks, as long as each is four letters side by side.
+fn pass_groups(table: &[u8; 256], src: &[u8], at: usize) -> usize
+    requires { ⌜ Signs (now table) × (at ≤ length (now src)) ⌝ }
+    ensures { λ r. ⌜ Passed (now (src .entry)) at r ⌝ }
+{
+    let mut i = runs::run_end(src, at, Class::Blank);
+    loop {
+        match groups::whole_group(table, src, i) {
+            Whole::Three(_, _, _) => i += 4,
+            Whole::Other => return i,
+        }
+    }
+}
+
+// Is the text Base64 from its beginning to its end?
+fn is_whole(table: &[u8; 256], src: &[u8]) -> bool
+    requires { ⌜ Signs (now table) ⌝ }
+    ensures { λ r. ⌜ r ≡ isSome (octetsOf (withoutBlanks (now (src .entry)))) ⌝ }
+{
+    let mut i: usize = 0;
+    loop {
+        let from = i;
+        i = pass_groups(table, src, from);
+        if from < i {
+            continue;
+        }
+        match groups::next_group(table, src, i) {
+            Next::Three(_, _, _, behind) => i = behind,
+            Next::Two(_, _) => return true,
+            Next::One(_) => return true,
+            Next::End => return true,
+            Next::Broken => return false,
+        }
+    }
+}
+
+// Is the text Base64, with spaces and tabs anywhere, of whatever length?
+pub fn is_base64(src: &[u8]) -> bool
+    ensures { λ r. ⌜ r ≡ isSome (octetsOf (withoutBlanks (now (src .entry)))) ⌝ }
+{
+    let table = letters::signs();
+    is_whole(&table, src)
 }

@@ -1,10 +1,11 @@
--- SCOPE, R33, R34, G1, A1, A6 and A12: answers in numbers, as C has them.
+-- SCOPE, R33, R34, G1, A1, A6, A12 and O1: answers in numbers, as C has them.
 --     inNumbers                        the number of a refusal, and the index that comes with 2; 0 and 0 where there is none
 --     writtenInNumbers                 the length of the field; a refusal has none, and 0 stands for that
 --     settingOf                        the gossip setting
 --     adviceNumber, adviceInNumbers    the advice, 0 where the call refuses
 --     quickInNumbers                   the advice and how many recipients were looked up
 --     partInNumbers                    a part of the table
+--     lintedInNumbers                  how many faults there are, 0 where the call refuses
 use Prim.Native.Nat.{ℕ}
 use mathlib.Core.Bool.{true, false}
 use lib.Dec.{eqb}
@@ -21,8 +22,11 @@ use Rattle.recommend.specs.declared.Recommended.{Recommended}
 use Rattle.recommend.specs.declared.Recommended.the-variants.{Done as Advised, Refused as NotAdvised}
 use Rattle.write.specs.declared.Written.{Written as Writing}
 use Rattle.write.specs.declared.Written.the-variants.{Done as Wrote, Refused as NotWritten}
+use Rattle.lint.specs.declared.Linted.{Linted as Linting}
+use Rattle.lint.specs.declared.Linted.the-variants.{Done as Looked, Refused as NotLooked}
 use Rattle.cabi.specs.declared.numbers.Answer.{Answer}
 use Rattle.cabi.specs.declared.numbers.Advice.{Advice}
+use Rattle.cabi.specs.declared.numbers.Linted.{Linted}
 use Rattle.cabi.specs.declared.numbers.Part.{Part}
 use Rattle.cabi.specs.declared.numbers.Quick.{Quick}
 use Rattle.cabi.specs.declared.numbers.Written.{Written}
@@ -62,3 +66,8 @@ quickInNumbers q =
 -- A6: start and length of a part, counted from the table's first octet
 unfoldable pub partInNumbers : Place → Part
 partInNumbers p = record { start = p .start; length = p .length }
+
+-- O1: 0 and how many faults there are, or the number of the refusal and the count 0
+unfoldable pub lintedInNumbers : Linting → Linted
+lintedInNumbers (Looked n) = record { number = 0; count = n }
+lintedInNumbers (NotLooked r) = record { number = numberOf r; count = 0 }

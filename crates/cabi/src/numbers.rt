@@ -2,7 +2,8 @@
 ghost use Prim.Native.Nat.{_≤_};
 ghost use mathlib.Core.Path.{_≡_};
 ghost use Rattle.recommend.specs.Recommending.{mostRecipients};
-ghost use Rattle.cabi.specs.Numbers.{inNumbers, writtenInNumbers, adviceNumber, adviceInNumbers, quickInNumbers, partInNumbers};
+ghost use Rattle.lint.specs.Linting.{FewFaults};
+ghost use Rattle.cabi.specs.Numbers.{inNumbers, writtenInNumbers, adviceNumber, adviceInNumbers, quickInNumbers, partInNumbers, lintedInNumbers};
 
 // vienghulac_answer: 0 or the number of a refusal, and the index of a slot with 2, else 0 (R33).
 #[repr(C)]
@@ -40,6 +41,13 @@ pub struct Quick {
 pub struct Part {
     pub start: u64,
     pub length: u64,
+}
+
+// vienghulac_linted: 0 and how many faults there are, or the number of a refusal and 0 (O1).
+#[repr(C)]
+pub struct Linted {
+    pub number: u32,
+    pub count: u32,
 }
 
 // R33: the number of a refusal and the index that it carries, 0 and 0 where there is none.
@@ -126,5 +134,22 @@ pub fn part_in_numbers(part: autocrypt::Part) -> Part
     Part {
         start: part.start as u64,
         length: part.length as u64,
+    }
+}
+
+// O1: how many faults there are, which is a number of 32 bits by O11; with a refusal it is 0.
+pub fn linted_in_numbers(answer: autocrypt::Linted) -> Linted
+    requires { ⌜ FewFaults answer ⌝ }
+    ensures { λ r. ⌜ r ≡ lintedInNumbers answer ⌝ }
+{
+    match answer {
+        autocrypt::Linted::Done(n) => Linted {
+            number: 0,
+            count: n as u32,
+        },
+        autocrypt::Linted::Refused(r) => Linted {
+            number: autocrypt::number(r),
+            count: 0,
+        },
     }
 }

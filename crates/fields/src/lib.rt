@@ -54,7 +54,7 @@ pub enum Only {
 }
 
 // Is a field of this name asked for? Names have no case (B11).
-fn is_kind(name: &[u8], kind: Kind) -> bool
+pub fn is_kind(name: &[u8], kind: Kind) -> bool
     ensures { λ r. ⌜ r ≡ kindOf kind (now (name .entry)) ⌝ }
 {
     match kind {

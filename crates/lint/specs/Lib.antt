@@ -1,0 +1,2 @@
+pub mod Linting
+pub mod Stages
