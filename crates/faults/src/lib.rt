@@ -9,12 +9,19 @@ ghost use Rattle.faults.specs.Laying.{laidAt, numbersIf, room};
 
 // The kinds of faults (O3). The first is about a block, the others about a field.
 pub const NO_VALID: u32 = 1;
+
 pub const MORE_VALID: u32 = 2;
+
 const WRONG_ADDRESS: u32 = 3;
+
 const UNKNOWN_ATTRIBUTE: u32 = 4;
+
 const KEY_DATA: u32 = 5;
+
 const GOSSIP_OUTSIDE: u32 = 6;
+
 const GOSSIP_UNLISTED: u32 = 7;
+
 const GOSSIP_PREFERENCE: u32 = 8;
 
 // Which faults a field has, of the kinds 2 to 8 in their order.
@@ -82,7 +89,14 @@ fn put_number(list: &mut [u32], at: usize, x: u32)
 
 // Writes the numbers of a fault from the place `at` on, as far as the list goes, if the fault is there. Answers the place
 // behind them.
-pub fn put_fault(list: &mut [u32], at: usize, there: bool, block: u32, place: u32, kind: u32) -> usize
+pub fn put_fault(
+    list: &mut [u32],
+    at: usize,
+    there: bool,
+    block: u32,
+    place: u32,
+    kind: u32,
+) -> usize
     requires { ⌜ at ≤ room ⌝ }
     ensures { λ r. ⌜ r ≡ at + length (numbersIf there block place kind) ⌝ }
     ensures { λ _. ⌜ now (list .exit) ≡ laidAt (now (list .entry)) at (numbersIf there block place kind) ⌝ }

@@ -1,0 +1,3 @@
+pub mod Counting
+pub mod Laying
+pub mod Putting
