@@ -1,10 +1,10 @@
 -- Numbers laid on a list that may be too short for them.
---     laid-none, laid-both    no numbers, and numbers behind others
---     laid-long               the list keeps its length
---     laid-put, laid-onto     where there is room for all of them, they are written as anywhere else
---     set-past                a place behind the list
+--     laid-none, laid-both           no numbers, and numbers behind others
+--     laid-long                      the list keeps its length
+--     laid-put, laid-onto            where there is room for all of them, they are written as anywhere else
+--     placed-there, placed-past      `put_number`: one number, at a place of the list and behind it (the ruleset placing)
 -- Assumes nothing.
-use Prim.Native.Nat.{ℕ, zero, suc, _+_, _≤_}
+use Prim.Native.Nat.{ℕ, zero, suc, _+_, _<_, _≤_}
 use mathlib.Core.Path.{_≡_, refl, ap, _∙_}
 use mathlib.Core.List.{List, [], _∷_, _++_}
 use native.Mathlib.Nat.{add-zero, zero-add}
@@ -13,7 +13,7 @@ use borrow.Author.Needs.{needs}
 use lib.ListN.{length, set, length-set}
 use Rattle.octets.specs.Written.{putAt, onto}
 use Rattle.octets.proofs.Putting.{over-none, put-then}
-use Rattle.faults.specs.Laying.{laidAt}
+use Rattle.faults.specs.Laying.{laidAt, Placed}
 
 pub laid-none : (d : List ℕ) (at : ℕ) → laidAt d at [] ≡ d
 unfolding laidAt
@@ -40,9 +40,19 @@ pub laid-onto : (d w : List ℕ) → length w ≤ length d → laidAt d 0 w ≡ 
 unfolding putAt onto
 laid-onto d w h = laid-put d 0 w (omega arith) ∙ rw zero-add
 
-pub set-past : (d : List ℕ) (at x : ℕ) → length d ≤ at → d ≡ set d at x
-set-past [] at x h = refl
-set-past (y ∷ d) zero x h = absurd (omega arith)
-set-past (y ∷ d) (suc at) x h = ap (λ (l : List ℕ). y ∷ l) (set-past d at x (omega arith))
+-- `put_number`
+module _ (d : List ℕ) (at x : ℕ) where
+  pub placed-there : at < length d → Placed d at x (set d at x)
+  unfolding laidAt
+  placed-there h = record { placed = refl }
 
-pub ruleset placing = (set-past, needs)
+  pub placed-past : length d ≤ at → Placed d at x d
+  unfolding laidAt
+  placed-past h = record { placed = go d at h }
+    where
+      go : (d : List ℕ) (at : ℕ) → length d ≤ at → d ≡ set d at x
+      go [] at h = refl
+      go (y ∷ d) zero h = absurd (omega arith)
+      go (y ∷ d) (suc at) h = ap (λ (l : List ℕ). y ∷ l) (go d at (omega arith))
+
+pub ruleset placing = (placed-there, placed-past, needs)

@@ -7,14 +7,14 @@
 use Prim.Native.Nat.{ℕ, _+_, _-_, _≤_, _<_}
 use mathlib.Core.Path.{_≡_, refl, ap, sym, _∙_}
 use mathlib.Core.Bool.{Bool, true, false}
-use mathlib.Core.List.{List, _++_}
+use mathlib.Core.List.{List, [], _∷_, _++_}
 use native.Mathlib.Omega.{arith}
 use borrow.Author.Needs.{needs}
 use borrow.Author.Tests.{ne-eqb}
-use lib.ListN.{length, set, length-append}
+use lib.ListN.{length, length-append}
 use Rattle.faults.specs.declared.Flaws.{Flaws}
 use Rattle.faults.specs.Faults.{hasKind, onlyIf, kindsBelow, kinds, faultsAt, numbersOf}
-use Rattle.faults.specs.Laying.{laidAt, numbersIf, room}
+use Rattle.faults.specs.Laying.{laidAt, Placed, numbersIf, room}
 use Rattle.faults.proofs.Laying.{laid-none, laid-both, laid-long}
 use Rattle.faults.proofs.Counting.{numbers-both, numbers-long, faults-both, faults-long, kinds-none, kinds-next, few-kinds}
 
@@ -41,12 +41,12 @@ module _ (there : Bool) (at block place kind : ℕ) where
   none-place e = rw e (omega arith)
 
   module _ (d : List ℕ) where
-    pub there-laid : there ≡ true → (d₁ d₂ d₃ : List ℕ) → d₁ ≡ set d at block → d₂ ≡ set d₁ (at + 1) place → d₃ ≡ set d₂ (at + 2) kind
+    pub there-laid : there ≡ true → (d₁ d₂ d₃ : List ℕ) → Placed d at block d₁ → Placed d₁ (at + 1) place d₂ → Placed d₂ (at + 2) kind d₃
         → d₃ ≡ laidAt d at (numbersIf there block place kind)
     unfolding numbersIf laidAt
-    there-laid e d₁ d₂ d₃ e₁ e₂ e₃ =
+    there-laid e d₁ d₂ d₃ p₁ p₂ p₃ =
         let q : at + 1 + 1 ≡ at + 2 = omega arith in
-        rw (e, q) (e₃ ∙ rw (e₂, e₁))
+        rw (e, q) (p₃ .placed ∙ rw (p₂ .placed, p₁ .placed))
 
     pub none-laid : there ≡ false → d ≡ laidAt d at (numbersIf there block place kind)
     unfolding numbersIf

@@ -2,10 +2,9 @@
 // learns how many there are by lending no room. What is right is said by specs/Faults.antt.
 ghost use Prim.Native.Nat.{_+_, _≤_};
 ghost use mathlib.Core.Path.{_≡_};
-ghost use mathlib.Core.List.{[], _∷_};
-ghost use lib.ListN.{length, set};
+ghost use lib.ListN.{length};
 ghost use Rattle.faults.specs.Faults.{noFlaws, hasKind, numbersOf, faultsAt, kinds};
-ghost use Rattle.faults.specs.Laying.{laidAt, numbersIf, room};
+ghost use Rattle.faults.specs.Laying.{laidAt, Placed, numbersIf, room};
 
 // The kinds of faults (O3). The first is about a block, the others about a field.
 pub const NO_VALID: u32 = 1;
@@ -80,7 +79,7 @@ fn has_kind(flaws: Flaws, kind: u32) -> bool
 
 // Writes a number to the place `at`, if the list goes so far.
 fn put_number(list: &mut [u32], at: usize, x: u32)
-    ensures { λ _. ⌜ now (list .exit) ≡ set (now (list .entry)) at x ⌝ }
+    ensures { λ _. ⌜ Placed (now (list .entry)) at x (now (list .exit)) ⌝ }
 {
     if at < list.len() {
         list[at] = x;
