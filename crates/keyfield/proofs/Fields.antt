@@ -137,7 +137,7 @@ module _ (limit : ℕ) where
       (λ t. let q : some w ≡ some k = rw t at e in let r : w ≡ k = cc in (q, rw r at t))
       (λ t. let q : none ≡ some k = rw t at e in let z : _≡_ {A = ℕ} 0 1 = cc in absurd (omega arith))
 
-  key-parts : (v k : List ℕ) → keyOf limit v ≡ some k → KeyOf limit v k
+  pub key-parts : (v k : List ℕ) → keyOf limit v ≡ some k → KeyOf limit v k
   unfolding keyOf
   key-parts v k e =
       let l = limited-is (decode (withoutBlanks v)) k e in
@@ -179,7 +179,7 @@ module _ (limit : ℕ) (s : List ℕ) (f : Field) where
   by-said none q e = let z : _≡_ {A = ℕ} 0 1 = cc in absurd (omega arith)
   by-said (some x) q e = with-key x q (keyOf limit (x .text)) refl e
 
-  field-parts : fieldOf limit s ≡ some f → FieldOf limit s f
+  pub field-parts : fieldOf limit s ≡ some f → FieldOf limit s f
   unfolding fieldOf
   field-parts e = by-said (saidOf s) refl e
 
