@@ -30,11 +30,11 @@ use Rattle.asked.specs.declared.Found.the-variants.{At, Nothing}
 
 -- a piece, and those behind it
 module _ (what : Called) (p : List ℕ) (rest : List (List ℕ)) where
-  values-in : isCalled what p ≡ true → valuesCalled what (p ∷ rest) ≡ valueOf p ∷ valuesCalled what rest
+  pub values-in : isCalled what p ≡ true → valuesCalled what (p ∷ rest) ≡ valueOf p ∷ valuesCalled what rest
   unfolding valuesCalled
   values-in e = rw (valuesCalled, e)
 
-  values-out : isCalled what p ≡ false → valuesCalled what (p ∷ rest) ≡ valuesCalled what rest
+  pub values-out : isCalled what p ≡ false → valuesCalled what (p ∷ rest) ≡ valuesCalled what rest
   unfolding valuesCalled
   values-out e = rw (valuesCalled, e)
 
