@@ -1,11 +1,12 @@
 -- From the definitions of Asked.antt to what the code answers (SCOPE, O6 to O9). An answer gives places of the value.
 --     ValueAs               where the value of a piece stands
 --     sayingFrom, restFrom  the values of the pieces of a name from a place on, and behind the piece that ends at a place
---     FoundAt, FoundAs      the first of these
+--     lastFrom, lastBehind  whether the last piece has the name, from a place on and behind the piece that ends at a place
+--     FoundAt, FoundAs      the first of these pieces
 --     NamedAt, NamedAs      where the one address stands
 use Prim.Native.Nat.{ℕ, _+_, _≤_}
 use mathlib.Core.Path.{_≡_}
-use mathlib.Core.Bool.{cond}
+use mathlib.Core.Bool.{Bool, true, cond}
 use mathlib.Core.List.{List, [], _∷_}
 use mathlib.Core.Option.{some, none}
 use lib.Dec.{ltb}
@@ -18,7 +19,7 @@ use Rattle.attributes.specs.Steps.{PlainAt}
 use Rattle.attributes.specs.declared.Bounds.{Bounds}
 use Rattle.attributes.specs.declared.AddressAt.{AddressAt}
 use Rattle.attributes.specs.declared.AddressAt.the-variants.{Unseen, At as Standing}
-use Rattle.asked.specs.Asked.{valueOf, valuesCalled, named}
+use Rattle.asked.specs.Asked.{isCalled, valueOf, valuesCalled, lastOf, named}
 use Rattle.asked.specs.declared.Called.{Called}
 use Rattle.asked.specs.declared.Found.{Found}
 use Rattle.asked.specs.declared.Found.the-variants.{At, Nothing}
@@ -36,9 +37,18 @@ sayingFrom what s at = valuesCalled what (pieces (octet ";") (part s at (length 
 unfoldable pub restFrom : Called → List ℕ → ℕ → List (List ℕ)
 restFrom what s end = cond (ltb end (length s)) (sayingFrom what s (end + 1)) []
 
+-- O8: is the last piece called so, of those from the place `at` on?
+unfoldable pub lastFrom : Called → List ℕ → ℕ → Bool
+lastFrom what s at = isCalled what (lastOf (pieces (octet ";") (part s at (length s))))
+
+-- the same where one that ends at the place `end` is called so: if none is behind it, it is the last
+unfoldable pub lastBehind : Called → List ℕ → ℕ → Bool
+lastBehind what s end = cond (ltb end (length s)) (lastFrom what s (end + 1)) true
+
 -- The first piece of the name has its value between two places, and ends at the place `end`.
 pub record FoundAt (what : Called) (s : List ℕ) (at from to end : ℕ) : Type 0 where
   pub first : sayingFrom what s at ≡ part s from to ∷ restFrom what s end
+  pub last : lastFrom what s at ≡ lastBehind what s end
   pub within : Within s from to
   pub upto : end ≤ length s
 

@@ -112,7 +112,11 @@ fn is_last_such(s: &[u8], end: usize, what: Called) -> bool
         return true;
     }
     match find(s, end + 1, what) {
-        Found::At { from: _, to: _, end: _ } => false,
+        Found::At {
+            from: _,
+            to: _,
+            end: _,
+        } => false,
         Found::Nothing => true,
     }
 }
@@ -122,7 +126,11 @@ pub fn occurs(s: &[u8], what: Called) -> bool
     ensures { λ r. ⌜ r ≡ occursIn what (now (s .entry)) ⌝ }
 {
     match find(s, 0, what) {
-        Found::At { from: _, to: _, end: _ } => true,
+        Found::At {
+            from: _,
+            to: _,
+            end: _,
+        } => true,
         Found::Nothing => false,
     }
 }
