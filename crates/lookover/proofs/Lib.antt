@@ -1,2 +1,3 @@
 pub mod Validity
 pub mod Few
+pub mod Counting
