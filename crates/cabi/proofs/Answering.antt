@@ -3,7 +3,8 @@
 --     of-wrote, of-not-written               that of the writers
 --     of-advice .. of-part                   those of recommending
 --     count-most                             the count of recipients fits
---     numbers-same .. part-same              equal answers have the same numbers: what a call ensures of its answer, said of its numbers
+--     of-linted, of-not-linted, faults-most  how many faults there are, and that this fits
+--     numbers-same .. linted-same            equal answers have the same numbers: what a call ensures of its answer, said of its numbers
 --     set-take .. set-unset                  the gossip setting
 --     of-message, left-by-message            processing, with the setting as it came
 --     the rulesets                           answering, and for messages processing
@@ -29,11 +30,16 @@ use Rattle.recommend.specs.declared.Quick.{Quick as Quickly}
 use Rattle.recommend.specs.declared.Recommended.{Recommended}
 use Rattle.recommend.specs.declared.Recommended.the-variants.{Done as Advised, Refused as NotAdvised}
 use Rattle.recommend.proofs.Range.{looked-up-most, quick-whole}
+use Rattle.lint.specs.Linting.{faultRoom, FewFaults}
+use Rattle.lint.specs.declared.Linted.{Linted as Linting}
+use Rattle.lint.specs.declared.Linted.the-variants.{Done as Looked, Refused as NotLooked}
+use Rattle.lint.proofs.Outcomes.{linted-few}
 use Rattle.write.specs.declared.Written.{Written as Writing}
 use Rattle.write.specs.declared.Written.the-variants.{Done as Wrote, Refused as NotWritten}
-use Rattle.cabi.specs.Numbers.{inNumbers, writtenInNumbers, settingOf, adviceNumber, adviceInNumbers, quickInNumbers, partInNumbers}
+use Rattle.cabi.specs.Numbers.{inNumbers, writtenInNumbers, settingOf, adviceNumber, adviceInNumbers, quickInNumbers, partInNumbers, lintedInNumbers}
 use Rattle.cabi.specs.declared.numbers.Answer.{Answer}
 use Rattle.cabi.specs.declared.numbers.Advice.{Advice}
+use Rattle.cabi.specs.declared.numbers.Linted.{Linted}
 use Rattle.cabi.specs.declared.numbers.Part.{Part}
 use Rattle.cabi.specs.declared.numbers.Quick.{Quick}
 use Rattle.cabi.specs.declared.numbers.Written.{Written}
@@ -59,6 +65,9 @@ module _ (t s : List ℕ) (m reply : Bool) (q : Quickly) where
 
 pub part-same : (r : Part) (a b : Place) → r ≡ partInNumbers a → a ≡ b → r ≡ partInNumbers b
 part-same r a b p q = p ∙ ap partInNumbers q
+
+pub linted-same : (r : Linted) (a b : Linting) → r ≡ lintedInNumbers a → a ≡ b → r ≡ lintedInNumbers b
+linted-same r a b p q = p ∙ ap lintedInNumbers q
 
 module _ (a : Refusing) where
   pub of-done : a ≡ Done → _≡_ {A = Answer} (record { number = 0; index = 0 }) (inNumbers a)
@@ -101,7 +110,21 @@ pub of-part : (p : Place) → _≡_ {A = Part} (record { start = p .start; lengt
 unfolding partInNumbers
 of-part p = refl
 
-pub ruleset answering = (of-done, of-refused, of-wrote, of-not-written, of-advice, of-not-advised, of-quick, of-part, numbers-same, written-same, advice-same, quick-same, count-most, part-same, needs)
+module _ (a : Linting) where
+  pub of-linted : (n : ℕ) → a ≡ Looked n → _≡_ {A = Linted} (record { number = 0; count = n }) (lintedInNumbers a)
+  unfolding lintedInNumbers
+  of-linted n e = rw e
+
+  pub of-not-linted : (n : ℕ) (r : Refusal) → a ≡ NotLooked r → n ≡ numberOf r → _≡_ {A = Linted} (record { number = n; count = 0 }) (lintedInNumbers a)
+  unfolding lintedInNumbers
+  of-not-linted n r e q = rw (e, q)
+
+  -- O11: the count is 32,768 at most, and so one of 32 bits
+  pub faults-most : (n : ℕ) → FewFaults a → a ≡ Looked n → n ≤ faultRoom
+  unfolding FewFaults
+  faults-most n h e = rw e at h
+
+pub ruleset answering = (of-done, of-refused, of-wrote, of-not-written, of-advice, of-not-advised, of-quick, of-part, numbers-same, written-same, advice-same, quick-same, count-most, part-same, of-linted, of-not-linted, faults-most, linted-same, linted-few, needs)
 
 -- G1: take, skip, and unset for every other number
 module _ (n : ℕ) where

@@ -1,7 +1,7 @@
 -- C1, C2: the contract of each public function, as the toolchain makes it of the source, is the claims of Outcomes or OutcomesInC: it requires
 -- nothing, it ensures these claims, and nothing else. So a contract that is weakened, or a claim that is not the contract's, is refused here. That
 -- no public function is left out is read from the sources by tests/texts/test_outcomes.py. Assumes nothing.
---     number-contract .. display-contract          the functions that autocrypt passes on
+--     number-contract .. lint-contract            the functions that autocrypt passes on
 --     vienghulac-check-contract ..                the functions of include/vienghulac.h
 -- `spec` is the contract that the function's theorem is about. Of a call, a is the arguments, r the answer, and e the arguments as it leaves them;
 -- `now` is what a slice holds.
@@ -27,6 +27,7 @@ use Rattle.recommend.proofs.target_key as target-key
 use Rattle.write.proofs.write_autocrypt as write-autocrypt
 use Rattle.write.proofs.write_gossip as write-gossip
 use Rattle.display.proofs.display as display
+use Rattle.lint.proofs.lint as lint
 use Rattle.cabi.proofs.tables.vienghulac_check as vienghulac-check
 use Rattle.cabi.proofs.tables.vienghulac_convert as vienghulac-convert
 use Rattle.cabi.proofs.messages.vienghulac_process as vienghulac-process
@@ -37,8 +38,9 @@ use Rattle.cabi.proofs.recommending.vienghulac_target_key as vienghulac-target-
 use Rattle.cabi.proofs.writing.vienghulac_write_autocrypt as vienghulac-write-autocrypt
 use Rattle.cabi.proofs.writing.vienghulac_write_gossip as vienghulac-write-gossip
 use Rattle.cabi.proofs.writing.vienghulac_display as vienghulac-display
-use Rattle.outcomes.specs.Outcomes.{Number, Index, Check, Convert, Process, Entry, Recommend, RecommendQuick, TargetPart, TargetKey, WriteAutocrypt, WriteGossip, Display}
-use Rattle.outcomes.specs.OutcomesInC.{VienghulacCheck, VienghulacConvert, VienghulacProcess, VienghulacEntry, VienghulacRecommend, VienghulacRecommendQuick, VienghulacTargetKey, VienghulacWriteAutocrypt, VienghulacWriteGossip, VienghulacDisplay}
+use Rattle.cabi.proofs.linting.vienghulac_lint as vienghulac-lint
+use Rattle.outcomes.specs.Outcomes.{Number, Index, Check, Convert, Process, Entry, Recommend, RecommendQuick, TargetPart, TargetKey, WriteAutocrypt, WriteGossip, Display, Lint}
+use Rattle.outcomes.specs.OutcomesInC.{VienghulacCheck, VienghulacConvert, VienghulacProcess, VienghulacEntry, VienghulacRecommend, VienghulacRecommendQuick, VienghulacTargetKey, VienghulacWriteAutocrypt, VienghulacWriteGossip, VienghulacDisplay, VienghulacLint}
 use Rattle.outcomes.specs.Contracts.{ensuring}
 
 -- in every model of the toolchain's logic
@@ -95,6 +97,10 @@ module _ {M : Type 1} (𝓤 : URA M) (H : Heap 𝓤) (A : Atoms 𝓤) (mem : Mem
       ≡ ensuring 𝓤 H A display.ended (λ κs a r e. Display (now (a .0)) (now (a .1 .0)) r (now (e .1 .0)))
   display-contract = refl
 
+  pub lint-contract : lint.spec 𝓤 H A mem run
+      ≡ ensuring 𝓤 H A lint.ended (λ κs a r e. Lint (now (a .0)) (now (a .1 .0)) (now (a .1 .1 .0)) r (now (e .1 .1 .0)))
+  lint-contract = refl
+
   pub vienghulac-check-contract : vienghulac-check.spec 𝓤 H A mem run ≡ ensuring 𝓤 H A vienghulac-check.ended (λ κs a r e. VienghulacCheck (now (a .0)) r)
   vienghulac-check-contract = refl
 
@@ -139,3 +145,7 @@ module _ {M : Type 1} (𝓤 : URA M) (H : Heap 𝓤) (A : Atoms 𝓤) (mem : Mem
   pub vienghulac-display-contract : vienghulac-display.spec 𝓤 H A mem run
       ≡ ensuring 𝓤 H A vienghulac-display.ended (λ κs a r e. VienghulacDisplay (now (a .0)) (now (a .1 .0)) r (now (e .1 .0)))
   vienghulac-display-contract = refl
+
+  pub vienghulac-lint-contract : vienghulac-lint.spec 𝓤 H A mem run
+      ≡ ensuring 𝓤 H A vienghulac-lint.ended (λ κs a r e. VienghulacLint (now (a .0)) (now (a .1 .0)) (now (a .1 .1 .0)) r (now (e .1 .1 .0)))
+  vienghulac-lint-contract = refl

@@ -1,8 +1,8 @@
 -- C2 and R32: every input has one outcome, and a refusal leaves lent memory as it was.
 --     one-answer, one-outcome       two outcomes that meet the same equations are the same: the general statement
---     number-unique .. display-unique         so for each public function
+--     number-unique .. lint-unique  so for each public function
 --     vienghulac-check-unique ..    and for each function of include/vienghulac.h
---     convert-refusal, process-refusal, entry-refusal, write-autocrypt-refusal, write-gossip-refusal, display-refusal    what a refusal leaves
+--     convert-refusal, process-refusal, entry-refusal, write-autocrypt-refusal, write-gossip-refusal, display-refusal, lint-refusal    what a refusal leaves
 -- That each number is given exactly when its row holds and no row before it (C3) is `exactly` of refusals/proofs/Rows, for the rows of every call.
 -- Assumes nothing.
 use Prim.Native.Nat.{ℕ}
@@ -26,13 +26,17 @@ use Rattle.write.specs.declared.Written.{Written}
 use Rattle.write.specs.declared.Written.the-variants.{Refused as NotWritten}
 use Rattle.write.proofs.Outcomes.{refused-untouched as unwritten}
 use Rattle.display.proofs.Outcomes.{refused-untouched as undisplayed}
+use Rattle.lint.specs.declared.Linted.{Linted}
+use Rattle.lint.specs.declared.Linted.the-variants.{Refused as NotLinted}
+use Rattle.lint.proofs.Outcomes.{refused-untouched as unlinted}
 use Rattle.cabi.specs.declared.numbers.Answer.{Answer as AnswerInC}
 use Rattle.cabi.specs.declared.numbers.Advice.{Advice}
+use Rattle.cabi.specs.declared.numbers.Linted.{Linted as LintedInC}
 use Rattle.cabi.specs.declared.numbers.Part.{Part as PartInC}
 use Rattle.cabi.specs.declared.numbers.Quick.{Quick as QuickInC}
 use Rattle.cabi.specs.declared.numbers.Written.{Written as WrittenInC}
-use Rattle.outcomes.specs.OutcomesInC.{VienghulacCheck, VienghulacConvert, VienghulacProcess, VienghulacEntry, VienghulacRecommend, VienghulacRecommendQuick, VienghulacTargetKey, VienghulacWriteAutocrypt, VienghulacWriteGossip, VienghulacDisplay}
-use Rattle.outcomes.specs.Outcomes.{Meets, Number, Index, Check, Convert, Process, Entry, Recommend, RecommendQuick, TargetPart, TargetKey, WriteAutocrypt, WriteGossip, Display}
+use Rattle.outcomes.specs.OutcomesInC.{VienghulacCheck, VienghulacConvert, VienghulacProcess, VienghulacEntry, VienghulacRecommend, VienghulacRecommendQuick, VienghulacTargetKey, VienghulacWriteAutocrypt, VienghulacWriteGossip, VienghulacDisplay, VienghulacLint}
+use Rattle.outcomes.specs.Outcomes.{Meets, Number, Index, Check, Convert, Process, Entry, Recommend, RecommendQuick, TargetPart, TargetKey, WriteAutocrypt, WriteGossip, Display, Lint}
 
 pub one-answer : {A : Type 0} (defined r q : A) → r ≡ defined → q ≡ defined → r ≡ q
 one-answer defined r q h k = h ∙ sym k
@@ -92,6 +96,10 @@ pub display-unique : (address out : List ℕ) (r q : Written) (left other : List
     → AllOf (Display address out r left) → AllOf (Display address out q other) → (r ≡ q) × (left ≡ other)
 display-unique address out r q left other = one-outcome _ _ r q left other
 
+pub lint-unique : (outer payload list : List ℕ) (r q : Linted) (left other : List ℕ)
+    → AllOf (Lint outer payload list r left) → AllOf (Lint outer payload list q other) → (r ≡ q) × (left ≡ other)
+lint-unique outer payload list r q left other = one-outcome _ _ r q left other
+
 -- one outcome of each function of the C interface, too
 pub vienghulac-check-unique : (table : List ℕ) (r q : AnswerInC) → AllOf (VienghulacCheck table r) → AllOf (VienghulacCheck table q) → r ≡ q
 vienghulac-check-unique table r q = one-answer _ r q
@@ -134,6 +142,10 @@ pub vienghulac-display-unique : (address out : List ℕ) (r q : WrittenInC) (lef
     → AllOf (VienghulacDisplay address out r left) → AllOf (VienghulacDisplay address out q other) → (r ≡ q) × (left ≡ other)
 vienghulac-display-unique address out r q left other = one-outcome _ _ r q left other
 
+pub vienghulac-lint-unique : (outer payload list : List ℕ) (r q : LintedInC) (left other : List ℕ)
+    → AllOf (VienghulacLint outer payload list r left) → AllOf (VienghulacLint outer payload list q other) → (r ≡ q) × (left ≡ other)
+vienghulac-lint-unique outer payload list r q left other = one-outcome _ _ r q left other
+
 -- R32: a refused call writes nothing
 pub convert-refusal : (table : List ℕ) (refusal : Refusal) (left : List ℕ) → AllOf (Convert table (Refused refusal) left) → left ≡ table
 convert-refusal table refusal left h = h .1 ∙ unconverted table refusal (sym (h .0))
@@ -160,3 +172,7 @@ write-gossip-refusal address key out refusal left h =
 pub display-refusal : (address out : List ℕ) (refusal : Refusal) (left : List ℕ)
     → AllOf (Display address out (NotWritten refusal) left) → left ≡ out
 display-refusal address out refusal left h = h .1 ∙ undisplayed address out refusal (sym (h .0))
+
+pub lint-refusal : (outer payload list : List ℕ) (refusal : Refusal) (left : List ℕ)
+    → AllOf (Lint outer payload list (NotLinted refusal) left) → left ≡ list
+lint-refusal outer payload list refusal left h = h .1 ∙ unlinted outer payload list refusal (sym (h .0))

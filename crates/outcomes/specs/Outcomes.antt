@@ -9,6 +9,7 @@
 --     TargetPart, TargetKey              target_part, target_key
 --     WriteAutocrypt, WriteGossip        write_autocrypt, write_gossip
 --     Display                            display
+--     Lint                               lint
 -- Number and values of an answer come from one definition for each call (C5).
 use Prim.Native.Nat.{ℕ}
 use mathlib.Core.Path.{_≡_}
@@ -32,6 +33,8 @@ use Rattle.names.specs.Names.{autocrypt as autocryptName, gossip as gossipName}
 use Rattle.write.specs.Writing.{writtenOf, leftByWriting}
 use Rattle.write.specs.declared.Written.{Written}
 use Rattle.display.specs.Displaying.{displayedOf, leftByDisplaying}
+use Rattle.lint.specs.Linting.{lintedOf, leftByLinting}
+use Rattle.lint.specs.declared.Linted.{Linted}
 
 -- C2: the answer is the one that is promised, and so is what the memory holds
 abbrev pub Meets : {A : Type 0} → A → List ℕ → A → List ℕ → List (Type 0)
@@ -93,3 +96,7 @@ WriteGossip address key out r left =
 -- W11: what `display` answers, and the output that it leaves
 abbrev pub Display : List ℕ → List ℕ → Written → List ℕ → List (Type 0)
 Display address out r left = Meets (displayedOf address (length out)) (leftByDisplaying address out) r left
+
+-- O1: what `lint` answers, and the list that it leaves
+abbrev pub Lint : List ℕ → List ℕ → List ℕ → Linted → List ℕ → List (Type 0)
+Lint outer payload list r left = Meets (lintedOf outer payload (length list)) (leftByLinting outer payload list) r left

@@ -7,6 +7,7 @@
 --     VienghulacTargetKey                                vienghulac_target_key
 --     VienghulacWriteAutocrypt, VienghulacWriteGossip    vienghulac_write_autocrypt, vienghulac_write_gossip
 --     VienghulacDisplay                                  vienghulac_display
+--     VienghulacLint                                     vienghulac_lint
 use Prim.Native.Nat.{ℕ}
 use mathlib.Core.Path.{_≡_}
 use mathlib.Core.Bool.{Bool, false}
@@ -20,9 +21,11 @@ use Rattle.recommend.specs.Recommending.{recommendedOf, quickOf, targetPartOf}
 use Rattle.names.specs.Names.{autocrypt as autocryptName, gossip as gossipName}
 use Rattle.write.specs.Writing.{writtenOf, leftByWriting}
 use Rattle.display.specs.Displaying.{displayedOf, leftByDisplaying}
-use Rattle.cabi.specs.Numbers.{inNumbers, writtenInNumbers, settingOf, adviceInNumbers, quickInNumbers, partInNumbers}
+use Rattle.lint.specs.Linting.{lintedOf, leftByLinting}
+use Rattle.cabi.specs.Numbers.{inNumbers, writtenInNumbers, settingOf, adviceInNumbers, quickInNumbers, partInNumbers, lintedInNumbers}
 use Rattle.cabi.specs.declared.numbers.Answer.{Answer}
 use Rattle.cabi.specs.declared.numbers.Advice.{Advice}
+use Rattle.cabi.specs.declared.numbers.Linted.{Linted}
 use Rattle.cabi.specs.declared.numbers.Part.{Part}
 use Rattle.cabi.specs.declared.numbers.Quick.{Quick}
 use Rattle.cabi.specs.declared.numbers.Written.{Written}
@@ -71,3 +74,7 @@ VienghulacWriteGossip address key out r left =
 -- W11, R34: what `vienghulac_display` answers, and the output that it leaves
 abbrev pub VienghulacDisplay : List ℕ → List ℕ → Written → List ℕ → List (Type 0)
 VienghulacDisplay address out r left = Meets (writtenInNumbers (displayedOf address (length out))) (leftByDisplaying address out) r left
+
+-- O1: what `vienghulac_lint` answers, and the list that it leaves
+abbrev pub VienghulacLint : List ℕ → List ℕ → List ℕ → Linted → List ℕ → List (Type 0)
+VienghulacLint outer payload list r left = Meets (lintedInNumbers (lintedOf outer payload (length list))) (leftByLinting outer payload list) r left

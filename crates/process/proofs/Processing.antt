@@ -1,5 +1,5 @@
 -- Processing: the ways through the code.
---     gathers .. carried-left           `deliver_carrying`: the roll of the recipients, and what is delivered by it
+--     carries-on .. carried-left        `deliver_carrying`: what is delivered by the roll of the recipients
 --     alone-within, carrying-within     `process_with`: the sender's address stands in lent memory
 --     refused-answered, refused-done    `process_with`: the message is refused
 --     alone-sends .. alone-done         `process_with`: it comes alone
@@ -34,8 +34,8 @@ use Rattle.inspect.specs.Inspecting.{tableRows, Opens}
 use Rattle.update.specs.Message.{Gossiped, applied}
 use Rattle.roll.specs.Index.{Indexed}
 use Rattle.roll.specs.declared.Rolled.{Rolled}
-use Rattle.recipients.specs.Answers.{Gathers, GatheredAs}
-use Rattle.recipients.proofs.RecipientRoll.{gathered, gathered-index}
+use Rattle.recipients.specs.Answers.{GatheredAs}
+use Rattle.recipients.proofs.RecipientRoll.{enough-room, gathered, gathered-index}
 use Rattle.keys.specs.Answers.{gossipOf}
 use Rattle.message.specs.Message.{messageRows, messageOf}
 use Rattle.message.specs.Answers.{mailOf, heardIn, Brings, AloneAs, CarryingAs, ReadAs}
@@ -52,19 +52,6 @@ use Rattle.process.proofs.Outcomes.{message-refused, room-first, room-l
 -- `deliver_carrying`
 module _ (t tags : List ℕ) (b : Brought) (sender key outer : List ℕ) (survey : Survey) (payload text : List ℕ)
     (h : Readied t tags b sender key outer survey payload text) where
-  pub gathers : (roll listed places : List ℕ) → length roll ≡ 65536 → length listed ≡ 16384 → length places ≡ 16384
-      → Gathers outer survey text roll listed places
-  gathers roll listed places r l p =
-      let n : length outer ≤ 65536 = block-short outer (survey-readable outer survey (h .surveyed)) in
-      record {
-        surveyed = h .surveyed;
-        texts = h .outer-fits;
-        octets = omega (arith, n, r);
-        short = omega (arith, r);
-        numbers = omega (arith, n, l);
-        spots = omega (arith, n, p);
-      }
-
   pub carries-on : (later : List ℕ) → length later ≡ length text → (recipients listed places : List ℕ) → Indexed recipients listed places
       → Carries t tags sender key b payload 2048 recipients listed places later
   carries-on later l recipients listed places x =
@@ -89,7 +76,7 @@ module _ (outer roll listed places : List ℕ) (r : Rolled) (h : GatheredAs oute
       → u ≡ delivered t (mailOf sender key b (heardIn 2048 outer payload))
   carried-left u e = e ∙ ap (λ (gs : List Gossiped). delivered t (mailOf sender key b gs)) heard-is
 
-pub ruleset rolling = (gathers, gathered-index, carries-on, needs)
+pub ruleset rolling = (enough-room, gathered-index, carries-on, needs)
 
 pub ruleset carried = (carried-answered, carried-left)
 

@@ -3,6 +3,7 @@
 --     addresses-plain              they are plain
 --     Gathering                    those of the fields before the place `at` are in the roll
 --     gather-begin .. gather-on    the loop's steps
+--     enough-room                  memory that is long enough for every block
 --     gathered .. gathered-places  what a caller reads off the memory
 -- Assumes nothing.
 use Prim.Native.Nat.{ℕ, _-_, _≤_}
@@ -22,6 +23,7 @@ use Rattle.octets.proofs.Every.{every-append}
 use Rattle.address.specs.Address.{plain}
 use Rattle.header.specs.Header.{FieldText, fieldsOf}
 use Rattle.header.specs.Answers.{fieldsFrom}
+use Rattle.header.proofs.Fields.{clear-fits}
 use Rattle.header.proofs.Values.{valuesTotal, total-block}
 use Rattle.header.proofs.Unfolding.{value-within, value-there-from}
 use Rattle.roll.specs.Roll.{rolled, unrolled, listedIn}
@@ -33,12 +35,14 @@ use Rattle.roll.proofs.Room.{lists-room, rolled-least, roomy-front}
 use Rattle.roll.proofs.Growing.{begin-none, kept-begin, kept-within, kept-tags, kept-places, kept-list, kept-index}
 use Rattle.fields.specs.Fields.{fieldsIn, isKind, valuesOf}
 use Rattle.fields.specs.Answers.{valueAt, valuesFrom, NamedAs}
+use Rattle.fields.specs.Spans.{SurveyAs}
 use Rattle.fields.specs.declared.Kind.{Kind}
 use Rattle.fields.specs.declared.Survey.{Survey}
 use Rattle.fields.specs.declared.Kind.the-variants.{Recipients}
 use Rattle.fields.specs.declared.Named.{Named}
 use Rattle.fields.specs.declared.Named.the-variants.{Field, Nothing}
 use Rattle.fields.proofs.Finding.{named-first, named-readable, named-none, finding}
+use Rattle.fields.proofs.Walking.{survey-readable}
 use Rattle.outer.specs.Outer.{addressesIn, recipientsIn}
 use Rattle.recipients.specs.Answers.{Gathers, GatheredAs}
 
@@ -178,6 +182,20 @@ module _ (s roll tags places rolls numbers spots : List ℕ) (so : Rolled) (at :
 
 pub ruleset rolling =
     (gather-begin, gather-last, gather-text, gather-clear, gather-roll, gather-tags, gather-places, gather-end, gather-adds, gather-on, value-within, finding, needs)
+
+-- what a caller lends: memory for the longest block (B1)
+pub enough-room : (s : List ℕ) (survey : Survey) (text roll tags places : List ℕ) → SurveyAs s survey → length s ≤ length text
+    → length roll ≡ 65536 → length tags ≡ 16384 → length places ≡ 16384 → Gathers s survey text roll tags places
+enough-room s survey text roll tags places v t r l p =
+    let n : length s ≤ 65536 = clear-fits s true (sym (survey-readable s survey v)) refl in
+    record {
+      surveyed = v;
+      texts = t;
+      octets = omega (arith, n, r);
+      short = omega (arith, r);
+      numbers = omega (arith, n, l);
+      spots = omega (arith, n, p);
+    }
 
 -- what a caller reads off the memory: the recipients, and the parts that are their roll and its index
 module _ (s roll tags places : List ℕ) (r : Rolled) (h : GatheredAs s roll tags places r) where

@@ -1,0 +1,3 @@
+pub mod Passing
+pub mod Calling
+pub mod Outcomes
