@@ -149,6 +149,16 @@ static bool display(void) {
     return right & unchanged(address);
 }
 
+static bool lint(void) {
+    block outer = lend(), payload = lend(), faults = lend();
+    vienghulac_linted l = vienghulac_lint(outer.lent, outer.length, payload.lent, payload.length,
+                                          (uint32_t *)faults.lent, faults.length / 4);
+    bool right = l.number == number();
+    right &= l.count == number();
+    right &= now_holds(faults);
+    return right & unchanged(outer) & unchanged(payload);
+}
+
 static uint8_t *read_file(const char *name, size_t *length) {
     FILE *file = fopen(name, "rb");
     if (!file || fseek(file, 0, SEEK_END) != 0) give_up("the file cannot be read");
@@ -177,6 +187,7 @@ int main(int count, char **words) {
         case 8: expect("convert", convert()); break;
         case 9: expect("display", display()); break;
         case 10: expect("recommend_quick", recommend_quick()); break;
+        case 11: expect("lint", lint()); break;
         default: give_up("no such call");
         }
     }

@@ -12,9 +12,10 @@ from pathlib import Path
 sys.path.insert(0, str(Path(__file__).resolve().parents[1] / "independent"))
 
 from cases import Cases  # noqa: E402
-from scope import conversion, displaying, processing, recommending, table as tables, writing  # noqa: E402
+from scope import conversion, displaying, linting, processing, recommending, table as tables, writing  # noqa: E402
 
 CHECK, PROCESS, RECOMMEND, TARGET_KEY, WRITE_AUTOCRYPT, WRITE_GOSSIP, ENTRY, CONVERT, DISPLAY, QUICK = range(1, 11)
+LINT = 11
 
 
 def number(value: int) -> bytes:
@@ -54,6 +55,15 @@ def quick(cases: Cases) -> bytes:
     return case(QUICK, *call, *recommending.quick(*call))
 
 
+def lint(cases: Cases) -> bytes:
+    """One case of `lint`; its numbers have four octets each."""
+    outer, payload, many = cases.linting()
+    lent = cases.random.randbytes(4 * many)
+    refusal, faults = linting.lint(outer, payload, many)
+    written = b"".join(part.to_bytes(4, "little") for fault in faults for part in fault)
+    return case(LINT, outer, payload, lent, refusal, len(faults), written + lent[len(written) :])
+
+
 def made(cases: Cases) -> bytes:
     """One case of each other call; of `process` one mail with three settings."""
     table = cases.table()
@@ -81,6 +91,6 @@ def made(cases: Cases) -> bytes:
 if __name__ == "__main__":
     cases = Cases(int(os.environ.get("VIENGHULAC_SEED", "1")))
     with open(sys.argv[1], "wb") as file:
-        for make in (made, quick):  # one after the other: what the calls of before draw stays as it was
+        for make in (made, quick, lint):  # one after the other: what the calls of before draw stays as it was
             for _ in range(int(sys.argv[2])):
                 file.write(make(cases))

@@ -25,6 +25,10 @@ class Written(ctypes.Structure):
     _fields_ = [("number", ctypes.c_uint64), ("length", ctypes.c_uint64)]
 
 
+class Linted(ctypes.Structure):
+    _fields_ = [("number", ctypes.c_uint32), ("count", ctypes.c_uint32)]
+
+
 class Library(Bound):
     """The functions of the header, or those of another library that has them under another prefix."""
 
@@ -79,6 +83,13 @@ class Library(Bound):
     def display(self, address: bytes, out: bytes) -> tuple[int, int, bytes]:
         """As above."""
         return self._write("display", READ, [address, len(address)], out)
+
+    def lint(self, outer: bytes, payload: bytes, faults: list[int]) -> tuple[int, int, list[int]]:
+        """The number, how many faults there are, and what the lent numbers then are."""
+        lent = LentNumbers(faults, "I")
+        words = [outer, len(outer), payload, len(payload), *lent.words()]
+        r = self._call("lint", Linted, READ + READ + WRITE, *words)
+        return r.number, r.count, lent.now()
 
     def _asked(self, name: str, answer: type, table: bytes, recipients: bytes, mutual: bool, reply: bool):
         kinds = READ + READ + [ctypes.c_bool, ctypes.c_bool]

@@ -39,17 +39,18 @@ class Lent:
 
 
 class LentNumbers:
-    """Numbers of 64 bits that are lent for one call."""
+    """Numbers that are lent for one call: of 64 bits, or with the letter `I` of `struct` of 32."""
 
-    def __init__(self, numbers: list[int]):
+    def __init__(self, numbers: list[int], letter: str = "Q"):
         self.count = len(numbers)
-        self.lent = Lent(struct.pack(f"{self.count}Q", *numbers))
+        self.form = f"{self.count}{letter}"
+        self.lent = Lent(struct.pack(self.form, *numbers))
 
     def words(self):
         return self.lent.words()[0], self.count
 
     def now(self) -> list[int]:
-        return list(struct.unpack(f"{self.count}Q", self.lent.now()))
+        return list(struct.unpack(self.form, self.lent.now()))
 
 
 _size = ctypes.c_size_t

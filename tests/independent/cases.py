@@ -16,6 +16,7 @@ from scope.date import DAY, DAY_NAMES, HOUR, MINUTE, MONTH_NAMES, ZONE_HOURS, da
 from scope.date import days_in_year
 from scope.displaying import display, shown_label
 from scope.header import BLOCK_LIMIT
+from scope.linting import FAULTS_LIMIT, lint
 from scope.processing import SKIP, TAKE, UNSET
 from scope.recommending import GAP_LIMIT, RECIPIENTS_LIMIT
 from scope.table import (BITS_AT, KEY_LIMIT, NUMBERS, SLOT, SLOTS_LIMIT, TIME_LIMIT, Entry, slot_of, table_of)
@@ -76,6 +77,24 @@ MOMENTS = [0, 1, 999, 1000, 1001, 1000 + GAP_LIMIT - 1, 1000 + GAP_LIMIT, 1001 +
            1_510_062_830, 1_510_062_985, TIME_LIMIT - 1, TIME_LIMIT]
 
 CLOSE_MOMENTS = [999, 1000, 1001]
+
+# O7: attributes that are unknown and critical, such as are passed over, and pieces that are no attributes.
+UNKNOWN = [b"x=1", b"type=1", b"Addr=x@y", b"ADDR=", b"KEYDATA=Zg==", b"key data=Zg==", b"Prefer-Encrypt=mutual",
+           b"x==", b"a_=1", b"-=1", b"\xff=1", b"\r=1", b"addr\0=x@y"]
+IGNORED = [b"_=", b"_x=1", b"_addr=x@y", b"_keydata=Zg==", b"_ =a=b"]
+NO_ATTRIBUTE = [b"", b"", b" ", b"\t ", b"x", b"_x", b"=x", b" = ", b"addr", b"keydata", b"prefer-encrypt", b"x@y"]
+
+# O8: key data that is Base64, and such as is not.
+KEY_TEXTS = [b"", b"Zg==", b"Z g = =", b"Zm8=", b"Zm9v", b"Zm9vYg==", b"\tZm9v ", b"Zh==", b"Zm9=", b"Zg", b"Zg=",
+             b"Zg===", b"Zg==Zm9v", b"=", b"====", b"Z===", b"Zm9v.", b"Zm9v\r", b"Zm9v\xff", b"Z-_v", b"Zm9v=",
+             b"(c)Zm9v"]
+
+# O9: what stands behind `prefer-encrypt=`.
+PREFERENCES = [b"mutual", b"mutual", b"nopreference", b"Mutual", b"", b"="]
+
+# O11: lines with many faults in few octets.
+SHORT_LINES = [b"Autocrypt:x=\n", b"Autocrypt:\n", b"autocrypt:;\n", b"Autocrypt-Gossip:x=\n", b"Autocrypt-Gossip:\n",
+               b"autocrypt-gossip:prefer-encrypt=\n", b"X:\n", b"Autocrypt:keydata=\n"]
 
 LETTERS = b"ABCDEFGHIJKLMNOPQRSTUVWXYZabcdefghijklmnopqrstuvwxyz"
 DIGITS = b"0123456789"
@@ -1212,3 +1231,177 @@ class Cases:
         kind = self.random.randrange(8)
         address = self.address() if kind < 2 else self.peer() if kind < 4 else self.international()
         return address, self.one([self.room(len(display(address, 1 << 20)[1])), 1024])
+
+    # Outgoing mail.
+
+    def linting(self) -> tuple[bytes, bytes, int]:
+        """Outer block, payload block and how many numbers are lent."""
+        outer, payload = self.message()[1:3] if self.chance(0.1) else self.outgoing()
+        _, faults = lint(outer, payload, 3 * FAULTS_LIMIT)
+        return outer, payload, self.lent(len(faults))
+
+    def lent(self, faults: int) -> int:
+        """How many numbers are lent for so many faults: just enough, more, one number or one fault less, none."""
+        just = 3 * faults
+        less = [just - 1, just - 2, just - 3, 0, self.random.randint(0, just)]
+        more = [just, just, just + 1, just + 2, just + 3, just + self.random.randint(0, 60), 300 + just]
+        return max(0, self.one(less if self.chance(0.3) else more))
+
+    def outgoing(self) -> tuple[bytes, bytes]:
+        """Outer block and payload block of a mail that some program is about to send, with faults and without."""
+        sender, listed, hidden = self.someone(), [self.someone() for _ in range(self.one([1, 1, 2, 3]))], self.someone()
+        tidy = self.chance(0.25)
+        lines = self.sender_lines(sender) + self.own_lines(sender, tidy) + self.list_lines(listed, hidden)
+        if not tidy:
+            # O6: those who stand in no readable list of the three names, and the sender, who stands in From.
+            others = [hidden, sender, self.peer()]
+            lines += [self.gossip_line(listed, others) for _ in range(self.one([0, 0, 0, 0, 1, 1, 2]))]
+            told = [self.gossip_line(listed, others) for _ in range(self.one([0, 1, 1, 2, 3]))]
+        else:
+            told = [self.tidy_line(b"Autocrypt-Gossip", self.one(listed)) for _ in range(self.one([0, 1, 1, 2]))]
+        if self.chance(0.01):
+            lines += [self.one(SHORT_LINES) for _ in range(self.one([20, 300]))]
+            told += [self.one(SHORT_LINES) for _ in range(self.one([20, 300]))]
+        lines += [self.passed_over() for _ in range(self.one([0, 0, 1, 2]))]
+        told += [self.passed_over() for _ in range(self.one([0, 0, 1, 2]))]
+        if self.chance(0.15):
+            # O3: an Autocrypt field of a payload is not read. O6: nor does its To make a recipient.
+            told.append(self.one([self.field(b"Autocrypt", self.lapsed_value(sender)), self.field(b"To", hidden)]))
+        return self.block_of(lines), self.block_of(told) if self.chance(0.85) else b""
+
+    def block_of(self, lines: list[bytes]) -> bytes:
+        """The lines in any order as a block, which is readable as a rule."""
+        self.random.shuffle(lines)
+        kind = self.random.randrange(24)
+        if kind == 0:
+            lines.insert(self.random.randint(0, len(lines)), self.bad_line() + self.ending())
+        elif kind == 1:
+            lines.insert(self.random.randint(0, len(lines)), self.ending())
+        block = self.tail(b"".join(lines)) if self.chance(0.6) else b"".join(lines)
+        if kind == 2:
+            return self.mutate(block)
+        return self.sized(block) if kind == 3 and self.chance(0.2) else block
+
+    def sender_lines(self, sender: bytes) -> list[bytes]:
+        """The From of a mail; seldom none, two, or a list of another number of addresses."""
+        kind = self.random.randrange(20)
+        lines = [self.field(b"From", self.list_of([sender]))]
+        if kind == 0:
+            return self.one([[], lines * 2, lines + [self.field(b"From", self.peer())]])
+        if kind == 1:
+            return [self.field(b"From", self.one([self.address_list(), self.list_of([sender, sender])]))]
+        return lines
+
+    def list_lines(self, listed: list[bytes], hidden: bytes) -> list[bytes]:
+        """To, Cc and Reply-To with those listed, and where another may stand without being a recipient (G4)."""
+        lines = []
+        for address in listed:
+            if self.chance(0.95):
+                spelled = self.respelled(address)
+                lines.append(self.field(self.one([b"To", b"To", b"Cc", b"Reply-To"]), self.list_of([spelled])))
+        if self.chance(0.3):
+            lines.append(self.field(self.one([b"To", b"Cc"]), self.list_of(listed)))
+        if self.chance(0.5):
+            fault = self.one([b",", b" Bob", b"(", b"\x01", b";", b", a@b@c"])
+            lines.append(self.one([self.field(b"To", self.list_of([hidden]) + fault),
+                                   self.field(self.one([b"Bcc", b"Sender", b"Resent-To", b"X-To"]), hidden),
+                                   self.field(b"Cc", self.address_list())]))
+        return lines
+
+    def passed_over(self) -> bytes:
+        """A field that has no part in the faults of a mail; a report among them (O1)."""
+        return self.field(b"Content-Type", self.content_type()) if self.chance(0.3) else self.plain_field()
+
+    def own_lines(self, sender: bytes, tidy: bool) -> list[bytes]:
+        """The Autocrypt fields of a mail."""
+        if tidy:
+            return [self.tidy_line(b"Autocrypt", sender)]
+        kind = self.random.randrange(8)
+        if kind == 0:
+            return []
+        if kind < 3:
+            # O5: several that are valid, equal ones among them.
+            lines = [self.tidy_line(b"Autocrypt", sender) for _ in range(self.one([1, 2, 2, 3]))]
+            return lines + [self.one(lines)] if self.chance(0.3) else lines
+        lines = []
+        for _ in range(self.one([1, 1, 2, 3])):
+            address = self.respelled(sender) if self.chance(0.8) else self.peer()
+            lines.append(self.field(b"Autocrypt", self.lapsed_value(address)))
+        return lines + [self.tidy_line(b"Autocrypt", sender)] if self.chance(0.3) else lines
+
+    def tidy_line(self, name: bytes, address: bytes) -> bytes:
+        """A field without a fault, if the address is plain: as our writers write it, or as others might."""
+        gossip, mutual = name != b"Autocrypt", self.chance(0.5)
+        if self.chance(0.5):
+            key = self.good_key()
+            number, field = write_gossip(address, key, 9000) if gossip else write_autocrypt(address, key, mutual, 9000)
+            if number == 0:
+                return field
+        pieces = [b"addr=" + self.respelled(address)]
+        if mutual and not gossip:
+            pieces.append(b"prefer-encrypt=" + self.one(PREFERENCES))
+        if self.chance(0.2):
+            pieces.append(self.one(IGNORED))
+        self.random.shuffle(pieces)
+        return self.field(name, self.pieced(pieces + [b"keydata=" + base64.encode(self.good_key())]))
+
+    def gossip_line(self, listed: list[bytes], others: list[bytes]) -> bytes:
+        """A gossip field about one of those listed, or about one of the others."""
+        address = self.one(listed if self.chance(0.65) else others)
+        if self.chance(0.3):
+            return self.tidy_line(b"Autocrypt-Gossip", address)
+        return self.field(b"Autocrypt-Gossip", self.lapsed_value(self.respelled(address)))
+
+    def pieced(self, pieces: list[bytes]) -> bytes:
+        """The pieces of a value joined, with blanks around some."""
+        return b";".join(self.blank() + piece + self.blank() for piece in pieces)
+
+    def lapsed_value(self, address: bytes) -> bytes:
+        """The value of a field with lapses: often one, also none or several."""
+        pieces = [b"addr=" + address, b"keydata=" + base64.encode(self.some(b"key", 1, 9))]
+        if self.chance(0.2):
+            pieces.insert(self.random.randint(0, 1), b"prefer-encrypt=" + self.one(PREFERENCES))
+        for _ in range(self.one([0, 1, 1, 1, 1, 2, 2, 4])):
+            self.lapse(pieces, address)
+        return self.sometimes_mutated(self.pieced(pieces), 0.05)
+
+    def lapse(self, pieces: list[bytes], address: bytes) -> None:
+        """One change of the pieces, which leads to a fault or just does not (O5 to O9)."""
+        kind = self.random.randrange(14)
+        at = self.random.randint(0, len(pieces))
+        if kind == 0:
+            pieces.insert(at, self.one(UNKNOWN))
+        elif kind == 1:
+            pieces.insert(at, self.one(IGNORED))
+        elif kind in (2, 3):
+            pieces.insert(self.one([at, 0]), self.one(NO_ATTRIBUTE))
+        elif kind == 4:
+            pieces.insert(at, b"prefer-encrypt=" + self.one(PREFERENCES))
+        elif kind == 5:
+            pieces.insert(at, b"addr=" + self.one([address, self.peer(), self.address(), b"", b"<" + address + b">"]))
+        elif kind == 6:
+            # Another address in the place of each, or one that is not plain.
+            other = self.one([self.peer(), self.address(), self.near_miss(address), self.bad_list(), b"a@b " + address])
+            pieces[:] = [b"addr=" + other if piece.startswith(b"addr=") else piece for piece in pieces]
+        elif kind == 7:
+            pieces.insert(at, b"keydata=" + self.one(KEY_TEXTS))
+        elif kind in (8, 9):
+            text = self.key_text()
+            pieces[:] = [b"keydata=" + text if piece.startswith(b"keydata=") else piece for piece in pieces]
+        elif kind == 10:
+            # F3, F8: a `;` at the end.
+            pieces.append(self.one([b"", b"", b" "]))
+        elif kind == 11 and pieces:
+            del pieces[at - 1]
+        elif kind == 12 and pieces:
+            # F4: names have a case.
+            name, sign, value = pieces[at - 1].partition(b"=")
+            pieces[at - 1] = self.one([name.upper(), name.title(), self.any_case(name), b"_" + name]) + sign + value
+        else:
+            self.random.shuffle(pieces)
+
+    def key_text(self) -> bytes:
+        """Key data: of no octets, about as many as may be, or far more; and such as is no Base64."""
+        if self.chance(0.5):
+            return base64.encode(self.random.randbytes(self.one([0, 0, 1, self.near(KEY_LIMIT), 2 * KEY_LIMIT])))
+        return self.base64_text() if self.chance(0.5) else self.one(KEY_TEXTS)

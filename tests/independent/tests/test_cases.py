@@ -3,6 +3,7 @@
 Where cases have to reach both sides of a limit, the test names its rule.
 """
 
+import itertools
 import pathlib
 import sys
 import types
@@ -11,8 +12,8 @@ from collections import Counter
 
 import scope
 from cases import CAPITALS, NEAR_MISSES, PEERS, Cases
-from scope import (address, base64, conversion, date, displaying, header, keyfield, listing, processing, punycode,
-                   recommending, table, tokens, utf8, writing)
+from scope import (address, base64, conversion, date, displaying, header, keyfield, linting, listing, processing,
+                   punycode, recommending, table, tokens, utf8, writing)
 from scope.processing import SKIP, TAKE, UNSET
 from scope.table import SLOT
 
@@ -24,7 +25,8 @@ class Determinism(unittest.TestCase):
                "header_block", "content_type", "address", "accented", "address_list", "recipients", "field_value",
                "key", "table", "broken_slot", "old_table", "listing_input", "message", "processing", "recommending",
                "target", "one_slot", "writing", "writing_gossip", "conversion", "international", "grown",
-               "script_label", "coded_label", "limit_label", "bad_label", "someone", "displaying", "quick"]
+               "script_label", "coded_label", "limit_label", "bad_label", "someone", "displaying", "quick",
+               "linting"]
 
     def drawn(self, seed: int) -> list:
         cases = Cases(seed)
@@ -693,6 +695,160 @@ class Conversions(unittest.TestCase):
             events["last seen from another slot"] += largest > youngest.last_seen
 
 
+def subsets(kinds: list[int]) -> list[tuple[int, ...]]:
+    return [one for many in range(len(kinds) + 1) for one in itertools.combinations(kinds, many)]
+
+
+# O3: the kinds that one field may have at once: an Autocrypt field, gossip in the outer block, gossip in the payload.
+OWN = {(0, *kinds) for kinds in subsets([3, 4, 5]) + [(2,)] if kinds}
+OUTSIDE = {(0, *sorted((6, *kinds))) for kinds in subsets([4, 5, 7, 8])}
+INSIDE = {(1, *kinds) for kinds in subsets([4, 5, 7, 8]) if kinds}
+
+
+def sort_of_addr(value: bytes, sender: bytes, recipients: list[bytes], elsewhere: list[bytes]) -> str:
+    """Whom a gossip field is about (O6)."""
+    named = linting.values_named(b"addr", value)
+    if len(named) != 1:
+        return "none" if named == [] else "two, equal" if named == named[:1] * len(named) else "two"
+    form = address.canonical(named[0])
+    if not address.is_plain(named[0]):
+        return "not plain"
+    if form in recipients:
+        return "a recipient" if named[0] == form else "a recipient in another spelling"
+    if form == sender:
+        return "the sender, who is listed in From alone"
+    return "hidden in another field" if form in elsewhere else "nobody"
+
+
+def sort_of_key_data(value: bytes) -> str:
+    """What is special about key data (O8)."""
+    named, last = linting.values_named(b"keydata", value), linting.attributes(value)[-1]
+    if len(named) != 1:
+        good = linting.has_key_data(b"keydata=" + b"".join(named[-1:]))
+        return "none" if named == [] else "twice, the last one good" if good else "twice"
+    if value.rstrip(b" \t").endswith(b";"):
+        return "a semicolon at the end"
+    if last is None or last[0] != b"keydata":
+        return "ignored behind it" if last is not None and last[0][:1] == b"_" else "not last"
+    octets = base64.decode(named[0])
+    if octets is None:
+        bare = named[0].rstrip(b"=")
+        return "unused bits" if base64.decode(bare[:-1] + b"A" + named[0][len(bare):]) else "no Base64"
+    length = "longer" if len(octets) > 2049 else "some octets"
+    return {0: "empty", 2048: "2,048", 2049: "2,049"}.get(len(octets), length)
+
+
+class Outgoing(unittest.TestCase):
+    """O1 to O9: what `lint` is given."""
+
+    @classmethod
+    def setUpClass(cls):
+        cases = Cases(SEED)
+        cls.drawn = [cases.linting() for _ in range(3000)]
+        cls.answers = [linting.lint(outer, payload, 3 * linting.FAULTS_LIMIT) for outer, payload, _ in cls.drawn]
+
+    def blocks(self) -> list[tuple[list, list]]:
+        """The fields of both blocks of mails that are not refused for them."""
+        return [(header.fields(outer), header.fields(payload))
+                for (outer, payload, _), (number, _) in zip(self.drawn, self.answers) if number == 0]
+
+    def test_answers_and_rooms_R12(self):
+        answers, spare = Counter(), Counter()
+        for (_, _, room), (number, faults) in zip(self.drawn, self.answers):
+            short = number == 0 and room < 3 * len(faults)
+            answers[number or (12 if short else "faults" if faults else "none")] += 1
+            if number == 0:
+                spare[room - 3 * len(faults)] += 1
+                spare["none at all"] += room == 0 and faults != []
+        self.assertEqual(set(answers), {4, 5, 7, 12, "faults", "none"})
+        self.assertGreater(min(answers.values()), 100, answers)
+        self.assertGreater(answers["faults"], 1000, answers)
+        self.assertGreater(min(spare[room] for room in (-3, -2, -1, 0, 1, 2, 3, 300, "none at all")), 50, spare)
+
+    def test_kinds_O3(self):
+        """Every kind in many mails, and every set of kinds that a field can have in some."""
+        mails, sets = Counter(), Counter()
+        for _, faults in self.answers:
+            mails.update({kind for _, _, kind in faults})
+            for at, group in itertools.groupby(faults, lambda fault: fault[:2]):
+                sets[at[0], *(kind for _, _, kind in group)] += 1
+        self.assertEqual(set(mails), set(range(1, 9)))
+        self.assertGreater(min(mails.values()), 300, mails)
+        self.assertEqual(set(sets), {(0, 1)} | OWN | OUTSIDE | INSIDE)
+
+    def test_blocks_O1_O2(self):
+        """Fields at many places, folded and not, with names in any case; reports, and mails without a payload."""
+        places = {fault[:2] for _, faults in self.answers for fault in faults}
+        self.assertLessEqual({(0, place) for place in range(16)} | {(1, place) for place in range(1, 8)}, places)
+        self.assertGreater(max(place for _, place in places), 300)
+        met = Counter()
+        for outer, payload in self.blocks():
+            met["report"] += any(header.is_report(value) for value in header.values_of(outer, b"Content-Type"))
+            met["no payload"] += payload == []
+            met["Autocrypt in the payload"] += header.values_of(payload, b"Autocrypt") != []
+            met["another case"] += any(name.lower() == b"autocrypt" and name != b"Autocrypt" for name, _ in outer)
+            valid = linting.valid_places(outer, processing.sender_of(outer))
+            met[f"{min(len(valid), 3)} valid"] += 1
+            met["equal ones"] += len({outer[place - 1] for place in valid}) < len(valid)
+        self.assertEqual(len(met), 9)
+        self.assertGreater(min(met.values()), 30, met)
+        folded = sum(b"\n " in outer and faults != [] for (outer, _, _), (_, faults) in zip(self.drawn, self.answers))
+        self.assertGreater(folded, 300)
+
+    def test_whom_gossip_is_about_O6(self):
+        met = Counter()
+        for outer, payload in self.blocks():
+            recipients, sender = processing.recipients_of(outer), processing.sender_of(outer)
+            others = [value for name, value in outer + payload if not header.same_name(name, b"From")
+                      and not name.lower().startswith(b"autocrypt")]
+            elsewhere = [address.canonical(word) for value in others for word in value.strip(b" \t,;").split()]
+            for value in header.values_of(outer + payload, b"Autocrypt-Gossip"):
+                met[sort_of_addr(value, sender, recipients, elsewhere)] += 1
+        self.assertEqual(set(met), {"none", "two", "two, equal", "not plain", "a recipient", "nobody",
+                                    "a recipient in another spelling", "the sender, who is listed in From alone",
+                                    "hidden in another field"})
+        self.assertGreater(min(met.values()), 20, met)
+
+    def test_own_addresses_O6(self):
+        """Valid fields for the sender in another spelling, and fields for somebody with nearly the same address."""
+        met = Counter()
+        for outer, _ in self.blocks():
+            sender = processing.sender_of(outer)
+            for place in linting.valid_places(outer, sender):
+                named, = linting.values_named(b"addr", outer[place - 1][1])
+                met["as it is" if named == sender else sort_of(named)] += 1
+        self.assertGreater(min(met[sort] for sort in ("as it is", "equal by the longer map", "another script", "coded",
+                                                      "ASCII")), 20, met)
+
+    def test_pieces_O7_O9(self):
+        """Pieces without `=`, with an empty name, ignored, unknown; preferences with any value, and two of them."""
+        met = Counter()
+        for outer, payload in self.blocks():
+            for value in header.values_of(outer, b"Autocrypt") + header.values_of(payload, b"Autocrypt-Gossip"):
+                pieces = [piece.strip(b" \t") for piece in value.split(b";")]
+                met["empty"] += b"" in pieces
+                met["no sign"] += any(b"=" not in piece and piece for piece in pieces)
+                met["empty name"] += any(piece.startswith(b"=") for piece in pieces)
+                met["ignored"] += any(piece.startswith(b"_") and b"=" in piece for piece in pieces)
+                met["unknown"] += linting.has_unknown_attribute(value)
+                said = linting.values_named(b"prefer-encrypt", value)
+                met["mutual"] += said == [b"mutual"]
+                met["another preference"] += len(said) == 1 and said != [b"mutual"]
+                met["two preferences"] += len(said) > 1
+        self.assertEqual(len(met), 8)
+        self.assertGreater(min(met.values()), 50, met)
+
+    def test_key_data_O8(self):
+        met = Counter()
+        for outer, payload in self.blocks():
+            for value in header.values_of(outer, b"Autocrypt") + header.values_of(payload, b"Autocrypt-Gossip"):
+                met[sort_of_key_data(value)] += 1
+        self.assertEqual(set(met), {"none", "twice", "twice, the last one good", "a semicolon at the end", "not last",
+                                    "ignored behind it", "no Base64", "unused bits", "empty", "2,048", "2,049",
+                                    "longer", "some octets"})
+        self.assertGreater(min(met.values()), 8, met)
+
+
 def function_lines(path: pathlib.Path) -> set[int]:
     """The lines of all function bodies of a source file that can be executed."""
     found: set[int] = set()
@@ -752,6 +908,7 @@ class EveryLine(unittest.TestCase):
             (60, writing.write_gossip, cases.writing_gossip),
             (60, listing.listing, lambda: (cases.listing_input(),)),
             (200, recommending.quick, cases.quick),
+            (200, linting.lint, cases.linting),
         ]
         before = sys.gettrace()
         for count, call, draw in rounds:
