@@ -326,8 +326,8 @@ vienghulac_written vienghulac_display(const uint8_t *address, size_t address_len
  * `outer` is the mail's header block, up to the first empty line as for vienghulac_process. `payload` is the one of the
  * root part that is going to be encrypted; its length is 0 for a mail that is not. A fault is three numbers, those of
  * vienghulac_fault. Faults of the outer block come first; in a block they stand by place, and at one place by kind. A
- * field has each kind once (O4). There is no fault where all such fields are as the two writers write them: one Autocrypt
- * field, for the sender, and gossip in the payload alone, about recipients (C23).
+ * field has each kind once (O4). There is no fault where all such fields are as the two writers write them: one
+ * Autocrypt field, for the sender, and gossip in the payload alone, about recipients (C23).
  *
  * Borrowed: `outer` and `payload`. Lent: `faults`, which is aligned to 4, as a uint32_t is. `faults_length` counts
  * numbers, neither octets nor faults: there is room for a third as many faults, rounded down. If the number is 0, the

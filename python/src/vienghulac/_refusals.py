@@ -24,7 +24,7 @@ _HINTS = {
     11: "export it as binary and with its newest signatures alone; Ed25519 and RSA-3072 keys then fit, RSA-4096 keys do not",
 }
 
-BAD_SLOT = 2
+BAD_SLOT, BAD_PAYLOAD = 2, 7
 
 
 class Refused(Exception):
