@@ -89,13 +89,14 @@ def test_what_an_answer_is_O2():
 def test_words_of_kinds_and_blocks_O3():
     assert {kind.name: kind.words for kind in FaultKind} == KINDS
     assert [kind.value for kind in FaultKind] == list(range(1, 9))
-    assert {block.name: (block.value, block.words) for block in Block} == {"OUTER": (0, "outer"), "PAYLOAD": (1, "payload")}
+    assert {block.words: block for block in Block} == {"outer": Block.OUTER, "payload": Block.PAYLOAD}
+    assert (Block.OUTER, Block.PAYLOAD) == (0, 1)
 
 
 def test_as_the_independent_program_O1():
     """Each kind, each refusal and no faults are met. Here the list always has room."""
     cases, kinds, numbers = Cases(SEED), set(), set()
-    for _ in range(4_000):
+    for _ in range(3_000):
         outer, payload, _ = cases.linting()
         number, expected = linting.lint(outer, payload, 3 * _library.FAULTS)
         try:
@@ -220,8 +221,8 @@ def names_by_scope(block):
     [
         b"", b"\n", b"\r\n", b"A:", b"A:b\n", b"A:b\r\n\r\nB:c", b"A:b\n\nB:c", b"A:b\n \nB:c", b"A:b\n\t\r\nB:c",
         b"A:b\r\r\nB:c", b"A:b\r\n\r\r\nB:c", b"A:b\n\n\r\n", b"A:b\n\r\n\n", b"A::b\nB:c:d\n e:f\n",
-        b"!~:\x00\xff\nB:\r", b"A:b\rC:d\nB:", b"A:b\x0bC:d\nB:\x0c", b"A:b\x85C:d\nB:", b"\nA:b", b"A:\n :\n\t:\nB:", b"A:b\n ", b"A:b\n\t",
-        b"A:b\n\r", b"A:b\n\nno field", b" A:b",
+        b"!~:\x00\xff\nB:\r", b"A:b\rC:d\nB:", b"A:b\x0bC:d\nB:\x0c", b"A:b\x85C:d\nB:", b"\nA:b", b"A:\n :\n\t:\nB:", 
+        b"A:b\n ", b"A:b\n\t", b"A:b\n\r", b"A:b\n\nno field", b" A:b",
     ],
 )  # fmt: skip
 def test_names_of_fields_B2_B5_B6_B7(block):
@@ -363,7 +364,8 @@ def test_files_that_cannot_be_read(mails, tmp_path):
 
 
 def test_standard_input(mails):
-    mail, payload = mails(HEAD + b"Autocrypt-Gossip: addr=c@d; keydata=Zg==\n\nbody", b"Autocrypt-Gossip: addr=c@d; keydata=")
+    told = b"Autocrypt-Gossip: addr=c@d; keydata=Zg==\n\nbody"
+    mail, payload = mails(HEAD + told, told)
     outer = ["outer: no valid Autocrypt field", "outer, field 3 (Autocrypt-Gossip): gossip outside the payload"]
     assert linted("-", status=1, input=mail.read_bytes()) == outer
     assert linted("-", "--payload", payload, status=1, input=mail.read_bytes()) == outer

@@ -400,8 +400,8 @@ def _lint(options: argparse.Namespace) -> int:
 
 
 def _read_block(name: str) -> bytes:
-    """The header block at the front of a mail or a part, with its empty line, as `import` cuts it. Where it is longer than
-    a block may be, there is enough of it to be refused."""
+    """The header block at the front of a mail or a part, with its empty line, as `import` cuts it. Where it is longer
+    than a block may be, there is enough of it to be refused."""
     return header_block(io.BytesIO(_read(name, BLOCK_LIMIT)))
 
 
