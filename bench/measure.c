@@ -218,7 +218,8 @@ static void round_write(const struct one_case *one, const struct library *librar
 static vienghulac_fault faults[VIENGHULAC_FAULTS];
 
 static vienghulac_linted lint(const struct library *library, const struct call *call) {
-    return library->lint(call->first.s, call->first.n, call->second.s, call->second.n, &faults[0].block, 3 * VIENGHULAC_FAULTS);
+    return library->lint(call->first.s, call->first.n, call->second.s, call->second.n, &faults[0].block,
+                         3 * VIENGHULAC_FAULTS);
 }
 
 static void round_lint(const struct one_case *one, const struct library *library, uint8_t *table) {

@@ -7,7 +7,8 @@ of rows that it belongs to, the number that the group grows with, and the used s
 the arguments of calls, each with its length before it (four octets, little-endian): the table; the number of calls; for
 each call two texts (outer block and payload; recipients and nothing; address and key; nothing at all where the call
 takes a table alone). `process` asks for gossip, and `process-unset` says nothing about it. `target` asks for the key of
-the first recipient. `lint` takes an outer block and a payload, and no table. `convert` has nothing to do, and `convert-old` has: its table is put back before each call.
+the first recipient. `convert` has nothing to do, and `convert-old` has: its table is put back before each call. `lint`
+takes an outer block and a payload, and no table.
 
 All messages of a case have the same instant as their Date, in many zones: an equal date replaces, so that a call writes
 the same key again each time and costs the same, however often it is repeated.
