@@ -24,7 +24,8 @@ _HINTS = {
     11: "export it as binary and with its newest signatures alone; Ed25519 and RSA-3072 keys then fit, RSA-4096 keys do not",
 }
 
-BAD_SLOT, BAD_PAYLOAD = 2, 7
+BAD_SLOT = 2
+BAD_PAYLOAD = 7
 
 
 class Refused(Exception):
