@@ -46,11 +46,10 @@ are different letters here, and are shown as they are:
     display(b"bob@xn--bcher-kva.example").decode()         # "bob@bücher.example"
 
 Outgoing mail: `lint` lists what is wrong with the Autocrypt and Autocrypt-Gossip fields of a mail
-that is about to be sent. It is for those who write mail programs, to try their mail before a
-release; `vienghulac lint FILE` does it to a file. A mail whose fields the calls here wrote has no
-fault:
+that is about to be sent. It is for authors of mail programs, who try their mail with it before a
+release; `vienghulac lint FILE` does it to a file:
 
-    for block, place, kind in lint(header_block, payload): # Block.OUTER, 3, FaultKind.KEY_DATA
+    for block, place, kind in lint(header_block, payload):
         print(block.words, place, kind.words)              # outer 3 key data not last or not Base64
 
 Rules: docs/SCOPE.md of the project says what each call does, for every input.

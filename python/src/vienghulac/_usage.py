@@ -119,32 +119,32 @@ its Autocrypt and Autocrypt-Gossip fields. This is for authors of mail programs,
 to try their mail before a release.
 
 FILE holds the mail, or its header block alone. With --payload comes the root
-part that is going to be encrypted, which is where gossip belongs, or the header
-block of that. Each is read up to and including its first empty line, octet by
-octet; nothing behind it matters. An mbox file is refused (4), as its first line
-is no field: cut one mail out of it.
+part that is going to be encrypted, where gossip belongs, or the header block of
+that alone. Each is read as it stands, octet by octet, up to and including its
+first empty line. An mbox file is refused (4), since its first line is no field:
+cut a mail out of it.
 
 A line for each fault has the block, the place of the field among all fields of
 that block, counted from 1, the field's name as it stands there, and what is
-wrong, such as
+wrong, as in
 
   outer, field 3 (Autocrypt): {FaultKind.KEY_DATA.words}
 
-By their numbers the kinds of faults are:
+These are the kinds of faults:
 
 {_KINDS}
 
-Kind 1 is about no field. Those of 2 and 3 are about Autocrypt fields, which are
-not read in the payload, those from 6 on about gossip, those of 4 and 5 about
-both. A field with no address, with several or with one that is not plain has
-the wrong one (3, 7). Recipients are those of To, Cc and Reply-To.
+Kind 1 is about no field, and its line names none. Kinds 2 and 3 are about
+Autocrypt fields of the outer block, 6 to 8 about gossip fields, 4 and 5 about
+both. A field without an address, with several, or with one that is not plain
+has the wrong one (3, 7). Recipients are those of To, Cc and Reply-To.
 
 Where nothing is wrong the line is 'no faults', and the exit status 0. With
 faults it is 1, as with a refusal: of FILE (4, 5) or of the payload (7).
 
-With --json, for each fault: block, outer or payload; place, 0 for kind 1;
-field, that name, or null for kind 1; kind, a word; kind_number, that number;
-words, as in the line."""
+With --json, for each fault: block, which is outer or payload; place, 0 for kind
+1; field, that name, or null for kind 1; kind, a word for it, as key_data;
+kind_number, 1 to 8 in this order; words, those of the line."""
 
 _CHECK = """\
 Say of each FILE whether it is a table. The exit status is 1 where one is not;
