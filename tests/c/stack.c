@@ -288,7 +288,8 @@ static void same(const char *what, answer (*call)(void), uint64_t first, size_t 
     errand there = on_a_thread(call, VIENGHULAC_STACK);
     printf("%-52s %6zu octets of stack\n", what, there.touched);
     expect("its answer", here.numbers[0] == first && memcmp(&here, &there.answer, sizeof here) == 0);
-    expect("the memory behind it", memcmp(table, table_after, sizeof table) == 0 && memcmp(&out, &out_after, sizeof out) == 0 &&
+    expect("the memory behind it",
+           memcmp(table, table_after, sizeof table) == 0 && memcmp(&out, &out_after, sizeof out) == 0 &&
            memcmp(faults, faults_after, sizeof faults) == 0);
     expect("the stack it needs", there.touched <= most);
 }
