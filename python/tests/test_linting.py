@@ -220,15 +220,13 @@ def names_by_scope(block):
     "block",
     [
         b"", b"\n", b"\r\n", b"A:", b"A:b\n", b"A:b\r\n\r\nB:c", b"A:b\n\nB:c", b"A:b\n \nB:c", b"A:b\n\t\r\nB:c",
-        b"A:b\r\r\nB:c", b"A:b\r\n\r\r\nB:c", b"A:b\n\n\r\n", b"A:b\n\r\n\n", b"A::b\nB:c:d\n e:f\n",
-        b"!~:\x00\xff\nB:\r", b"A:b\rC:d\nB:", b"A:b\x0bC:d\nB:\x0c", b"A:b\x85C:d\nB:", b"\nA:b", b"A:\n :\n\t:\nB:", 
-        b"A:b\n ", b"A:b\n\t", b"A:b\n\r", b"A:b\n\nno field", b" A:b",
+        b"A:b\r\r\nB:c", b"A:b\n \r\r\nB:c", b"A:b\n\n\r\n", b"A:b\n\r\n\n", b"A::b\nB:c:d\n e:f\n",
+        b"!~:\x00\xff\nB:\r", b"A:b\rC:d\nB:", b"A:b\x0bC:d\nB:\x0c", b"A:b\x85C:d\nB:", b"\nA:b",
+        b"A:\n :\n\t:\nB:", b"A:b\n ", b"A:b\n\t", b"A:b\n\nno field", b"A:b\r\n\r\n A:b",
     ],
 )  # fmt: skip
 def test_names_of_fields_B2_B5_B6_B7(block):
-    expected = names_by_scope(block)
-    if expected is not None:
-        assert field_names(block) == expected
+    assert field_names(block) == names_by_scope(block)
 
 
 def test_names_of_fields_as_the_independent_program_has_them_B7():
