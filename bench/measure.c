@@ -17,6 +17,7 @@
 #include <valgrind/callgrind.h>
 
 #include "peer/peer.h"
+#include "../include/vienghulac.h"
 #ifdef WITH_GMIME
 #include "gmime.h"
 #endif
@@ -50,6 +51,7 @@ struct library {
     peer_quick (*recommend_quick)(const uint8_t *, size_t, const uint8_t *, size_t, bool, bool);
     peer_part (*target_key)(const uint8_t *, size_t, const uint8_t *, size_t, bool, bool, uint64_t);
     peer_written (*write_autocrypt)(const uint8_t *, size_t, const uint8_t *, size_t, bool, uint8_t *, size_t);
+    vienghulac_linted (*lint)(const uint8_t *, size_t, const uint8_t *, size_t, uint32_t *, size_t); /* ours alone */
 };
 
 static struct library libraries[] = {
@@ -80,6 +82,7 @@ static void load(struct library *library) {
     load_one(opened, library, "recommend_quick", &library->recommend_quick);
     load_one(opened, library, "target_key", &library->target_key);
     load_one(opened, library, "write_autocrypt", &library->write_autocrypt);
+    if (library == libraries) load_one(opened, library, "lint", &library->lint);
 }
 
 /* The cases */
@@ -212,6 +215,18 @@ static void round_write(const struct one_case *one, const struct library *librar
     }
 }
 
+static vienghulac_fault faults[VIENGHULAC_FAULTS];
+
+static vienghulac_linted lint(const struct library *library, const struct call *call) {
+    return library->lint(call->first.s, call->first.n, call->second.s, call->second.n, &faults[0].block,
+                         3 * VIENGHULAC_FAULTS);
+}
+
+static void round_lint(const struct one_case *one, const struct library *library, uint8_t *table) {
+    (void)table;
+    for (uint32_t i = 0; i < one->count; i++) sink += lint(library, &one->calls[i]).count;
+}
+
 static void round_memcpy(const struct one_case *one, const struct library *library, uint8_t *table) {
     (void)library;
     (void)table;
@@ -271,6 +286,7 @@ static round_of *round_by(const struct one_case *one, const struct library *libr
     if (strcmp(one->kind, "check") == 0) return library->check ? round_check : NULL;
     if (converts(one)) return library->convert ? round_convert : NULL;
     if (strcmp(one->kind, "write") == 0) return library->write_autocrypt ? round_write : NULL;
+    if (strcmp(one->kind, "lint") == 0) return library->lint ? round_lint : NULL;
     exit(2);
 }
 
@@ -374,14 +390,25 @@ static void compare_all(void) {
     }
 }
 
-/* Every program once. A conversion changes a table where there is something to do, and there alone; GMime has to find the
- * keys, and no keys where there are none. */
+/* Are all mails of a case looked over without a refusal, with as many faults each as its row says? */
+static bool lints_right(const struct row *row) {
+    bool right = true, faulty = strncmp(row->one->name, "lint-faulty.", 12) == 0;
+    for (uint32_t i = 0; i < row->one->count; i++) {
+        vienghulac_linted l = lint(row->library, &row->one->calls[i]);
+        right = right && l.number == 0 && l.count == (faulty ? 2u : 0u);
+    }
+    return right;
+}
+
+/* Every program once. A conversion changes a table where there is something to do, and there alone; a mail has the faults
+ * that it was given; GMime has to find the keys, and no keys where there are none. */
 static void smoke(void) {
     for (int i = 0; i < row_count; i++) {
         const struct row *row = &rows[i];
         row->round(row->one, row->library, row->table);
         bool changed = memcmp(row->table, row->one->table.s, row->one->table.n) != 0;
         expect(row->round != round_convert || changed == is_spent(row->one), row->one, row->program);
+        if (row->round == round_lint) expect(lints_right(row), row->one, "other faults than it was given");
     }
 #ifdef WITH_GMIME
     for (int i = 0; i < case_count; i++) {

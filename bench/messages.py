@@ -7,7 +7,8 @@ of rows that it belongs to, the number that the group grows with, and the used s
 the arguments of calls, each with its length before it (four octets, little-endian): the table; the number of calls; for
 each call two texts (outer block and payload; recipients and nothing; address and key; nothing at all where the call
 takes a table alone). `process` asks for gossip, and `process-unset` says nothing about it. `target` asks for the key of
-the first recipient. `convert` has nothing to do, and `convert-old` has: its table is put back before each call.
+the first recipient. `convert` has nothing to do, and `convert-old` has: its table is put back before each call. `lint`
+takes an outer block and a payload, and no table.
 
 All messages of a case have the same instant as their Date, in many zones: an equal date replaces, so that a call writes
 the same key again each time and costs the same, however often it is repeated.
@@ -244,6 +245,11 @@ def without_autocrypt(block: bytes) -> bytes:
     return before + b"\r\n".join(lines[rest:])
 
 
+def with_fault(block: bytes) -> bytes:
+    """The same block with an unknown attribute in its Autocrypt field, so that it has no valid one."""
+    return block.replace(b"Autocrypt: addr=", b"Autocrypt: type=1; addr=", 1)
+
+
 def respelled(address: bytes, letters: dict[int, int]) -> bytes:
     """The address with other letters in its local part."""
     local, host = address.decode().split("@")
@@ -414,6 +420,10 @@ def cases(few: bool):
 
     # New rows come last, so that those above draw the same random numbers as before.
     yield from quick_cases(make, few)
+    # Outgoing mail: that of the table of one slot, as it is, and with two faults each.
+    faulty = [(with_fault(outer), payload) for outer, payload in gossiping[1]]
+    for group, sent in (("lint", gossiping[1]), ("lint-faulty", faulty)):
+        yield group, 1, 0, "lint", ["ours", "memcpy"], b"", sent
 
 
 def counted(octets: bytes) -> bytes:

@@ -53,6 +53,8 @@ CALLS = {
     "convert-old": "convert, half with capitals, 32 of them merged",
     "convert-last": "convert, ASCII but for a capital in the last slot",
     "write": "write a field",
+    "lint": "lint, with a key and 1 to 20 gossip fields",
+    "lint-faulty": "lint, the same mails with two faults each",
 }
 GROWTHS = {
     "grow-block": ("octets of the block, without a key, 16 used slots", "octet"),
@@ -365,6 +367,8 @@ def targets(times: Times, counts: Times) -> str:
                                        ("no disable: {} / of recommend", "quick-nowhere", "recommend-nowhere", 1.02)):
         aim("quick, " + words.format("instructions above the check"), 256,
             ratio(above_check(counts, above, "ours"), above_check(counts, below, "ours")), limit, True)
+    for words, name in (("no fault", "lint"), ("two faults", "lint-faulty")):
+        aim_at_both(f"lint, with a key and gossip, {words}: {{}} / of process", 1, f"{name}.1", "gossip.1", 1.5)
     return markdown(["target", "slots", "wanted", "measured", ""], rows)
 
 

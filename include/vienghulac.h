@@ -24,12 +24,13 @@
  *      4   the header block of the mail cannot be read; page B says what can be
  *      5   no single From field with a single address; also where that field is no readable list (R5)
  *      6   the mail is a report, of type multipart/report; by any of its Content-Type fields (B13)
- *      7   gossip is wanted, but the payload block cannot be read; only with VIENGHULAC_GOSSIP_TAKE (R7)
+ *      7   gossip is wanted, but the payload block cannot be read; only with VIENGHULAC_GOSSIP_TAKE, and in
+ *          vienghulac_lint (R7)
  *      8   too few free slots for the new addresses
  *      9   the address to write is not a plain one; or the one to show. It has nothing around it (L6, L7)
  *     10   the recipients cannot be read, or are not 1 to 100
  *     11   the key to write is empty or over 2,048 octets
- *     12   too little room for the field, or for 11 numbers; or for the address to show
+ *     12   too little room for the field, or for 11 numbers; or for the address to show, or for the faults
  *
  * Each call can give the numbers that its comment names. If several hold, the lowest of them is given.
  *
@@ -49,9 +50,9 @@
  *
  *   the machine  has addresses and sizes of 64 bits
  *   a bool       is 0 or 1. In C and C++ it can be nothing else; another language has to pass an octet that is 0 or 1
- *   the stack    has room: up to 312,000 octets for vienghulac_process, for a short mail as for a long one, and up to
- *                16,384 for every other call. A thread whose stack has VIENGHULAC_STACK octets may make every call; on
- *                a smaller one a call may overflow it
+ *   the stack    has room: up to 312,000 octets for vienghulac_process and up to 240,000 for vienghulac_lint, for a
+ *                short mail as for a long one, and up to 16,384 for every other call. A thread whose stack has
+ *                VIENGHULAC_STACK octets may make every call; on a smaller one a call may overflow it
  */
 #ifndef VIENGHULAC_H
 #define VIENGHULAC_H
@@ -82,6 +83,10 @@ extern "C" {
 /* An output of this length has room for every address shown, so vienghulac_display then never answers 12 (W11). */
 #define VIENGHULAC_DISPLAY 1024
 
+/* A list with three numbers for each of so many faults has room for those of every mail, so vienghulac_lint then never
+ * answers 12 (O11). */
+#define VIENGHULAC_FAULTS 32768
+
 /* The gossip setting of vienghulac_process. Gossip is taken with VIENGHULAC_GOSSIP_TAKE alone. Any value besides these
  * three counts as unset, and unset skips (G1). */
 #define VIENGHULAC_GOSSIP_UNSET 0
@@ -104,6 +109,17 @@ extern "C" {
 
 /* How many numbers vienghulac_entry writes. */
 #define VIENGHULAC_NUMBERS 11
+
+/* The kinds of faults that vienghulac_lint lists (O3). The first is about the outer block, the next two are about its
+ * Autocrypt fields, the last three about gossip fields, and the two between about both. */
+#define VIENGHULAC_FAULT_NO_VALID 1          /* no valid Autocrypt field */
+#define VIENGHULAC_FAULT_MORE_VALID 2        /* another valid Autocrypt field stands before it */
+#define VIENGHULAC_FAULT_WRONG_ADDRESS 3     /* its address is not the sender's */
+#define VIENGHULAC_FAULT_UNKNOWN_ATTRIBUTE 4 /* an unknown critical attribute */
+#define VIENGHULAC_FAULT_KEY_DATA 5          /* key data not last or not Base64 */
+#define VIENGHULAC_FAULT_GOSSIP_OUTSIDE 6    /* gossip outside the payload */
+#define VIENGHULAC_FAULT_GOSSIP_UNLISTED 7   /* gossip about somebody who is not a recipient */
+#define VIENGHULAC_FAULT_GOSSIP_PREFERENCE 8 /* gossip with a preference */
 
 /* What a call on a table answers: 0 or the number of a refusal, and the index of a slot, which is 0 unless the number
  * is 2. */
@@ -156,6 +172,20 @@ typedef struct {
     uint64_t number;
     uint64_t length;
 } vienghulac_written;
+
+/* The numbers of a fault under names, in their order (O2). To have faults written to an array of these, lend
+ * `&faults[0].block`, and three numbers for each. */
+typedef struct {
+    uint32_t block; /* 0 for the outer block, 1 for the payload */
+    uint32_t place; /* the field's among all fields of its block, from 1; 0 with VIENGHULAC_FAULT_NO_VALID */
+    uint32_t kind;  /* one of VIENGHULAC_FAULT_* */
+} vienghulac_fault;
+
+/* What vienghulac_lint answers: 0 and how many faults there are, or a refusal's number and the count 0. */
+typedef struct {
+    uint32_t number;
+    uint32_t count;
+} vienghulac_linted;
 
 /* Are these octets a table that the other calls take? Each call on a table asks this first, so no program has to.
  *
@@ -284,6 +314,28 @@ vienghulac_written vienghulac_write_gossip(const uint8_t *address, size_t addres
  * behind them, and with a refusal all of `out`, stay as they were; no zero is put behind the address.
  * Answers 0, 9 or 12. */
 vienghulac_written vienghulac_display(const uint8_t *address, size_t address_length, uint8_t *out, size_t out_length);
+
+/* Looks over a mail that some program is about to send, and lists what is wrong with its Autocrypt and Autocrypt-Gossip
+ * fields (page O). It is for authors of mail programs, who try their mail with it before a release.
+ *
+ *     static vienghulac_fault faults[VIENGHULAC_FAULTS];
+ *     vienghulac_linted done = vienghulac_lint(outer, outer_length, payload, payload_length,
+ *                                              &faults[0].block, 3 * VIENGHULAC_FAULTS);
+ *     for (uint32_t i = 0; i < done.count; i++) show(faults[i].block, faults[i].place, faults[i].kind);
+ *
+ * `outer` is the mail's header block, up to the first empty line as for vienghulac_process. `payload` is the one of the
+ * root part that is going to be encrypted; its length is 0 for a mail that is not. A fault is three numbers, those of
+ * vienghulac_fault. Faults of the outer block come first; in a block they stand by place, and at one place by kind. A
+ * field has each kind once (O4). There is no fault where all such fields are as the two writers write them: one
+ * Autocrypt field, for the sender, and gossip in the payload alone, about recipients (C23).
+ *
+ * Borrowed: `outer` and `payload`. Lent: `faults`, which is aligned to 4, as a uint32_t is. `faults_length` counts
+ * numbers, neither octets nor faults: there is room for a third as many faults, rounded down. If the number is 0, the
+ * first 3 * `count` numbers are written. Those behind them, and with a refusal all of them, stay as they were.
+ * Answers 0 with a count of at most VIENGHULAC_FAULTS, or 4, 5, 7 or 12. A report is not refused (O1). */
+vienghulac_linted vienghulac_lint(const uint8_t *outer, size_t outer_length,
+                                  const uint8_t *payload, size_t payload_length,
+                                  uint32_t *faults, size_t faults_length);
 
 #ifdef __cplusplus
 }

@@ -1,4 +1,4 @@
-"""The tables of the bench, and its lists with a disable, are what its rows say of them."""
+"""The tables of the bench, its lists with a disable and its outgoing mails are what its rows say of them."""
 import sys
 import unittest
 from dataclasses import replace
@@ -8,7 +8,7 @@ ROOT = Path(__file__).resolve().parents[2]
 sys.path += [str(ROOT / "bench"), str(ROOT / "tests" / "independent")]
 
 from messages import cases  # noqa: E402
-from scope import conversion, recommending, table as tables  # noqa: E402
+from scope import conversion, linting, recommending, table as tables  # noqa: E402
 from scope.address import canonical  # noqa: E402
 from scope.recommending import DISABLE, DISCOURAGE, REFUSED  # noqa: E402
 
@@ -19,14 +19,15 @@ class Tables(unittest.TestCase):
         rows = list(cases(few=True))
         cls.made = [(f"{group}.{number}", call, used, table) for group, number, used, call, _, table, _ in rows]
         cls.tables = {name: table for name, _, _, table in cls.made}
-        cls.lists = {f"{group}.{number}": [first for first, _ in calls] for group, number, *_, calls in rows}
+        cls.calls = {f"{group}.{number}": calls for group, number, *_, calls in rows}
+        cls.lists = {name: [first for first, _ in calls] for name, calls in cls.calls.items()}
 
     def entries(self, name: str) -> list[tables.Entry]:
         return tables.entries(self.tables[name])
 
     def test_full_and_sound(self):
         for name, call, used, table in self.made:
-            if call not in ("write", "convert-old"):
+            if call not in ("write", "convert-old", "lint"):
                 self.assertEqual(tables.check(table), (0, 0), name)
             self.assertEqual(sum(entry is not None for entry in tables.entries(table)), used, name)
 
@@ -80,6 +81,14 @@ class Tables(unittest.TestCase):
             self.assertEqual(recommending.quick(self.tables["quick-refused.256"], recipients, True, False), (0, 0, DISABLE, 100))
         for name in ("quick-at-1.256", "quick-at-50.256"):
             self.assertEqual([sorted(octets) for octets in self.lists[name]], [sorted(octets) for octets in readable], name)
+
+    def test_outgoing_mail_O3(self):
+        """The mails that `process` gets with one slot have no fault. With an attribute more they have two."""
+        self.assertEqual(self.calls["lint.1"], self.calls["gossip.1"])
+        for name, kinds in (("lint.1", []), ("lint-faulty.1", [linting.NO_VALID, linting.UNKNOWN_ATTRIBUTE])):
+            for outer, payload in self.calls[name]:
+                number, faults = linting.lint(outer, payload, 3 * linting.FAULTS_LIMIT)
+                self.assertEqual((number, [kind for _, _, kind in faults]), (0, kinds), name)
 
 
 if __name__ == "__main__":

@@ -7,7 +7,7 @@ from letters import RECEIPT, letter, old_table, table_with
 
 from vienghulac import (
     Gossip, Refused, Table, autocrypt_field, autocrypt_header, check, convert, display, entries, gossip_field,
-    gossip_header, process, recommend, recommend_quick, target_key,
+    gossip_header, lint, process, recommend, recommend_quick, target_key,
 )  # fmt: skip
 
 LIST = b"a@x"
@@ -23,6 +23,7 @@ CALLS = [
     (gossip_field, dict(address=LIST, key=b"k")),
     (gossip_header, dict(address=LIST, key=b"k")),
     (display, dict(address=LIST)),
+    (lint, dict(outer=letter(b"a@x"), payload=b"")),
     (check, dict(table=bytes(4_392))),
     (convert, dict(table=bytes(4_392))),
     (Table, dict(table=bytes(4_392))),
@@ -79,7 +80,8 @@ def test_missing_and_surplus_arguments():
     table, _ = table_with(b"a@x")
     for call in (
         lambda: process(table), lambda: recommend(table, LIST, True, True, 1), lambda: autocrypt_field(LIST),
-        lambda: display(), lambda: display(LIST, LIST), lambda: recommend_quick(table),
+        lambda: display(), lambda: display(LIST, LIST), lambda: recommend_quick(table), lambda: lint(),
+        lambda: lint(b"From: a@x", b"", b""),
         lambda: recommend_quick(table, LIST, True, True, 1),
     ):  # fmt: skip
         with pytest.raises(TypeError):
@@ -95,6 +97,8 @@ def test_every_kind_of_octets(kind):
     assert target_key(table, kind(b"a@x")) == b"key"
     assert autocrypt_field(kind(b"a@x"), kind(b"foo")) == b"Autocrypt: addr=a@x; keydata=\r\n Zm9v\r\n"
     assert display(kind(b"A@xn--nda")) == "a@ö".encode()
+    assert lint(kind(letter(b"a@x", b"key"))) == [] == lint(kind(letter(b"a@x", b"key")), kind(b""))
+    assert lint(kind(letter(b"a@x")), kind(b"Autocrypt-Gossip:")) == [(0, 0, 1), (1, 1, 5), (1, 1, 7)]
     assert bytes(convert(kind(old_table()))) == bytes(convert(old_table()))
 
 
@@ -102,6 +106,8 @@ def test_a_view_with_gaps_lends_the_octets_it_shows():
     spread = bytes(octet for pair in zip(b"a@x.example", b"-----------") for octet in pair)
     assert b"addr=a@x.example;" in autocrypt_field(memoryview(spread)[::2], b"foo")
     assert display(memoryview(spread)[::2]) == b"a@x.example"
+    mail = bytes(octet for pair in zip(letter(b"a@x", b"key"), b"\n" * 100) for octet in pair)
+    assert lint(memoryview(mail)[::2]) == []
 
 
 @pytest.mark.parametrize("base", [bytes, bytearray])
@@ -120,6 +126,7 @@ def test_a_class_that_lies_about_its_length(base):
 
     assert autocrypt_field(Liar(b"a@x"), Liar(b"foo")) == autocrypt_field(b"a@x", b"foo")
     assert display(Liar(b"a@x")) == b"a@x"
+    assert lint(Liar(letter(b"a@x", b"key")), Liar(b"Autocrypt-Gossip:")) == [(1, 1, 5), (1, 1, 7)]
     assert bytes(convert(Liar(old_table()))) == bytes(convert(old_table()))
     told, plain = Table(Liar(bytes(4_392 * 2))), Table.new(2)
     outer, payload = letter(b"a@x", b"key", more=b"To: b@x\r\n"), gossip_field(b"b@x", b"gossiped")
@@ -166,7 +173,9 @@ def test_a_subclass_of_a_table_is_one():
 def test_a_released_view_is_no_octets():
     view = memoryview(b"a@x")
     view.release()
-    for call in (lambda: autocrypt_field(view, b"foo"), lambda: display(view)):
+    for call in (
+        lambda: autocrypt_field(view, b"foo"), lambda: display(view), lambda: lint(view), lambda: lint(LIST, view),
+    ):  # fmt: skip
         with pytest.raises(ValueError):
             call()
 
@@ -200,3 +209,7 @@ def test_refusals_of_each_call_R31_R32():
     with pytest.raises(Refused) as caught:
         display(b"<a@x>")
     assert (caught.value.number, caught.value.slot) == (9, None)
+    for number, arguments in {4: (b"no field", b"no field"), 5: (b"", b"no field"), 7: (from_a, b"no field")}.items():
+        with pytest.raises(Refused) as caught:
+            lint(*arguments)
+        assert (caught.value.number, caught.value.slot) == (number, None)

@@ -14,7 +14,9 @@ import pytest
 from commands import INBOX, answer, failure, mailbox_of, run
 from letters import EXAMPLES, RECEIPT, letter, table_with
 
-from vienghulac import REFUSALS, Gossip, Table, _command, autocrypt_field, entries, gossip_field, process, target_key
+from vienghulac import (
+    REFUSALS, FaultKind, Gossip, Table, _command, autocrypt_field, entries, gossip_field, process, target_key,
+)  # fmt: skip
 
 ALICE, BOB, CAROL, DAVE = "alice@autocrypt.example", "bob@autocrypt.example", "carol@autocrypt.example", "dave@mail.example"
 
@@ -250,6 +252,7 @@ def test_check(imported, tmp_path):
         ("import", "mbox", "--table", "t", "--receipt", "yesterday"), ("field", "a@x"), ("check",), ("list", "--table", "t", "more"),
         ("convert",), ("convert", "--table", "t"), ("check", "t", "--no-wait"),
         ("display",), ("display", "a@x", "b@x"), ("display", "--table", "t", "a@x"),
+        ("lint",), ("lint", "a", "b"), ("lint", "--table", "t", "a"), ("lint", "--payload", "a"), ("lint", "-", "--payload", "-"),
         ("key", "--table", "t", "a@x", "--display"), ("key", "--table", "t", "a@x", "--quick"),
         ("recommend", "--quick", "--table", "t"),
         ("field", "a@x", "--key", "k", "--mutual", "--gossip"), ("list", "--table", "t", "--xml"),
@@ -259,7 +262,7 @@ def test_bad_usage(words):
     assert "usage: vienghulac" in failure(2, *words)
 
 
-@pytest.mark.parametrize("command", ["import", "list", "recommend", "field", "key", "display", "check", "convert"])
+@pytest.mark.parametrize("command", ["import", "list", "recommend", "field", "key", "display", "lint", "check", "convert"])
 def test_help(command):
     text = answer(command, "--help").decode()
     assert f"usage: vienghulac {command}" in text and "--json" in text
@@ -274,8 +277,9 @@ def test_help_names_the_keys_of_json(imported):
         ("import", INBOX, *table), ("list", *table), ("recommend", BOB, *table), ("key", BOB, *table),
         ("recommend", "--quick", BOB, *table),
         ("field", ALICE, "--key", key), ("display", ALICE), ("check", imported), ("convert", imported),
+        ("lint", EXAMPLES / "outgoing.eml"),
     ):  # fmt: skip
-        answered = json.loads(answer(command, "--json", *words))
+        answered = json.loads(run(command, "--json", *words).stdout)
         keys = set(answered[0] if isinstance(answered, list) else answered)
         text = answer(command, "--help").decode().partition("With --json")[2].partition("positional arguments")[0]
         assert keys and keys <= set(re.findall(r"\w+", text))
@@ -296,6 +300,11 @@ TOLD = {
     "convert": [
         "as renamed, those that hold an entry with another spelling", "as merged, those that became free",
         "only where something changes", "What is refused stays as it is", "with --no-wait such a file fails at once",
+    ],
+    "lint": [
+        "up to and including its first empty line", "An mbox file is refused (4)", "counted from 1", "as it stands there",
+        "outer, field 3 (Autocrypt): key data not last or not Base64", "the line is 'no faults', and the exit status 0",
+        "as with a refusal", "Recipients are those of To, Cc and Reply-To", *(kind.words for kind in FaultKind),
     ],
     "display": [
         "What is shown can be typed in place of the address", "a label stays as it is where it does not decode",

@@ -19,7 +19,7 @@ import pytest
 from letters import RECEIPT, gossip, letter, old_table, table_with
 
 from vienghulac import (
-    Gossip, Refused, Table, _library, convert, display, entries, process, recommend, recommend_quick, target_key,
+    Gossip, Refused, Table, _library, convert, display, entries, lint, process, recommend, recommend_quick, target_key,
 )  # fmt: skip
 
 THREADS = 4
@@ -188,6 +188,52 @@ def test_a_buffer_that_changes_while_it_is_shown(eager):
     with meanwhile(change):
         for _ in range(1_000):
             assert display(buffer) in ("a@ö.é".encode(), b"b@" + b"x" * 63)
+
+
+def faulty(number):
+    """A mail whose faults, of the kinds 1 and 3 to 5, stand at a place of its own, and a payload with one more there."""
+    filler = b"X:\n" * number
+    return b"From: a@x\nTo: b@x\n" + filler + b"Autocrypt: x=1\n", filler + b"Autocrypt-Gossip: addr=c@x; keydata=Zg=="
+
+
+def faults_of(number):
+    return [(0, 0, 1), *((0, number + 3, kind) for kind in (3, 4, 5)), (1, number + 1, 7)]
+
+
+@pytest.mark.parametrize("lent", [bytes, bytearray, lambda octets: memoryview(bytearray(octets))])
+def test_faults_are_of_the_mail_that_was_lent(lent):
+    """Each call has a list of its own, and leaves what it is given as it was."""
+    mails = [[lent(block) for block in faulty(number)] for number in range(100)]
+    found = in_threads(lambda _: [lint(*blocks) for blocks in mails])
+    assert found == [[faults_of(number) for number in range(100)]] * THREADS
+    assert mails == [list(faulty(number)) for number in range(100)]
+
+
+def test_faults_of_freed_blocks():
+    """The blocks are freed as the call returns, and their memory is taken by others meanwhile."""
+    with meanwhile(allocate_over):
+        for number in range(2_000):
+            assert lint(*faulty(number % 700)) == faults_of(number % 700)
+
+
+@pytest.mark.parametrize("lent", [lambda buffer: buffer, memoryview, lambda buffer: memoryview(buffer).toreadonly()])
+def test_a_buffer_that_changes_while_it_is_looked_over(lent, eager):
+    """What is looked over is one of the two mails that were there by turns, never one's sender with the other's field."""
+    mails = [letter(b"a@x", b"A" * 300, more=FILLER), letter(b"b@x", b"B" * 300, more=FILLER)]
+    by_turns, told = itertools.cycle(mails), itertools.cycle([b"Autocrypt-Gossip:", b"x-autocrypt-gossi"])
+    buffer, payload = bytearray(mails[0]), bytearray(next(told))
+    blocks = lent(buffer), lent(payload)
+
+    def change():
+        buffer[:] = next(by_turns)
+        payload[:] = next(told)
+
+    with meanwhile(change):
+        for _ in range(500):
+            try:
+                assert lint(*blocks) == [(1, 1, 5), (1, 1, 7)]
+            except Refused as refused:  # the second payload has no colon
+                assert refused.number == 7
 
 
 # Keys: views that the next write releases.

@@ -12,7 +12,7 @@ from pathlib import Path
 from letters import ROOT
 
 import vienghulac
-from vienghulac import Gossip, _library
+from vienghulac import Fault, FaultKind, Gossip, _library
 
 PACKAGE = Path(vienghulac.__file__).parent
 LIBRARY = PACKAGE / "libvienghulac.so"
@@ -43,10 +43,11 @@ def test_everything_public_is_listed_and_documented():
 
 
 def test_nothing_public_has_gone():
-    """What version 0.5 had, a program may still name."""
-    older = "Advice Entry FieldValue Gossip Locked Octets REFUSALS Refused SLOT SLOTS Table autocrypt_field autocrypt_header"
-    older += " check convert display entries gossip_field gossip_header open_table process recommend target_key"
-    assert set(vienghulac.__all__) == {*older.split(), "QuickAdvice", "recommend_quick"}
+    """What version 0.6 had, a program may still name."""
+    older = "Advice Entry FieldValue Gossip Locked Octets QuickAdvice REFUSALS Refused SLOT SLOTS Table autocrypt_field"
+    older += " autocrypt_header check convert display entries gossip_field gossip_header open_table process recommend"
+    older += " recommend_quick target_key"
+    assert set(vienghulac.__all__) == {*older.split(), "Block", "Fault", "FaultKind", "lint"}
 
 
 def test_the_words_of_a_version():
@@ -83,7 +84,7 @@ def test_the_library_calls_nothing_but_memory_functions():
 def test_the_library_has_the_functions_of_the_header():
     header = (ROOT / "include" / "vienghulac.h").read_text()
     declared = set(re.findall(r"^vienghulac_\w+ (vienghulac_\w+)\(", header, re.MULTILINE))
-    assert len(declared) == 10
+    assert len(declared) == 11
     symbols = output("readelf", "--dyn-syms", "--wide", LIBRARY)
     exported = set(re.findall(r"FUNC\s+GLOBAL\s+DEFAULT\s+\d+\s+(\w+)\n", symbols))
     assert exported == declared
@@ -98,11 +99,22 @@ def test_an_entry_is_read_as_the_header_declares_it():
     assert {name: getattr(_library, name) for name in defined} == {name: int(value) for name, value in defined.items()}
 
 
-def test_there_is_as_much_room_as_the_header_says_W6_W11():
+def test_there_is_as_much_room_as_the_header_says_W6_W11_O11():
     header = (ROOT / "include" / "vienghulac.h").read_text()
-    defined = dict(re.findall(r"^#define VIENGHULAC_(FIELD|DISPLAY) (\d+)$", header, re.MULTILINE))
-    assert {name: int(octets) for name, octets in defined.items()} == {"FIELD": 3_200, "DISPLAY": 1_024}
-    assert (_library.FIELD, _library.DISPLAY) == (3_200, 1_024)
+    defined = dict(re.findall(r"^#define VIENGHULAC_(FIELD|DISPLAY|FAULTS) (\d+)$", header, re.MULTILINE))
+    assert {name: int(many) for name, many in defined.items()} == {"FIELD": 3_200, "DISPLAY": 1_024, "FAULTS": 32_768}
+    assert (_library.FIELD, _library.DISPLAY, _library.FAULTS) == (3_200, 1_024, 32_768)
+
+
+def test_faults_are_read_as_the_header_declares_them_O2_O3():
+    header = (ROOT / "include" / "vienghulac.h").read_text()
+    for struct, names in (("fault", Fault._fields), ("linted", [name for name, _ in _library.Linted._fields_])):
+        (members,) = re.findall(rf"^typedef struct \{{([^{{}}]*)\}} vienghulac_{struct};", header, re.MULTILINE)
+        assert re.findall(r"^    uint32_t (\w+);", members, re.MULTILINE) == list(names)
+    kinds = re.findall(r"^#define VIENGHULAC_FAULT_(\w+) (\d+) +/\* (.*) \*/$", header, re.MULTILINE)
+    assert [(name, int(number), words) for name, number, words in kinds] == [
+        (kind.name, kind.value, kind.words) for kind in FaultKind
+    ]
 
 
 def test_the_gossip_setting_has_the_numbers_of_the_header_G1():
@@ -130,8 +142,8 @@ def test_the_package_is_strictly_typed():
 USER = """
 from typing import Optional
 from vienghulac import (
-    Advice, QuickAdvice, Table, autocrypt_header, convert, display, open_table, process, recommend, recommend_quick,
-    target_key,
+    Advice, Block, Fault, FaultKind, QuickAdvice, Table, autocrypt_header, convert, display, lint, open_table, process,
+    recommend, recommend_quick, target_key,
 )
 
 table: Table = Table.new(slots=4)
@@ -145,6 +157,9 @@ key: Optional[memoryview] = target_key(table, memoryview(b"a@x"))
 name, value = autocrypt_header(b"a@x", b"key")
 text: str = name + value
 shown: str = display(bytearray(b"a@x")).decode()
+faults: list[Fault] = lint(bytearray(b"From: a@x"), memoryview(b""))
+for block, place, kind in lint(b"From: a@x"):
+    told: tuple[Block, int, FaultKind, str] = block, place, kind, block.words + kind.words
 with open_table("correspondents.table", slots=4, waiting=print) as shared:
     process(shared, 0, b"From: a@x")
 """
@@ -157,7 +172,8 @@ def test_its_users_are_checked_too(tmp_path):
     output(*words, "good.py", cwd=tmp_path)
     wrong = ["recommend(table, 'a@x')", "bytes(target_key(table, b'a@x'))", "open_table('t').slots", "convert(table)"]
     wrong += ["display('a@x')", "text = display(b'a@x')"]
+    wrong += ["lint('From: a@x')", "lint(b'', None)", "faults[0].place = 2", "text = faults[0].kind"]
     wrong += ["recommend_quick(table, 'a@x')", "advice = recommend_quick(table, b'a@x')", "quick.looked_up = 2"]
     (tmp_path / "bad.py").write_text(USER + "\n".join(wrong) + "\n")
     bad = subprocess.run([*words, "bad.py"], capture_output=True, text=True, cwd=tmp_path)
-    assert bad.returncode == 1 and "Found 9 errors" in bad.stdout
+    assert bad.returncode == 1 and "Found 13 errors" in bad.stdout

@@ -7,7 +7,7 @@ import sys
 import pytest
 from letters import EXAMPLES, ROOT
 
-from vienghulac import REFUSALS
+from vienghulac import REFUSALS, FaultKind
 
 README = (ROOT / "README.md").read_text()
 
@@ -38,16 +38,34 @@ def test_c_example(tmp_path, library):
     assert done.stdout == printed
 
 
+def run_line(line, folder):
+    """A command as it stands there, in a folder with the example files that it names."""
+    for name in ("inbox.mbox", "alice.key", "outgoing.eml", "outgoing-payload.eml"):
+        (folder / name).write_bytes((EXAMPLES / name).read_bytes())
+    command = f"{sys.executable} -m vienghulac {line}"
+    return subprocess.run(command, shell=True, capture_output=True, text=True, cwd=folder)
+
+
 def test_command_line_examples(tmp_path):
-    """Each line that opens with `$ vienghulac`, in a folder with the mailbox and the key it names."""
+    """Each line that opens with `$ vienghulac`. The mail of `lint` has faults."""
     lines = re.findall(r"^    \$ vienghulac (.*)$", README, re.MULTILINE)
     assert len(lines) >= 6
-    for name in ("inbox.mbox", "alice.key"):
-        (tmp_path / name).write_bytes((EXAMPLES / name).read_bytes())
     for line in lines:
-        command = f"{sys.executable} -m vienghulac {line}"
-        done = subprocess.run(command, shell=True, capture_output=True, text=True, cwd=tmp_path)
-        assert (done.returncode, done.stderr) == (0, ""), line
+        done = run_line(line, tmp_path)
+        assert (done.returncode, done.stderr) == (1 if line.startswith("lint ") else 0, ""), line
+
+
+def test_the_faults_of_the_example_mail(tmp_path):
+    """The command of that chapter, and what it prints."""
+    ((line, printed),) = re.findall(r"^    vienghulac (lint .*)\n\n((?:    .*\n)+)", README, re.MULTILINE)
+    done = run_line(line, tmp_path)
+    assert (done.returncode, done.stderr) == (1, "")
+    assert [f"    {fault}" for fault in done.stdout.splitlines()] == printed.splitlines()
+
+
+def test_every_fault_is_in_the_table():
+    rows = re.findall(r"^\| (.*?) \| (\d+) \| .+ \|$", README, re.MULTILINE)
+    assert [(int(number), words) for words, number in rows] == [(kind.value, kind.words) for kind in FaultKind]
 
 
 def test_every_refusal_is_in_the_table():

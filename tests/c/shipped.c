@@ -430,6 +430,109 @@ static void ask_quickly(void) {
     expect("quickly: nothing lent", memcmp(&q, &no_table, sizeof q) == 0);
 }
 
+/* O10: what stands behind From and To, a payload, and the faults; and the kinds that are not among them. */
+#define SENT "From: a@b\r\nTo: c@d\r\n"
+#define VALID "Autocrypt: addr=a@b; keydata=Zg==\r\n"
+static const struct {
+    const char *outer, *payload;
+    uint32_t count;
+    vienghulac_fault faults[4];
+} lints[] = {
+    {SENT "Autocrypt: x=1\r\n", "", 4,
+     {{0, 0, VIENGHULAC_FAULT_NO_VALID}, {0, 3, VIENGHULAC_FAULT_WRONG_ADDRESS},
+      {0, 3, VIENGHULAC_FAULT_UNKNOWN_ATTRIBUTE}, {0, 3, VIENGHULAC_FAULT_KEY_DATA}}},
+    {SENT "Autocrypt: x=1\r\n" VALID, "", 3,
+     {{0, 3, VIENGHULAC_FAULT_WRONG_ADDRESS}, {0, 3, VIENGHULAC_FAULT_UNKNOWN_ATTRIBUTE},
+      {0, 3, VIENGHULAC_FAULT_KEY_DATA}}},
+    {SENT "Autocrypt: addr=a@b; keydata=Zg==;\r\n", "", 2,
+     {{0, 0, VIENGHULAC_FAULT_NO_VALID}, {0, 3, VIENGHULAC_FAULT_KEY_DATA}}},
+    {SENT VALID, "", 0, {{0, 0, 0}}},
+    {SENT "Autocrypt-Gossip:\r\n", "", 4,
+     {{0, 0, VIENGHULAC_FAULT_NO_VALID}, {0, 3, VIENGHULAC_FAULT_KEY_DATA}, {0, 3, VIENGHULAC_FAULT_GOSSIP_OUTSIDE},
+      {0, 3, VIENGHULAC_FAULT_GOSSIP_UNLISTED}}},
+    {SENT, "Autocrypt-Gossip:\r\n", 3,
+     {{0, 0, VIENGHULAC_FAULT_NO_VALID}, {1, 1, VIENGHULAC_FAULT_KEY_DATA}, {1, 1, VIENGHULAC_FAULT_GOSSIP_UNLISTED}}},
+    {SENT, "Autocrypt-Gossip: addr=C@D; keydata=Zg==\r\n", 1, {{0, 0, VIENGHULAC_FAULT_NO_VALID}}},
+    {SENT VALID VALID "X: y\r\n z\r\n" VALID, "X:\n\t\nautocrypt-GOSSIP: addr=c@d; prefer-encrypt=; keydata=Zg==", 3,
+     {{0, 4, VIENGHULAC_FAULT_MORE_VALID}, {0, 6, VIENGHULAC_FAULT_MORE_VALID},
+      {1, 2, VIENGHULAC_FAULT_GOSSIP_PREFERENCE}}},
+};
+
+enum { LINT_ROOM = 6 }; /* faults, more than any of these has */
+
+/* R12, R32: are these the faults, in a list of each length up to some more than they take? A list that is too short
+ * stays as it was, and so do the numbers behind the faults. */
+static bool is_linted(const char *outer, const char *inner, uint32_t count, const vienghulac_fault *faults) {
+    vienghulac_fault list[LINT_ROOM], before[LINT_ROOM];
+    bool right = true;
+    memset(before, 0xa5, sizeof before);
+    for (size_t room = 0; room <= 3 * LINT_ROOM; room++) {
+        const bool fits = room >= 3 * count;
+        const size_t written = fits ? count * sizeof *list : 0;
+        memcpy(list, before, sizeof list);
+        vienghulac_linted l =
+            vienghulac_lint(octets(outer), strlen(outer), octets(inner), strlen(inner), &list[0].block, room);
+        right &= l.number == (fits ? 0u : 12u) && l.count == (fits ? count : 0u);
+        right &= written == 0 || memcmp(list, faults, written) == 0;
+        right &= memcmp((uint8_t *)list + written, (uint8_t *)before + written, sizeof list - written) == 0;
+    }
+    return right;
+}
+
+/* R31: is this number answered, with a count of 0, whatever room there is, and nothing written? */
+static bool is_not_linted(const char *outer, const char *inner, uint32_t number) {
+    vienghulac_fault list[LINT_ROOM], before[LINT_ROOM];
+    bool right = true;
+    memset(before, 0xa5, sizeof before);
+    memcpy(list, before, sizeof list);
+    for (size_t room = 0; room <= 3 * LINT_ROOM; room += 3 * LINT_ROOM) {
+        vienghulac_linted l =
+            vienghulac_lint(octets(outer), strlen(outer), octets(inner), strlen(inner), &list[0].block, room);
+        right &= l.number == number && l.count == 0 && memcmp(list, before, sizeof list) == 0;
+    }
+    return right;
+}
+
+/* C23: a mail from Bob to Bob with what the writers wrote, and the same with its gossip in the outer block. */
+static void look_over_our_own(void) {
+    static const vienghulac_fault outside[] = {{0, 4, VIENGHULAC_FAULT_GOSSIP_OUTSIDE}};
+    char outer[400] = "From: Bob <bob@b.example>\r\nCc: BOB@B.example\r\n", inner[200] = "";
+    uint8_t out[100];
+    const uint8_t *bob = octets("bob@b.example"), *key = octets("foo");
+    vienghulac_written w = vienghulac_write_autocrypt(bob, 13, key, 3, true, out, sizeof out);
+    strncat(outer, (const char *)out, w.length);
+    w = vienghulac_write_gossip(bob, 13, key, 3, out, sizeof out);
+    strncat(inner, (const char *)out, w.length);
+    expect("our own fields", is_linted(outer, inner, 0, NULL) && is_linted(outer, "", 0, NULL));
+    strcat(outer, inner);
+    expect("our own gossip outside", is_linted(outer, inner, 1, outside));
+}
+
+/* Page O, with R4, R5, R7, R12 and R31. */
+static void look_over(void) {
+    for (size_t i = 0; i < sizeof lints / sizeof *lints; i++) {
+        expect("faults", is_linted(lints[i].outer, lints[i].payload, lints[i].count, lints[i].faults));
+    }
+    look_over_our_own();
+    expect("a fault is three numbers", sizeof(vienghulac_fault) == 3 * sizeof(uint32_t));
+    expect("the kinds in their order",
+           VIENGHULAC_FAULT_NO_VALID == 1 && VIENGHULAC_FAULT_MORE_VALID == 2 && VIENGHULAC_FAULT_WRONG_ADDRESS == 3 &&
+           VIENGHULAC_FAULT_UNKNOWN_ATTRIBUTE == 4 && VIENGHULAC_FAULT_KEY_DATA == 5 &&
+           VIENGHULAC_FAULT_GOSSIP_OUTSIDE == 6 && VIENGHULAC_FAULT_GOSSIP_UNLISTED == 7 &&
+           VIENGHULAC_FAULT_GOSSIP_PREFERENCE == 8);
+    expect("lint: an unreadable block",
+           is_not_linted("no field", "no field", 4) && is_not_linted(SENT "no field", "", 4));
+    expect("lint: no sender", is_not_linted("", "no field", 5) && is_not_linted(SENT SENT, "", 5));
+    expect("lint: an unreadable payload", is_not_linted(SENT "Autocrypt: x=1\r\n", "no field", 7));
+    expect("lint: a report", is_linted(SENT VALID "Content-Type: multipart/report\r\n", "", 0, NULL));
+    vienghulac_linted l = vienghulac_lint(NULL, 0, NULL, 0, NULL, 0);
+    expect("lint: nothing lent", l.number == 5 && l.count == 0);
+    l = vienghulac_lint(octets(SENT VALID), sizeof SENT VALID - 1, NULL, 0, NULL, 0);
+    expect("lint: no list, and no faults", l.number == 0 && l.count == 0);
+    l = vienghulac_lint(octets(SENT), sizeof SENT - 1, NULL, 0, NULL, 0);
+    expect("lint: no list", l.number == 12 && l.count == 0);
+}
+
 int main(void) {
     talk();
     ask_quickly();
@@ -438,6 +541,7 @@ int main(void) {
     bring_up_to_date();
     show();
     grow();
+    look_over();
     const uint8_t *address = octets("Bob@b.Example"), *key = octets("foo");
     const size_t address_length = 13, length = sizeof field - 1;
     uint8_t out[128], before[128];

@@ -19,6 +19,7 @@ enum {
     LONGEST = 65536,  /* octets of a block */
     SHORT = 8192,     /* two blocks that are no longer are read in less room */
     PROCESS = 312000, /* octets of stack, as the header says of vienghulac_process */
+    LINT = 240000,    /* of vienghulac_lint */
     OTHERS = 16384,   /* and of every other call */
     GUARD = 1 << 20,
     PATTERN = 0xa5
@@ -151,6 +152,7 @@ static void make_longest(block *address) {
 /* What the calls are lent, and what they answer. */
 static block outer, payload, recipients, address, key, out;
 static uint8_t table[VIENGHULAC_SLOTS * VIENGHULAC_SLOT];
+static vienghulac_fault faults[VIENGHULAC_FAULTS];
 
 /* T16: all slots full, and with spellings of one address: eight letters, each a capital where its bit of the index is
  * set. Each slot is younger than those below it, so that its keys are moved. */
@@ -230,6 +232,12 @@ static answer display(void) {
     return (answer){{w.number, w.length, 0}};
 }
 
+static answer lint(void) {
+    vienghulac_linted l = vienghulac_lint(outer.octets, outer.length, payload.octets, payload.length, &faults[0].block,
+                                          3 * VIENGHULAC_FAULTS);
+    return (answer){{l.number, l.count, 0}};
+}
+
 /* A call on a thread: its answer, and how much of the thread's stack it touched. */
 typedef struct {
     answer (*call)(void);
@@ -266,17 +274,23 @@ static errand on_a_thread(answer (*call)(void), size_t size) {
 static void same(const char *what, answer (*call)(void), uint64_t first, size_t most) {
     static uint8_t table_before[sizeof table], table_after[sizeof table];
     static block out_before, out_after;
+    static vienghulac_fault faults_after[VIENGHULAC_FAULTS];
     memcpy(table_before, table, sizeof table);
     out_before = out;
+    memset(faults, PATTERN, sizeof faults);
     answer here = call();
     memcpy(table_after, table, sizeof table);
     out_after = out;
+    memcpy(faults_after, faults, sizeof faults);
     memcpy(table, table_before, sizeof table);
     out = out_before;
+    memset(faults, PATTERN, sizeof faults);
     errand there = on_a_thread(call, VIENGHULAC_STACK);
     printf("%-52s %6zu octets of stack\n", what, there.touched);
     expect("its answer", here.numbers[0] == first && memcmp(&here, &there.answer, sizeof here) == 0);
-    expect("the memory behind it", memcmp(table, table_after, sizeof table) == 0 && memcmp(&out, &out_after, sizeof out) == 0);
+    expect("the memory behind it",
+           memcmp(table, table_after, sizeof table) == 0 && memcmp(&out, &out_after, sizeof out) == 0 &&
+           memcmp(faults, faults_after, sizeof faults) == 0);
     expect("the stack it needs", there.touched <= most);
 }
 
@@ -286,6 +300,37 @@ static void processes(const char *what, size_t outer_length, size_t payload_leng
     make_payload(&payload, payload_length, many);
     memset(table, 0, sizeof table);
     same(what, process, number, PROCESS);
+}
+
+/* The same mail looked over: gossip about so many addresses, of whom the last may be none of its recipients. */
+static void lints(const char *what, size_t outer_length, size_t payload_length, unsigned many, uint64_t number) {
+    make_outer(&outer, outer_length);
+    make_payload(&payload, payload_length, many);
+    same(what, lint, number, LINT);
+}
+
+/* The fewest octets for each fault: both blocks full of them (O11). */
+static void make_faulty(void) {
+    outer.length = payload.length = 0;
+    put(&outer, "From:a@b\n");
+    put_times(&outer, "Autocrypt:x=\n", (LONGEST - outer.length) / 13);
+    put_times(&payload, "Autocrypt-Gossip:x=\n", LONGEST / 20);
+}
+
+/* Mail as processing has it, which has no fault, with recipients who are not listed, and with nothing but faults. */
+static void look_over(void) {
+    lints("lint: both blocks short", SHORT, SHORT, 100, 0);
+    lints("lint: a long outer block, no payload", LONGEST, 0, 0, 0);
+    expect("no faults", lint().numbers[1] == 0);
+    lints("lint: an outer block that is too long", LONGEST + 1, LONGEST, 100, 4);
+    lints("lint: a payload that is too long", LONGEST, LONGEST + 1, 100, 7);
+    lints("lint: both blocks long", LONGEST, LONGEST, 250, 0);
+    expect("no faults in long blocks", lint().numbers[1] == 0);
+    lints("lint: a short outer block, a long payload", SHORT, LONGEST, 2000, 0);
+    expect("gossip about others", lint().numbers[1] > 100 && faults[0].kind == VIENGHULAC_FAULT_GOSSIP_UNLISTED);
+    make_faulty();
+    same("lint: both blocks full of faults", lint, 0, LINT);
+    expect("all of them", lint().numbers[1] == 24949 && faults[24948].place == LONGEST / 20);
 }
 
 /* Does the call end its program on a stack of this size? */
@@ -342,6 +387,7 @@ static void in_another_script(void) {
     same("display: an address of 254 octets", display, 0, OTHERS);
     expect("what is shown", display().numbers[1] == 873);
     make_longest(&address);
+    lints("lint: both blocks long, domains in UTF-8", LONGEST, LONGEST, 2000, 0);
     same("display: an address of 873 octets", display, 0, OTHERS);
     expect("the same", display().numbers[1] == 873 && memcmp(out.octets, address.octets, 873) == 0);
     domain = "x";
@@ -357,6 +403,8 @@ int main(void) {
     processes("process: more newcomers than slots", LONGEST, LONGEST, 300, 8);
     processes("process: both blocks long", LONGEST, LONGEST, 250, 0);
     expect("the buffers alone are not enough", ends(process, 3 * LONGEST));
+    look_over();
+    expect("nor for a mail that is looked over", ends(lint, 2 * LONGEST));
 
     make_recipients(&recipients);
     make_own(&address, &key);

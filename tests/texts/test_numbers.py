@@ -39,6 +39,9 @@ class Header(unittest.TestCase):
     def test_display(self):
         self.assertEqual(macro("VIENGHULAC_DISPLAY"), defined("displayRoom", "display/specs/Displaying.antt"))
 
+    def test_faults(self):
+        self.assertEqual(macro("VIENGHULAC_FAULTS"), defined("faultRoom", "lint/specs/Linting.antt"))
+
 
 if __name__ == "__main__":
     unittest.main()

@@ -45,6 +45,13 @@ are different letters here, and are shown as they are:
 
     display(b"bob@xn--bcher-kva.example").decode()         # "bob@bücher.example"
 
+Outgoing mail: `lint` lists what is wrong with the Autocrypt and Autocrypt-Gossip fields of a mail
+that is about to be sent. It is for authors of mail programs, who try their mail with it before a
+release; `vienghulac lint FILE` does it to a file:
+
+    for block, place, kind in lint(header_block, payload):
+        print(block.words, place, kind.words)              # outer 3 key data not last or not Base64
+
 Rules: docs/SCOPE.md of the project says what each call does, for every input.
 
 Ownership: a call borrows what it is given and keeps nothing of it. `bytes` are handed down as
@@ -58,8 +65,8 @@ that moment, such as a socket that is sending it in another thread, or where an 
 the call off. Until then the view shows the key that it was made of. What was made out of it
 before, such as a slice, a cast or another memoryview, shows that key for ever.
 
-Stack: `process` takes up to 312,000 octets of its thread's stack. A thread has more, unless
-`threading.stack_size` made it small; with less than 327,680 it must not call `process`.
+Stack: `process` takes up to 312,000 octets of its thread's stack, and `lint` up to 240,000. A thread
+has more, unless `threading.stack_size` made it small; with less than 327,680 it must call neither.
 
 Errors: a wrong type raises TypeError, and a number below 0 ValueError. All other input has an
 answer or is refused. A refusal raises `Refused` with its number, and leaves everything as it was.
@@ -67,6 +74,7 @@ answer or is refused. A refusal raises `Refused` with its number, and leaves eve
 
 from ._arguments import Octets
 from ._fields import FieldValue, autocrypt_field, autocrypt_header, display, gossip_field, gossip_header
+from ._linting import Block, Fault, FaultKind, lint
 from ._refusals import REFUSALS, Refused
 from ._shared import Locked, open_table
 from ._table import (
@@ -76,7 +84,10 @@ from ._table import (
 
 __all__ = [
     "Advice",
+    "Block",
     "Entry",
+    "Fault",
+    "FaultKind",
     "FieldValue",
     "Gossip",
     "Locked",
@@ -95,6 +106,7 @@ __all__ = [
     "entries",
     "gossip_field",
     "gossip_header",
+    "lint",
     "open_table",
     "process",
     "recommend",

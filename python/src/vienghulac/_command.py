@@ -20,14 +20,16 @@ from typing import Any, Iterator, Optional, Sequence
 
 from ._fields import FieldValue, autocrypt_field, display, gossip_field
 from ._files import read_file, replace_file
-from ._mailbox import Mailbox, NoMailbox, open_mailbox
-from ._refusals import BAD_SLOT, REFUSALS, Refused
+from ._linting import Block, Fault, field_names, lint
+from ._mailbox import BLOCK_LIMIT, Mailbox, NoMailbox, header_block, open_mailbox
+from ._refusals import BAD_PAYLOAD, BAD_SLOT, REFUSALS, Refused
 from ._shared import Locked, convert_file, open_table
 from ._table import (
     SLOT, Entry, Gossip, Table, convert, entries, process, read_octets, recommend, recommend_quick, target_key,
 )  # fmt: skip
 from ._usage import Command, parser
 
+_STANDARD_INPUT = "-"
 _KEY_LIMIT = 2_048
 _ARMOR = b"-----BEGIN PGP"
 _ADDRESS_ROOM = slice(40, 296)  # of a slot (T3)
@@ -360,7 +362,7 @@ def _field(options: argparse.Namespace) -> int:
 
 def _read_key(name: str) -> bytes:
     """The octets of a key. What is armored is no key yet, though it may be short enough to be written as one."""
-    key = sys.stdin.buffer.read(_KEY_LIMIT + 1) if name == "-" else read_file(name, _KEY_LIMIT)
+    key = _read(name, _KEY_LIMIT)
     if key.startswith(_ARMOR):
         raise _Failure(f"{name}: the key is armored; it has to be binary (gpg --dearmor)")
     return key
@@ -375,6 +377,50 @@ def _display(options: argparse.Namespace) -> int:
     return 0
 
 
+# lint
+
+
+def _lint(options: argparse.Namespace) -> int:
+    if options.file == options.payload == _STANDARD_INPUT:
+        options.misused("FILE and --payload cannot both be standard input")
+    outer = _read_block(options.file)
+    payload = b"" if options.payload is None else _read_block(options.payload)
+    try:
+        faults = lint(outer, payload)
+    except Refused as refused:
+        at_fault = options.payload if refused.number == BAD_PAYLOAD else options.file
+        raise _Failure(f"{at_fault}: {refused}") from None
+    names = {Block.OUTER: field_names(outer), Block.PAYLOAD: field_names(payload)}
+    found = [(fault, names[fault.block][fault.place - 1] if fault.place else None) for fault in faults]
+    if options.json:
+        _print_json([_fault_described(fault, name) for fault, name in found])
+    else:
+        print("\n".join(_fault_line(fault, name) for fault, name in found) or "no faults")
+    return 1 if faults else 0
+
+
+def _read_block(name: str) -> bytes:
+    """The header block at the front of a mail or a part, with its empty line, as `import` cuts it. Where it is longer
+    than a block may be, there is enough of it to be refused."""
+    return header_block(io.BytesIO(_read(name, BLOCK_LIMIT)))
+
+
+def _fault_line(fault: Fault, name: Optional[str]) -> str:
+    where = "" if name is None else f", field {fault.place} ({name})"
+    return f"{fault.block.words}{where}: {fault.kind.words}"
+
+
+def _fault_described(fault: Fault, name: Optional[str]) -> dict[str, Any]:
+    return {
+        "block": fault.block.words,
+        "place": fault.place,
+        "field": name,
+        "kind": fault.kind.name.lower(),
+        "kind_number": fault.kind.value,
+        "words": fault.kind.words,
+    }
+
+
 # what the commands share
 
 
@@ -385,6 +431,11 @@ def _load(name: str) -> Table:
         return Table(octets)
     except Refused as refused:
         raise _NoTable(name, refused, octets) from None
+
+
+def _read(name: str, limit: int) -> bytes:
+    """The octets of a file or of standard input, or the first `limit + 1` where there are more than the limit."""
+    return sys.stdin.buffer.read(limit + 1) if name == _STANDARD_INPUT else read_file(name, limit)
 
 
 def _print_json(value: object) -> None:
@@ -398,6 +449,7 @@ _COMMANDS = {
     "field": _field,
     "key": _key,
     "display": _display,
+    "lint": _lint,
     "check": _check,
     "convert": _convert,
 }

@@ -59,6 +59,14 @@ class Written(ctypes.Structure):
     length: int
 
 
+class Linted(ctypes.Structure):
+    """vienghulac_linted"""
+
+    _fields_ = [("number", ctypes.c_uint32), ("count", ctypes.c_uint32)]
+    number: int
+    count: int
+
+
 class Numbers(ctypes.Structure):
     """vienghulac_numbers"""
 
@@ -84,6 +92,7 @@ class Numbers(ctypes.Structure):
 
 NUMBERS = len(Numbers._fields_)
 FIELD, DISPLAY = 3_200, 1_024  # octets: room for every field, and for every address shown
+FAULTS = 32_768  # no mail has more
 BIT_LAST_SEEN, BIT_DIRECT, BIT_GOSSIP, BIT_MUTUAL = 1, 2, 4, 8
 
 _shared = ctypes.CDLL(str(Path(__file__).with_name("libvienghulac.so")))
@@ -123,3 +132,4 @@ entry = _declared("vienghulac_entry", Answer, *_TABLE, _NUMBER, ctypes.POINTER(N
 write_autocrypt = _declared("vienghulac_write_autocrypt", Written, *_BLOCK, *_BLOCK, _TRUTH, *_BLOCK)
 write_gossip = _declared("vienghulac_write_gossip", Written, *_BLOCK, *_BLOCK, *_BLOCK)
 display = _declared("vienghulac_display", Written, *_BLOCK, *_BLOCK)
+lint = _declared("vienghulac_lint", Linted, *_BLOCK, *_BLOCK, ctypes.POINTER(ctypes.c_uint32), _NUMBER)

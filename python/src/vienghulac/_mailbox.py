@@ -11,7 +11,7 @@ from email.utils import mktime_tz, parsedate_tz
 from pathlib import Path
 from typing import BinaryIO, Iterator, NamedTuple, Optional, Union
 
-_BLOCK_LIMIT = 65_536
+BLOCK_LIMIT = 65_536
 _EMPTY_LINES = (b"\n", b"\r\n")
 
 
@@ -45,7 +45,7 @@ class Mbox:
             opening = _next_opening(file)
             while opening:
                 receipt = _opening_time(opening)
-                block = _header_block(file)
+                block = header_block(file)
                 opening = _next_opening(file)
                 yield Message(block, self._modified if receipt is None else receipt, file.tell())
 
@@ -63,7 +63,7 @@ class Maildir:
     def messages(self) -> Iterator[Message]:
         for read, (receipt, _, path) in enumerate(self._files, 1):
             with open(path, "rb") as file:
-                yield Message(_header_block(file), receipt, read)
+                yield Message(header_block(file), receipt, read)
 
 
 Mailbox = Union[Mbox, Maildir]
@@ -85,10 +85,10 @@ def open_mailbox(name: str) -> Mailbox:
 
 def _lines(file: BinaryIO) -> Iterator[bytes]:
     """The rest of a file line by line; a line over the limit comes in pieces."""
-    return iter(lambda: file.readline(_BLOCK_LIMIT + 1), b"")
+    return iter(lambda: file.readline(BLOCK_LIMIT + 1), b"")
 
 
-def _header_block(file: BinaryIO) -> bytes:
+def header_block(file: BinaryIO) -> bytes:
     """The octets from here on, up to and including the first empty line.
 
     Of a block over the limit only its beginning is kept, which is over the limit just as well.
@@ -97,7 +97,7 @@ def _header_block(file: BinaryIO) -> bytes:
     length = 0
     before = b"\n"
     for line in _lines(file):
-        if length <= _BLOCK_LIMIT:
+        if length <= BLOCK_LIMIT:
             kept.append(line)
             length += len(line)
         if line in _EMPTY_LINES and before.endswith(b"\n"):
@@ -121,7 +121,7 @@ def _whole_line(file: BinaryIO, line: bytes) -> bytes:
     """A line of which a first piece was read; the rest of it is passed over."""
     piece = line
     while piece and not piece.endswith(b"\n"):
-        piece = file.readline(_BLOCK_LIMIT + 1)
+        piece = file.readline(BLOCK_LIMIT + 1)
     return line
 
 

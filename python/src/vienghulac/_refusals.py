@@ -25,6 +25,7 @@ _HINTS = {
 }
 
 BAD_SLOT = 2
+BAD_PAYLOAD = 7
 
 
 class Refused(Exception):

@@ -6,6 +6,7 @@ import argparse
 from importlib.metadata import version
 from typing import Callable, Mapping
 
+from ._linting import FaultKind
 from ._table import SLOTS
 
 Command = Callable[[argparse.Namespace], int]
@@ -110,6 +111,41 @@ An ADDRESS that is not a plain one is refused (9).
 With --json: display, the address shown. Octets of it that are not UTF-8 are
 lone surrogates."""
 
+_KINDS = "\n".join(f"  {kind.value}  {kind.words}" for kind in FaultKind)
+
+_LINT = f"""\
+Look over a mail that some program is about to send, and list what is wrong with
+its Autocrypt and Autocrypt-Gossip fields. This is for authors of mail programs,
+to try their mail before a release.
+
+FILE holds the mail, or its header block alone. With --payload comes the root
+part that is going to be encrypted, where gossip belongs, or the header block of
+that alone. Each is read as it stands, octet by octet, up to and including its
+first empty line. An mbox file is refused (4), since its first line is no field:
+cut a mail out of it.
+
+A line for each fault has the block, the place of the field among all fields of
+that block, counted from 1, the field's name as it stands there, and what is
+wrong, as in
+
+  outer, field 3 (Autocrypt): {FaultKind.KEY_DATA.words}
+
+These are the kinds of faults:
+
+{_KINDS}
+
+Kind 1 is about no field, and its line names none. Kinds 2 and 3 are about
+Autocrypt fields of the outer block, 6 to 8 about gossip fields, 4 and 5 about
+both. A field without an address, with several, or with one that is not plain
+has the wrong one (3, 7). Recipients are those of To, Cc and Reply-To.
+
+Where nothing is wrong the line is 'no faults', and the exit status 0. With
+faults it is 1, as with a refusal: of FILE (4, 5) or of the payload (7).
+
+With --json, for each fault: block, which is outer or payload; place, 0 for kind
+1; field, that name, or null for kind 1; kind, a word for it, as key_data;
+kind_number, 1 to 8 in this order; words, those of the line."""
+
 _CHECK = """\
 Say of each FILE whether it is a table. The exit status is 1 where one is not;
 the line on standard error then has the number of the refusal and, for number 2,
@@ -200,6 +236,11 @@ def parser(commands: Mapping[str, Command]) -> argparse.ArgumentParser:
 
     made = command("display", _DISPLAY, "show an address in the script of its domain")
     made.add_argument("address", metavar="ADDRESS", help="an address, with nothing around it")
+
+    made = command("lint", _LINT, "look over the fields of an outgoing mail")
+    made.add_argument("file", metavar="FILE", help="the mail, or its header block; - for standard input")
+    made.add_argument("--payload", metavar="FILE", help="the part to be encrypted, or its header block; - likewise")
+    made.set_defaults(misused=made.error)
 
     made = command("check", _CHECK, "say whether files are tables")
     made.add_argument("file", metavar="FILE", nargs="+", help="a file")
