@@ -1,15 +1,18 @@
 -- The pieces of a name from a place on: the first of them. (`;` is 59.)
---     Seeking what s at place       no such piece stands from `at` up to `place`, and what is last from the one on is so from the other on
+--     values-in, values-out         one piece, and those behind it
+--     rest-on .. last-alone         what is behind the piece that ends at a place
+--     Seeking what s at place       no such piece stands from `at` up to `place`, and the last piece is the same from both on
 --     seek-begin .. seek-over       the steps of the loop that looks for the first one
 --     found-first .. found-none     what a caller asks of the answer
 --     last-over .. last-none        whether there is none behind a piece
+--     saying-all                    all pieces are those from the beginning on
 --     occurs-some, occurs-none      whether there is one at all
---     the rulesets                  seeking for `find`, behind for `is_last_such`, occurring for `occurs`
+--     the rulesets                  seeking for `find`, ending for `is_last_such`, occurring for `occurs`
 -- Assumes nothing.
 use Prim.Native.Nat.{ℕ, _+_, _<_, _≤_}
 use mathlib.Core.Path.{_≡_, refl, sym, ap, _∙_}
 use mathlib.Core.Logic.{⊎-elim}
-use mathlib.Core.Bool.{Bool, true, false, not}
+use mathlib.Core.Bool.{Bool, true, false}
 use mathlib.Core.List.{List, [], _∷_}
 use native.Mathlib.Omega.{arith}
 use borrow.Author.Needs.{needs}
@@ -171,7 +174,7 @@ module _ (what : Called) (s : List ℕ) (end : ℕ) (k : Found) (p : FoundAs wha
   unfolding isEmpty
   last-none q = rw (rest-on what s end l, found-none what s (end + 1) k p q)
 
-pub ruleset behind = (last-over, last-some, last-none, needs)
+pub ruleset ending = (last-over, last-some, last-none, needs)
 
 -- all pieces are those from the beginning on
 pub saying-all : (what : Called) (s : List ℕ) → saying what s ≡ sayingFrom what s 0

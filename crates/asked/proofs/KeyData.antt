@@ -1,21 +1,20 @@
 -- Key data that is last, and Base64.
---     none-last                    where no piece has a name, the last has it not
+--     none-last, last-without      where no piece has a name, the last has it not
+--     key-last                     the last of all pieces is the last from the beginning on
 --     data-none .. data-told       the answer of `has_key_data`
 --     the ruleset                  telling, for `has_key_data`
 -- Assumes nothing.
 use Prim.Native.Nat.{ℕ, _+_, _-_, _<_, _≤_}
-use mathlib.Core.Path.{_≡_, refl, sym, ap, _∙_}
+use mathlib.Core.Path.{_≡_, sym, _∙_}
 use mathlib.Core.Bool.{Bool, true, false, _&&_, false≢true, and-false}
 use mathlib.Core.List.{List, [], _∷_}
-use mathlib.Core.Option.{Option, some, none}
-use native.Mathlib.Omega.{arith}
+use mathlib.Core.Option.{none}
 use borrow.Author.Needs.{needs}
 use lib.ListN.{length, take, drop}
 use Rattle.octets.specs.Octets.{withoutBlanks}
 use Rattle.octets.specs.Options.{isSome, onlyOne}
 use Rattle.octets.proofs.Tests.{by-test}
 use Rattle.letters.specs.Base64.{decode}
-use Rattle.pieces.specs.Pieces.{pieces}
 use Rattle.pieces.proofs.Pieces.{pieces-first}
 use Rattle.attributes.specs.Answers.{part}
 use Rattle.attributes.proofs.Parts.{part-rest}
@@ -43,11 +42,11 @@ module _ (what : Called) where
   unfolding sayingFrom lastFrom
   last-without s at e = rw (pieces-first 59 (part s at (length s))) (none-last _ _ (rw (pieces-first 59 (part s at (length s))) at e))
 
--- the last of all pieces is the last from the beginning on
 key-last : (s : List ℕ) → hasKeyData s ≡ (lastFrom Keydata s 0 && isBase64 (onlyOne (saying Keydata s)))
 unfolding hasKeyData lastFrom
 key-last s = rw (part-rest s 0)
 
+-- no `keydata`, or more than one
 not-one : (s : List ℕ) → onlyOne (saying Keydata s) ≡ none → false ≡ hasKeyData s
 unfolding isBase64
 not-one s e = sym (key-last s ∙ rw e (and-false (lastFrom Keydata s 0)))
@@ -57,21 +56,24 @@ module _ (s : List ℕ) (k : Found) (p : FoundAs Keydata s 0 k) where
   data-none q = not-one s (only-none Keydata s k p q)
 
   module _ (from to end : ℕ) (q : k ≡ At from to end) where
-    -- a piece behind it is another `keydata`, or the last is none
-    pub data-early : end < length s → false ≡ hasKeyData s
-    data-early l =
-        by-test (isEmpty (restFrom Keydata s end))
-        (λ y.
-        let n : lastFrom Keydata s 0 ≡ false =
-            found-behind Keydata s 0 k p from to end q ∙ last-on Keydata s end l
-            ∙ last-without Keydata s (end + 1) (rw (rest-on Keydata s end l) at y) in
-        sym (key-last s ∙ rw n))
-        (λ n. not-one s (only-more Keydata s k p from to end q n))
+    last-is : lastFrom Keydata s 0 ≡ lastBehind Keydata s end
+    last-is = found-behind Keydata s 0 k p from to end q
+
+    -- among the pieces behind it is another `keydata`, or their last is none
+    module _ (l : end < length s) where
+      last-other : isEmpty (restFrom Keydata s end) ≡ true → lastFrom Keydata s 0 ≡ false
+      last-other y = last-is ∙ last-on Keydata s end l ∙ last-without Keydata s (end + 1) (rw (rest-on Keydata s end l) at y)
+
+      pub data-early : false ≡ hasKeyData s
+      data-early =
+          by-test (isEmpty (restFrom Keydata s end))
+          (λ y. sym (key-last s ∙ rw (last-other y)))
+          (λ n. not-one s (only-more Keydata s k p from to end q n))
 
     pub data-told : length s ≤ end → (b : Bool) → b ≡ isSome (decode (withoutBlanks (take (to - from) (drop from s)))) → b ≡ hasKeyData s
     unfolding isBase64 part
     data-told l b u =
-        let y : lastFrom Keydata s 0 ≡ true = found-behind Keydata s 0 k p from to end q ∙ last-alone Keydata s end l in
-        u ∙ sym (key-last s ∙ rw (y, only-one Keydata s k p from to end q (sym (last-over Keydata s end l))))
+        let one = only-one Keydata s k p from to end q (sym (last-over Keydata s end l)) in
+        u ∙ sym (key-last s ∙ rw (last-is, last-alone Keydata s end l, one))
 
 pub ruleset telling = (data-none, data-early, data-told, found-order, found-upto, needs)

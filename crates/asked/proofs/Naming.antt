@@ -3,11 +3,12 @@
 --     name-as                        whether it is the one that is asked for
 --     called-none .. called-so       whether a piece has such a name
 --     value-none, value-some         where its value stands
+--     name-order, name-upto          and its name
 --     the rulesets                   knowing for `is_unknown`, naming for `is_name`, calling for `is_called`, valuing for `value_at`
 -- Assumes nothing.
 use Prim.Native.Nat.{ℕ, _+_, _-_, _<_, _≤_}
 use mathlib.Core.Path.{_≡_, refl, sym, ap, _∙_}
-use mathlib.Core.Bool.{Bool, true, false}
+use mathlib.Core.Bool.{Bool, false}
 use mathlib.Core.List.{List, [], _∷_}
 use native.Mathlib.Omega.{arith}
 use borrow.Author.Needs.{needs}
@@ -50,12 +51,15 @@ module _ (s : List ℕ) (from to cut : ℕ) (w : Within s from to) (f : FirstAt 
   called-none what l = rw (cut-without s from to 61 cut w f l)
 
   -- nothing stands behind a `=` that is not there
+  behind-none : to ≤ cut → behind 61 (part s from to) ≡ []
+  behind-none l =
+      behind-drop 61 (part s from to)
+      ∙ drop-done (part s from to) (length (before 61 (part s from to)) + 1) (omega (arith, f .is, part-length s from to (w .upto)))
+
   pub value-none : to ≤ cut → ValueAs s from to (record { from = to; to = to })
   unfolding valueOf trimmed trimmedBack trimmedFront
   value-none l =
-      let none : behind 61 (part s from to) ≡ [] =
-          behind-drop 61 (part s from to) ∙ drop-done (part s from to) (length (before 61 (part s from to)) + 1) (omega (arith, f .is, part-length s from to (w .upto))) in
-      record { is = part-none s to ∙ rw none; within = record { order = omega arith; upto = w .upto } }
+      record { is = part-none s to ∙ rw (behind-none l); within = record { order = omega arith; upto = w .upto } }
 
   module _ (l : cut < to) where
     module _ (n : Bounds) (p : Trimmed s from cut n) where

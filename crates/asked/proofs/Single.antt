@@ -9,7 +9,7 @@ use mathlib.Core.Option.{some, none}
 use Rattle.octets.specs.Options.{onlyOne}
 use Rattle.attributes.specs.Answers.{part}
 use Rattle.asked.specs.Asked.{isEmpty, saying}
-use Rattle.asked.specs.Answers.{sayingFrom, restFrom, FoundAs}
+use Rattle.asked.specs.Answers.{restFrom, FoundAs}
 use Rattle.asked.specs.declared.Called.{Called}
 use Rattle.asked.specs.declared.Found.{Found}
 use Rattle.asked.specs.declared.Found.the-variants.{At, Nothing}
