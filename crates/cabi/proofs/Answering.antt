@@ -3,7 +3,7 @@
 --     of-wrote, of-not-written               that of the writers
 --     of-advice .. of-part                   those of recommending
 --     count-most                             the count of recipients fits
---     of-linted, of-not-linted, faults-most  how many faults there are, and that this fits
+--     of-linted, of-not-linted, faults-fit  how many faults there are, and that this fits
 --     numbers-same .. linted-same            equal answers have the same numbers: what a call ensures of its answer, said of its numbers
 --     set-take .. set-unset                  the gossip setting
 --     of-message, left-by-message            processing, with the setting as it came
@@ -13,8 +13,11 @@ use Prim.Native.Nat.{ℕ, _≤_}
 use mathlib.Core.Path.{_≡_, refl, ap, _∙_}
 use mathlib.Core.Bool.{Bool}
 use mathlib.Core.List.{List}
+use native.Mathlib.Omega.{arith}
 use borrow.Author.Needs.{needs}
 use borrow.Author.Tests.{eq-eqb, ne-eqb}
+use mir.Syntax.{w32}
+use mir.Val.{Fits}
 use Rattle.refusals.specs.Refusals.{numberOf, indexOf}
 use Rattle.refusals.specs.Rows.{answerOf}
 use Rattle.refusals.specs.declared.Refusal.{Refusal}
@@ -120,11 +123,13 @@ module _ (a : Linting) where
   of-not-linted n r e q = rw (e, q)
 
   -- O11: the count is 32,768 at most, and so one of 32 bits
-  pub faults-most : (n : ℕ) → FewFaults a → a ≡ Looked n → n ≤ faultRoom
+  pub faults-fit : (n : ℕ) → FewFaults a → a ≡ Looked n → Fits w32 n
   unfolding FewFaults
-  faults-most n h e = rw e at h
+  faults-fit n h e =
+      let l : n ≤ faultRoom = rw e at h in
+      record { fits = omega arith }
 
-pub ruleset answering = (of-done, of-refused, of-wrote, of-not-written, of-advice, of-not-advised, of-quick, of-part, numbers-same, written-same, advice-same, quick-same, count-most, part-same, of-linted, of-not-linted, faults-most, linted-same, linted-few, needs)
+pub ruleset answering = (of-done, of-refused, of-wrote, of-not-written, of-advice, of-not-advised, of-quick, of-part, numbers-same, written-same, advice-same, quick-same, count-most, part-same, of-linted, of-not-linted, faults-fit, linted-same, linted-few, needs)
 
 -- G1: take, skip, and unset for every other number
 module _ (n : ℕ) where

@@ -1,10 +1,12 @@
 -- Passes over both blocks: what they count, and what they write.
---     missing-numbers, missing-long       the fault of a mail without a valid field
---     first-looks, second-looks           `pass`: each block may be looked over
---     passed                              `pass`: what both calls leave
---     counted-near                        `list_faults`: what was counted is not far
---     needed-is                           how many numbers all faults have
---     the rulesets                        passing for `pass`
+--     missing-numbers            the fault of a mail without a valid field, in numbers
+--     first-looks .. passed      `pass`: each block may be looked over, and what both calls leave
+--     missing-none, missing-one  `with_missing`
+--     counted-near               `list_faults`: what was counted is not far
+--     room-short, short-left     there is no room
+--     none-listed, none-left     there are no faults
+--     all-listed, all-left       all of them are written
+--     the rulesets               passing, adding, listing
 -- Assumes nothing.
 use Prim.Native.Nat.{ℕ, _+_, _*_, _-_, _/_, _<_, _≤_}
 use mathlib.Core.Path.{_≡_, refl, sym, ap, _∙_}
