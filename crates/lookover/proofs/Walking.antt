@@ -12,8 +12,6 @@ use Prim.Native.Nat.{ℕ, _+_, _-_, _*_, _^_, _<_, _≤_}
 use mathlib.Core.Path.{_≡_, refl, sym, ap, _∙_}
 use mathlib.Core.Bool.{Bool, true, false, _||_, or-false, or-assoc}
 use mathlib.Core.List.{List, [], _∷_, _++_, append-assoc, append-nil}
-use mathlib.Core.Option.{Option, some}
-use native.Mathlib.Nat.{add-zero}
 use native.Mathlib.Omega.{arith}
 use borrow.Author.Needs.{needs}
 use lib.ListN.{length, take, drop, length-append, length-take, length-drop}
@@ -30,7 +28,7 @@ use Rattle.faults.specs.Faults.{Fault, kinds, faultsAt, numbersOf}
 use Rattle.faults.specs.Laying.{laidAt, room}
 use Rattle.faults.proofs.Laying.{laid-none, laid-both, laid-long}
 use Rattle.faults.proofs.Counting.{numbers-both, numbers-most}
-use Rattle.lookover.specs.Looking.{sideNumber, flawsOf, validIn, faultsFrom, validBehind, faultsIn}
+use Rattle.lookover.specs.Looking.{sideNumber, validIn, faultsFrom, validBehind, faultsIn}
 use Rattle.lookover.specs.Answers.{Judges, FieldAs, Looks, LookedAs}
 use Rattle.lookover.specs.declared.Side.{Side}
 use Rattle.lookover.specs.declared.Judged.{Judged}
@@ -51,15 +49,15 @@ module _ (s : List ℕ) (at n v e : ℕ) (r : Step) (t : r ≡ stepAt s at) (q :
   value-upto = field-places s at n v e r t q .upto
 
 -- the fields from a place on
-abbrev left : List ℕ → ℕ → List FieldText
+abbrev pub left : List ℕ → ℕ → List FieldText
 left s start = orElse [] (fieldsFrom s start)
 
 -- d is the list as it came and list as it is now, written from `at` to `to`; the field that begins at `start` is the one at `place`. A field takes an octet at
 -- least, and has at most 21 numbers.
 pub record Overlooked (side : Side) (sender : List ℕ) (recipients : List (List ℕ)) (s d : List ℕ) (at : ℕ) (list : List ℕ) (start place : ℕ) (seen : Bool) (to : ℕ) : Type 0 where
   pub found : List Fault
-  pub so-far : faultsIn side sender recipients (fieldsIn s) ≡ found ++ faultsFrom side sender recipients seen place (orElse [] (fieldsFrom s start))
-  pub validly : validBehind side sender (fieldsIn s) ≡ (seen || validBehind side sender (orElse [] (fieldsFrom s start)))
+  pub so-far : faultsIn side sender recipients (fieldsIn s) ≡ found ++ faultsFrom side sender recipients seen place (left s start)
+  pub validly : validBehind side sender (fieldsIn s) ≡ (seen || validBehind side sender (left s start))
   pub laid : list ≡ laidAt d at (numbersOf found)
   pub behind : to ≡ at + length (numbersOf found)
   pub clear : isSome (fieldsFrom s start) ≡ true
@@ -122,54 +120,56 @@ module _ (side : Side) (sender : List ℕ) (recipients : List (List ℕ)) (s d :
     pub look-broken : r ≡ Broken → LookedAs side sender recipients s d at list (record { end = to; valid = seen })
     look-broken q = absurd (clear-whole s start r (h .clear) t q)
 
-    -- the field that stands there was judged, and the numbers of its faults are written
-    module _ (n v e : ℕ) (q : r ≡ Field n v e) (j : Judged)
-        (g : FieldAs side sender recipients seen (take (n - start) (drop start s)) (take (e - v) (drop v s)) j)
-        (number : ℕ) (k : number ≡ sideNumber side) (out : List ℕ) (next : ℕ)
-        (p : next ≡ to + length (numbersOf (faultsAt number place (kinds (j .flaws)))))
-        (o : out ≡ laidAt list to (numbersOf (faultsAt number place (kinds (j .flaws))))) where
-      abbrev f : FieldText
-      f = fieldAt s start n v e
+-- The field that stands there was judged, and the numbers of its faults are written. Each premise tells what the next ones speak of, as `search` asks it.
+module _ (side : Side) (sender : List ℕ) (recipients : List (List ℕ)) (s d : List ℕ) (at : ℕ) (r : Step) (n v e : ℕ) (q : r ≡ Field n v e)
+    (start : ℕ) (t : r ≡ stepAt s start)
+    (list : List ℕ) (place : ℕ) (seen : Bool) (to : ℕ) (h : Overlooked side sender recipients s d at list start place seen to)
+    (j : Judged) (g : FieldAs side sender recipients seen (take (n - start) (drop start s)) (take (e - v) (drop v s)) j)
+    (number : ℕ) (out : List ℕ) (next : ℕ) (o : out ≡ laidAt list to (numbersOf (faultsAt number place (kinds (j .flaws)))))
+    (p : next ≡ to + length (numbersOf (faultsAt number place (kinds (j .flaws))))) (k : number ≡ sideNumber side) where
+  abbrev f : FieldText
+  f = fieldAt s start n v e
 
-      abbrev more : List Fault
-      more = faultsAt number place (kinds (j .flaws))
+  abbrev more : List Fault
+  more = faultsAt number place (kinds (j .flaws))
 
-      clear-behind : isSome (fieldsFrom s e) ≡ true
-      clear-behind = clear-next s start r (h .clear) t n v e q
+  clear-behind : isSome (fieldsFrom s e) ≡ true
+  clear-behind = clear-next s start r (h .clear) t n v e q
 
-      front : left s start ≡ f ∷ left s e
-      front = ap (orElse []) (from-field s start r t n v e q) ∙ else-front f (fieldsFrom s e) clear-behind
+  front : left s start ≡ f ∷ left s e
+  front = ap (orElse []) (from-field s start r t n v e q) ∙ else-front f (fieldsFrom s e) clear-behind
 
-      lies : Places s start n v e
-      lies = field-places s start n v e r t q
+  lies : Places s start n v e
+  lies = field-places s start n v e r t q
 
-      parted : faultsFrom side sender recipients seen place (f ∷ left s e) ≡ more ++ faultsFrom side sender recipients (seen || j .valid) (place + 1) (left s e)
-      unfolding faultsFrom
-      parted = rw (k, g .flawed, g .validly)
+  parted : faultsFrom side sender recipients seen place (f ∷ left s e) ≡ more ++ faultsFrom side sender recipients (seen || j .valid) (place + 1) (left s e)
+  unfolding faultsFrom
+  parted = rw (k, g .flawed, g .validly)
 
-      pub look-next : Overlooked side sender recipients s d at out e (place + 1) (seen || j .valid) next
-      unfolding validBehind
-      look-next =
-          record {
-            found = h .found ++ more;
-            so-far =
-                rw front at (h .so-far)
-                ∙ ap (λ (l : List Fault). h .found ++ l) parted
-                ∙ sym (append-assoc (h .found) more (faultsFrom side sender recipients (seen || j .valid) (place + 1) (left s e)));
-            validly =
-                rw front at (h .validly)
-                ∙ rw (g .validly) (sym (or-assoc seen (validIn side sender f) (validBehind side sender (left s e))));
-            laid = laid-more at to (h .found) more (h .behind) d list out (h .laid) o;
-            behind = behind-more at to (h .found) more (h .behind) next p;
-            clear = clear-behind;
-            fits = h .fits;
-            upto = lies .upto;
-            near = h .near;
-            few =
-                rw (numbers-both (h .found) more)
-                (omega (arith, length-append (numbersOf (h .found)) (numbersOf more), h .few, numbers-most (j .flaws) number place, lies));
-            placed = omega (arith, h .placed, lies);
-          }
+  pub look-next : (m : ℕ) → m ≡ place + 1 → Overlooked side sender recipients s d at out e m (seen || j .valid) next
+  unfolding validBehind
+  look-next m y =
+      rw y
+      (record {
+        found = h .found ++ more;
+        so-far =
+            rw front at (h .so-far)
+            ∙ ap (λ (l : List Fault). h .found ++ l) parted
+            ∙ sym (append-assoc (h .found) more (faultsFrom side sender recipients (seen || j .valid) (place + 1) (left s e)));
+        validly =
+            rw front at (h .validly)
+            ∙ rw (g .validly) (sym (or-assoc seen (validIn side sender f) (validBehind side sender (left s e))));
+        laid = laid-more at to (h .found) more (h .behind) d list out (h .laid) o;
+        behind = behind-more at to (h .found) more (h .behind) next p;
+        clear = clear-behind;
+        fits = h .fits;
+        upto = lies .upto;
+        near = h .near;
+        few =
+            rw (numbers-both (h .found) more)
+            (omega (arith, length-append (numbersOf (h .found)) (numbersOf more), h .few, numbers-most (j .flaws) number place, lies));
+        placed = omega (arith, h .placed, lies);
+      })
 
 pub ruleset overlooking =
     (look-judges, look-begin, look-kept, look-room, look-place, look-over, look-broken, look-next, name-from, name-upto, value-order, value-upto, field-less, needs)

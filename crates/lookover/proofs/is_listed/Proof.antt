@@ -1,3 +1,4 @@
+-- `lookover::is_listed` meets its contract: the laws of `Owners` answer every need. Assumes nothing.
 use Rattle.lookover.proofs.Owners.{listing}
 use Rattle.lookover.proofs.is_listed as fn
 

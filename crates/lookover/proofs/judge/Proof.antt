@@ -1,3 +1,4 @@
+-- `lookover::judge` meets its contract: the laws of `Judging` answer every need. Assumes nothing.
 use Rattle.lookover.proofs.Judging.{judging}
 use Rattle.lookover.proofs.judge as fn
 

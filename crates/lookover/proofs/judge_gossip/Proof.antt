@@ -1,3 +1,4 @@
+-- `lookover::judge_gossip` meets its contract: the law of `Judging` answers every need. Assumes nothing.
 use Rattle.lookover.proofs.Judging.{judging-gossip}
 use Rattle.lookover.proofs.judge_gossip as fn
 

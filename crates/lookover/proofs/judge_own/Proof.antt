@@ -1,3 +1,4 @@
+-- `lookover::judge_own` meets its contract: the laws of `Validity` answer every need. Assumes nothing.
 use Rattle.lookover.proofs.Judging.{judging-own}
 use Rattle.lookover.proofs.judge_own as fn
 

@@ -1,3 +1,4 @@
+-- `lookover::names` meets its contract: the laws of `Owners` answer every need. Assumes nothing.
 use Rattle.lookover.proofs.Owners.{naming}
 use Rattle.lookover.proofs.names as fn
 
