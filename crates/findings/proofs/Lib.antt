@@ -1,0 +1,4 @@
+pub mod Having
+pub mod Flawed
+pub mod Findings
+pub mod Ordered
