@@ -1,4 +1,5 @@
 -- C22: what is found is what is wrong.
+--     not-nought                              no field has place 0
 --     own-wrong, gossip-wrong, field-wrong    a kind that a field has is a fault
 --     found-wrong                             what is found is wrong
 --     stands-found                            a fault of a field is found by the kind that it has
@@ -37,7 +38,8 @@ use Rattle.findings.proofs.Having.{in-either, in-first, in-second, Has,
 use Rattle.findings.proofs.Flawed as flawed
 use Rattle.findings.proofs.Flawed.{Kinded, kinded, flaws-own, flaws-gossip, flaws-none, behind-none, none-behind, behind-some, some-behind, names-it, names-not, lists-it, lists-not}
 
-not-nought : (fs : List FieldText) (f : FieldText) → fieldAt fs 0 ≡ some f → ⊥
+-- places count from 1
+pub not-nought : (fs : List FieldText) (f : FieldText) → fieldAt fs 0 ≡ some f → ⊥
 unfolding fieldAt
 not-nought [] f q = let z : _≡_ {A = ℕ} 0 1 = cc in omega arith
 not-nought (g ∷ fs) f q = let z : _≡_ {A = ℕ} 0 1 = cc in omega arith

@@ -2,7 +2,7 @@
 --     Kinded, kinded                              the kinds that a field has
 --     not-both                                    no field has both names
 --     flaws-own, flaws-gossip, flaws-none         what is wrong with a field, by its name
---     valid, behind-valid                         the valid fields among some, and whether there are any
+--     valid, Turn, turn, behind-valid             the valid fields among some, and whether there are any
 --     behind-none, none-behind                    there are none
 --     behind-some, some-behind                    there are
 --     names-it, names-not                         a value that names the sender
@@ -10,7 +10,7 @@
 -- Assumes nothing.
 use Prim.Native.Nat.{ℕ}
 use mathlib.Core.Path.{_≡_, refl, sym, ap, _∙_}
-use mathlib.Core.Bool.{Bool, true, false, not, _||_, Bool·not-not, false≢true}
+use mathlib.Core.Bool.{Bool, true, false, not, false≢true}
 use mathlib.Core.List.{List, [], _∷_}
 use mathlib.Core.Option.{Option, some, none}
 use native.Mathlib.Omega.{arith}
@@ -87,24 +87,34 @@ module _ (sender : List ℕ) (recipients : List (List ℕ)) (seen : Bool) (f : F
   unfolding flawsOf
   flaws-none side o g = rw (o, g)
 
--- whether one of some fields is valid
+-- the valid fields among those of an outer block
+abbrev pub valid : List ℕ → List FieldText → List Field
+valid sender fs = validFields keyLimit sender (valuesOf Autocrypt fs)
+
+-- a field in front of others: a valid one, or any other
+pub data Turn (sender : List ℕ) (f : FieldText) : Type 0 where
+  valid-one : (x : Field) → isKind Autocrypt (f .name) ≡ true → validFor keyLimit sender (f .value) ≡ some x → validIn Outer sender f ≡ true
+      → ((fs : List FieldText) → valid sender (f ∷ fs) ≡ x ∷ valid sender fs) → Turn sender f
+  other-one : validIn Outer sender f ≡ false → ((fs : List FieldText) → valid sender (f ∷ fs) ≡ valid sender fs) → Turn sender f
+
 module _ (sender : List ℕ) where
-  abbrev pub valid : List FieldText → List Field
-  valid fs = validFields keyLimit sender (valuesOf Autocrypt fs)
-
-  valid-front : (f : FieldText) (fs : List FieldText) → isEmpty (valid (f ∷ fs)) ≡ not (validIn Outer sender f || not (isEmpty (valid fs)))
-  unfolding validIn isOwn isValid validFields isSome isEmpty
-  valid-front f fs =
+  pub turn : (f : FieldText) → Turn sender f
+  unfolding validIn isOwn isValid isSome validFields
+  turn f =
       by-test (isKind Autocrypt (f .name))
-      (λ e. by-option (validFor keyLimit sender (f .value))
-      (λ q. rw (values-first Autocrypt f fs e, chosen-skip (validFor keyLimit sender) (f .value) (valuesOf Autocrypt fs) q, e, q) (sym (Bool·not-not (isEmpty (valid fs)))))
-      (λ x q. rw (values-first Autocrypt f fs e, chosen-next (validFor keyLimit sender) (f .value) (valuesOf Autocrypt fs) x q, e, q)))
-      (λ e. rw (values-other Autocrypt f fs e, e) (sym (Bool·not-not (isEmpty (valid fs)))))
+      (λ k. by-option (validFor keyLimit sender (f .value))
+      (λ e. other-one (rw (k, e)) (λ fs. rw (values-first Autocrypt f fs k) (chosen-skip (validFor keyLimit sender) (f .value) (valuesOf Autocrypt fs) e)))
+      (λ x e. valid-one x k e (rw (k, e)) (λ fs. rw (values-first Autocrypt f fs k) (chosen-next (validFor keyLimit sender) (f .value) (valuesOf Autocrypt fs) x e))))
+      (λ k. other-one (rw k) (λ fs. rw (values-other Autocrypt f fs k)))
 
-  pub behind-valid : (fs : List FieldText) → validBehind Outer sender fs ≡ not (isEmpty (valid fs))
+  pub behind-valid : (fs : List FieldText) → validBehind Outer sender fs ≡ not (isEmpty (valid sender fs))
   unfolding validBehind validFields valuesOf chosen isEmpty
   behind-valid [] = refl
-  behind-valid (f ∷ fs) = rw (valid-front f fs, behind-valid fs) (sym (Bool·not-not (validIn Outer sender f || not (isEmpty (valid fs)))))
+  behind-valid (f ∷ fs) = go (turn f) (behind-valid fs)
+    where
+      go : Turn sender f → validBehind Outer sender fs ≡ not (isEmpty (valid sender fs)) → validBehind Outer sender (f ∷ fs) ≡ not (isEmpty (valid sender (f ∷ fs)))
+      go (valid-one x k e i q) h = rw (i, q fs)
+      go (other-one i q) h = rw (i, q fs) h
 
   empty-is : (l : List Field) → isEmpty l ≡ true → l ≡ []
   unfolding isEmpty
@@ -112,17 +122,17 @@ module _ (sender : List ℕ) where
   empty-is (x ∷ l) e = absurd (false≢true e)
 
   module _ (fs : List FieldText) where
-    pub behind-none : validBehind Outer sender fs ≡ false → valid fs ≡ []
-    behind-none e = empty-is (valid fs) (not-false (isEmpty (valid fs)) (sym (behind-valid fs) ∙ e))
+    pub behind-none : validBehind Outer sender fs ≡ false → valid sender fs ≡ []
+    behind-none e = empty-is (valid sender fs) (not-false (isEmpty (valid sender fs)) (sym (behind-valid fs) ∙ e))
 
-    pub none-behind : valid fs ≡ [] → validBehind Outer sender fs ≡ false
+    pub none-behind : valid sender fs ≡ [] → validBehind Outer sender fs ≡ false
     unfolding isEmpty
     none-behind e = behind-valid fs ∙ rw e
 
-    pub behind-some : validBehind Outer sender fs ≡ true → valid fs ≡ [] → ⊥
+    pub behind-some : validBehind Outer sender fs ≡ true → valid sender fs ≡ [] → ⊥
     behind-some e q = false≢true (sym (none-behind q) ∙ e)
 
-    pub some-behind : (valid fs ≡ [] → ⊥) → validBehind Outer sender fs ≡ true
+    pub some-behind : (valid sender fs ≡ [] → ⊥) → validBehind Outer sender fs ≡ true
     some-behind n = by-test (validBehind Outer sender fs) (λ e. e) (λ e. absurd (n (behind-none e)))
 
 -- whom a value names
