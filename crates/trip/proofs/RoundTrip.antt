@@ -1,6 +1,8 @@
 -- C6: what the writers write is read back.
 --     reads-alone                                 octets that are read back are alone the only field
---     written-reads-back                          every field that can be written is read back
+--     text-whole, value-read                      the value of a field that can be written: its key is one text, and it says what it was written for
+--     written-reads-back                          the field is read back
+--     done-writable, output-alone                 a writer that answers 0 can write it, and leaves it in front of the output
 --     autocrypt-reads-back, gossip-reads-back     so is what the two writers leave in front of the output when they answer 0; gossip has no preference
 -- Assumes nothing.
 use Prim.Native.Nat.{ℕ, zero, suc, _<_}
@@ -103,12 +105,15 @@ module _ (address key : List ℕ) (m : Bool) (w : Writable address key) where
       go true = simp append-assoc
       go false = simp append-assoc
 
-  value-read : fieldOf keyLimit value ≡ some (record { address = canonical address; isMutual = m; key = key })
-  unfolding keyOf limited signOf
+  -- the key has no `;`, which is 59
+  pub text-whole : every (other 59) text ≡ true
+  unfolding signOf
+  text-whole = free-every (λ x. eqb x 59) text (spread-free (λ x. eqb x 59) refl (encode key) (encode-free (λ x. eqb x 59) (one-other 59 refl) key))
+
+  pub value-read : fieldOf keyLimit value ≡ some (record { address = canonical address; isMutual = m; key = key })
+  unfolding keyOf limited
   value-read =
-      read-back-key (canonical address) text (plain-canonical address (w .plainly))
-      (free-every (λ x. eqb x 59) text (spread-free (λ x. eqb x 59) refl (encode key) (encode-free (λ x. eqb x 59) (one-other 59 refl) key)))
-      keyLimit m key (rw (spread-read-back key (w .octets), w .limit))
+      read-back-key (canonical address) text (plain-canonical address (w .plainly)) text-whole keyLimit m key (rw (spread-read-back key (w .octets), w .limit))
       ∙ rw canonical-twice
 
   module _ (name : List ℕ) (named : runLength Name name ≡ length name) (some-name : 0 < length name) where
@@ -129,6 +134,11 @@ module _ (address key : List ℕ) (m : Bool) (w : Writable address key) where
         ∙ field-in-front name raw rest named some-name (folded-raw (encode key) some-text free head head-no-lf) b
         ∙ rw (folded-value (encode key) some-text free head head-no-lf, head-value)
 
+    -- alone it is the only field, with this value
+    written-alone : fields (written name address m key) ≡ some (record { name = name; value = valueOf (canonical address) m (spread (encode key)) } ∷ [])
+    unfolding inFront belongs blank over
+    written-alone = ap fields (sym (append-nil (written name address m key))) ∙ in-front [] refl ∙ rw (fields-over [] refl)
+
     pub written-reads-back : ReadsBack name address key m (written name address m key)
     written-reads-back =
         record {
@@ -145,12 +155,16 @@ module _ (name address key out : List ℕ) (m : Bool) (octets : AllOctets key) (
   wrote : Wrote name address m key out n
   wrote = done-wrote name address m key out n (sym done)
 
-  done-writable : Writable address key
+  pub done-writable : Writable address key
   done-writable = record { plainly = wrote .address-plain; octets = octets; limit = wrote .key-in-range }
 
   output-opens : take n (leftByWriting name address m key out) ≡ written name address m key
   unfolding onto
   output-opens = rw (wrote .long, wrote .there) (take-append-seam (written name address m key) (drop (length (written name address m key)) out))
+
+  pub output-alone : runLength Name name ≡ length name → 0 < length name
+      → fields (take n (leftByWriting name address m key out)) ≡ some (record { name = name; value = valueOf (canonical address) m (spread (encode key)) } ∷ [])
+  output-alone named some-name = rw output-opens (written-alone address key m done-writable name named some-name)
 
   output-reads-back : runLength Name name ≡ length name → 0 < length name → ReadsBack name address key m (take n (leftByWriting name address m key out))
   output-reads-back named some-name = rw output-opens (written-reads-back address key m done-writable name named some-name)

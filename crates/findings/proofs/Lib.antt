@@ -1,0 +1,6 @@
+pub mod Having
+pub mod Flawed
+pub mod Findings
+pub mod Ordered
+pub mod Counted
+pub mod Clean
