@@ -97,7 +97,6 @@ module _ (outer payload sender recipients tags places : List ℕ) where
                 );
           }
 
-
       pub passed : (list : List ℕ) → list₁ ≡ laidAt list 0 (numbersIf (not valid) 0 0 1)
           → (second : Looked) (list₃ : List ℕ) → LookedAs Payload sender (unrolled recipients) payload list₂ (first .end) list₃ second
           → PassedAs outer payload sender recipients valid list list₃ (record { end = second .end; valid = first .valid })
