@@ -89,7 +89,10 @@ fn judge_own(value: &[u8], sender: &[u8], seen: bool) -> Judged
 {
     let mut key = [0u8; Slot::KEY_LIMIT];
     match keyowner::valid_for(value, Slot::KEY_LIMIT, sender, &mut key) {
-        Own::Key { mutual: _, length: _ } => Judged {
+        Own::Key {
+            mutual: _,
+            length: _,
+        } => Judged {
             flaws: Flaws {
                 more_valid: seen,
                 wrong_address: false,
@@ -186,8 +189,14 @@ pub fn look_over(
     let mut to = at;
     loop {
         match header::field_at(block, start) {
-            Step::Over => return Looked { end: to, valid: seen },
-            Step::Broken => return Looked { end: to, valid: seen },
+            Step::Over => return Looked {
+                end: to,
+                valid: seen,
+            },
+            Step::Broken => return Looked {
+                end: to,
+                valid: seen,
+            },
             Step::Field {
                 name_end,
                 value,
