@@ -7,22 +7,21 @@
 --     each-fault, each-listed                 both, for some fields and for a call
 --     none-exactly                            nothing is found exactly where nothing is wrong
 -- Assumes nothing.
-use Prim.Native.Nat.{ℕ, zero, suc, _+_, _-_}
-use mathlib.Core.Path.{_≡_, refl, sym, ap, _∙_}
-use mathlib.Core.Bool.{Bool, true, false, not, _&&_, _||_, or-false, false≢true}
-use mathlib.Core.List.{List, [], _∷_, _++_}
-use mathlib.Core.Option.{some, none}
+use Prim.Native.Nat.{ℕ, zero, suc, _-_}
+use mathlib.Core.Path.{_≡_, refl, sym, _∙_}
+use mathlib.Core.Bool.{Bool, true, false, _&&_, _||_, or-false, false≢true}
+use mathlib.Core.List.{List, [], _∷_}
+use mathlib.Core.Option.{some}
 use native.Mathlib.Omega.{arith}
 use borrow.Author.Tests.{eqb-true, eq-eqb, not-true}
 use lib.Dec.{eqb}
 use lib.ListN.{take}
-use Rattle.octets.specs.Options.{isSome, orElse}
+use Rattle.octets.specs.Options.{orElse}
 use Rattle.octets.proofs.Tests.{by-test, and-left, and-right}
 use Rattle.header.specs.Header.{FieldText}
 use Rattle.fields.specs.Fields.{isKind, fieldsIn}
-use Rattle.fields.specs.declared.Kind.{Kind}
 use Rattle.fields.specs.declared.Kind.the-variants.{Autocrypt, AutocryptGossip}
-use Rattle.outer.specs.Outer.{senderIn, recipientsIn}
+use Rattle.outer.specs.Outer.{recipientsIn}
 use Rattle.asked.specs.Asked.{occurs, hasKeyData}
 use Rattle.asked.specs.declared.Called.the-variants.{Unknown}
 use Rattle.faults.specs.Faults.{Fault, noValid, noFlaws, hasKind}
@@ -125,15 +124,15 @@ module _ (sender : List ℕ) (recipients : List (List ℕ)) (outer payload : Lis
       by-test (validBehind Outer sender outer)
       (λ v. absurd (false≢true (rw v at e)))
       (λ v.
-        let q : (eqb block 0 && eqb place 0 && eqb kind 1 || false) ≡ true = rw v at e in
-        let h : (eqb block 0 && eqb place 0 && eqb kind 1) ≡ true = sym (or-false (eqb block 0 && eqb place 0 && eqb kind 1)) ∙ q in
-        let b : (eqb block 0 && eqb place 0) ≡ true = and-left _ (eqb kind 1) h in
-        rw (
-          eqb-true block 0 (and-left _ (eqb place 0) b),
-          eqb-true place 0 (and-right (eqb block 0) _ b),
-          eqb-true kind 1 (and-right (eqb block 0 && eqb place 0) _ h),
-        )
-        (wrong.no-valid (behind-none sender outer v)))
+      let q : (eqb block 0 && eqb place 0 && eqb kind 1 || false) ≡ true = rw v at e in
+      let h : (eqb block 0 && eqb place 0 && eqb kind 1) ≡ true = sym (or-false (eqb block 0 && eqb place 0 && eqb kind 1)) ∙ q in
+      let b : (eqb block 0 && eqb place 0) ≡ true = and-left _ (eqb kind 1) h in
+      rw (
+        eqb-true block 0 (and-left _ (eqb place 0) b),
+        eqb-true place 0 (and-right (eqb block 0) _ b),
+        eqb-true kind 1 (and-right (eqb block 0 && eqb place 0) _ h),
+      )
+      (wrong.no-valid (behind-none sender outer v)))
 
   found-wrong : (block place kind : ℕ) → isIn (fault block place kind) (faultsOf sender recipients outer payload) ≡ true → IsWrong block place kind
   unfolding faultsOf faultsIn
@@ -214,10 +213,9 @@ none-in (f ∷ l) n = absurd (n f (rw (eq-eqb (f .block) (f .block) refl, eq-eqb
 
 pub none-exactly : NoneExactly
 unfolding isIn
-none-exactly sender recipients outer payload =
-    (
-      λ e x w.
-        let h : isIn x (faultsOf sender recipients outer payload) ≡ true = wrong-found sender recipients outer payload x w in
-        false≢true (rw e at h),
-      λ n. none-in (faultsOf sender recipients outer payload) (λ x h. n x (found-wrong sender recipients outer payload (x .block) (x .place) (x .kind) h))
-    )
+none-exactly sender recipients outer payload = (
+  λ e x w.
+      let h : isIn x (faultsOf sender recipients outer payload) ≡ true = wrong-found sender recipients outer payload x w in
+      false≢true (rw e at h),
+  λ n. none-in (faultsOf sender recipients outer payload) (λ x h. n x (found-wrong sender recipients outer payload (x .block) (x .place) (x .kind) h)),
+)

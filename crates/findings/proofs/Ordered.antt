@@ -50,8 +50,8 @@ module _ (side : Side) (sender : List ℕ) (recipients : List (List ℕ)) where
       (faultsFrom side sender recipients (seen || validIn side sender f) (place + 1) fs)
       ∙ rw (
         every-weaker (here (sideNumber side) place) (later (sideNumber side) low) (here-later (sideNumber side) place low l)
-        (faultsAt (sideNumber side) place (kinds (flawsOf side sender recipients seen f)))
-        (faults-here (sideNumber side) place (kinds (flawsOf side sender recipients seen f))),
+            (faultsAt (sideNumber side) place (kinds (flawsOf side sender recipients seen f)))
+            (faults-here (sideNumber side) place (kinds (flawsOf side sender recipients seen f))),
         from-later (seen || validIn side sender f) (place + 1) low fs (omega arith),
       )
 
@@ -94,9 +94,9 @@ module _ (sender : List ℕ) (recipients : List (List ℕ)) (outer payload : Lis
       every-append (λ (g : Fault). ltb 0 (g .place)) (faultsFrom Outer sender recipients false 1 outer) (faultsFrom Payload sender recipients false 1 payload)
       ∙ rw (
         every-weaker (later 0 0) (λ (g : Fault). ltb 0 (g .place)) (λ g e. and-right (eqb (g .block) 0) _ e) (faultsFrom Outer sender recipients false 1 outer)
-        (from-later Outer sender recipients false 1 0 outer (omega arith)),
+            (from-later Outer sender recipients false 1 0 outer (omega arith)),
         every-weaker (later 1 0) (λ (g : Fault). ltb 0 (g .place)) (λ g e. and-right (eqb (g .block) 1) _ e) (faultsFrom Payload sender recipients false 1 payload)
-        (from-later Payload sender recipients false 1 0 payload (omega arith)),
+            (from-later Payload sender recipients false 1 0 payload (omega arith)),
       )
 
   rising-mail : (b : Bool) → rising (missing b ++ blocks) ≡ true
