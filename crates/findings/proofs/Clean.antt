@@ -8,16 +8,15 @@
 --     written-clean              so nothing is found
 --     answered-clean             and no fault is counted
 -- Assumes nothing.
-use Prim.Native.Nat.{ℕ, zero, suc, _*_, _-_, _<_, _≤_, zero-le}
+use Prim.Native.Nat.{ℕ, zero, suc, _-_, _<_, zero-le}
 use mathlib.Core.Path.{_≡_, refl, sym, ap, _∙_}
 use mathlib.Core.Bool.{Bool, true, false, not, false≢true}
 use mathlib.Core.List.{List, [], _∷_, _++_}
 use mathlib.Core.Option.{Option, some, none}
 use native.Mathlib.Omega.{arith}
 use borrow.Author.Tests.{ne-eqb, le-leb}
-use lib.Dec.{eqb}
 use lib.ListN.{length, take}
-use Rattle.octets.specs.Octets.{ascii, sameOctets, blank, AllOctets}
+use Rattle.octets.specs.Octets.{ascii, sameOctets, blank}
 use Rattle.octets.specs.Finding.{holds}
 use Rattle.octets.specs.Options.{isSome, orElse, Each}
 use Rattle.octets.specs.Tests.{every}
@@ -29,8 +28,8 @@ use Rattle.runs.specs.Runs.{belongs, runLength, run}
 use Rattle.runs.specs.declared.Class.the-variants.{Name}
 use Rattle.names.specs.Names.{autocrypt as autocryptName, gossip as gossipName}
 use Rattle.keylines.specs.Lines.{spread}
-use Rattle.pieces.specs.Pieces.{pieces, before, behind}
-use Rattle.header.specs.Header.{FieldText, fields, readable}
+use Rattle.pieces.specs.Pieces.{pieces, before}
+use Rattle.header.specs.Header.{FieldText}
 use Rattle.address.specs.Address.{plain, canonical, addressOctet}
 use Rattle.address.proofs.Sides.{plain-octets}
 use Rattle.address.proofs.Spelling.{canonical-twice, plain-canonical}
@@ -39,7 +38,6 @@ use Rattle.fields.specs.Fields.{isKind, fieldsIn, valuesOf}
 use Rattle.fields.specs.declared.Kind.{Kind}
 use Rattle.fields.specs.declared.Kind.the-variants.{Autocrypt, AutocryptGossip}
 use Rattle.fields.proofs.Values.{values-first, values-other}
-use Rattle.writer.specs.Writing.{written}
 use Rattle.attributes.specs.Attribute.{trimmed, trimmedFront, trimmedBack}
 use Rattle.attributes.proofs.Joined.{other, piece-cut, piece-alone}
 use Rattle.slots.specs.Slot.{keyLimit}
@@ -47,12 +45,9 @@ use Rattle.keyfield.specs.Field.{Field, fieldOf, validFor, chosen, validFields}
 use Rattle.keyfield.proofs.ReadBack.{valueOf}
 use Rattle.keyfield.proofs.Chosen.{chosen-next}
 use Rattle.keyfield.proofs.Counted.{naming-sender}
-use Rattle.asked.specs.Asked.{isEmpty, isName, isCalled, valuesCalled, saying, occurs, named, hasKeyData}
-use Rattle.asked.specs.declared.Called.the-variants.{PreferEncrypt, Unknown}
+use Rattle.asked.specs.Asked.{isEmpty, isName, isCalled, valuesCalled, saying, occurs, named}
+use Rattle.asked.specs.declared.Called.the-variants.{PreferEncrypt}
 use Rattle.faults.specs.Faults.{Fault}
-use Rattle.write.specs.Writing.{writtenOf, leftByWriting}
-use Rattle.write.specs.declared.Written.the-variants.{Done}
-use Rattle.write.proofs.Outcomes.{done-wrote}
 use Rattle.lookover.specs.Looking.{faultsOf}
 use Rattle.lint.specs.Linting.{mailFaults, listRows, lintingRows, refusedLinting, lintedOf}
 use Rattle.outer.specs.Outer.{recipientsIn}
@@ -63,7 +58,7 @@ use Rattle.trip.specs.RoundTrip.{Writable}
 use Rattle.trip.proofs.RoundTrip.{text-whole, value-read, done-writable, output-alone}
 use Rattle.findings.specs.Wrong as wrong
 use Rattle.findings.specs.Wrong.{fieldAt, fieldsOn, Stands, LookedAt, own, gossip, Wrong}
-use Rattle.findings.specs.Clean.{WrittenFor, OwnField, GossipField, Ours, WrittenClean, AnsweredClean}
+use Rattle.findings.specs.Clean.{WrittenFor, GossipField, Ours, WrittenClean, AnsweredClean}
 use Rattle.findings.proofs.Findings.{not-nought, none-exactly}
 
 -- a field of a name, among those of that name

@@ -7,22 +7,21 @@
 --     each-fault, each-listed                 both, for some fields and for a call
 --     none-exactly                            nothing is found exactly where nothing is wrong
 -- Assumes nothing.
-use Prim.Native.Nat.{ℕ, zero, suc, _+_, _-_}
-use mathlib.Core.Path.{_≡_, refl, sym, ap, _∙_}
-use mathlib.Core.Bool.{Bool, true, false, not, _&&_, _||_, or-false, false≢true}
-use mathlib.Core.List.{List, [], _∷_, _++_}
-use mathlib.Core.Option.{some, none}
+use Prim.Native.Nat.{ℕ, zero, suc, _-_}
+use mathlib.Core.Path.{_≡_, refl, sym, _∙_}
+use mathlib.Core.Bool.{Bool, true, false, _&&_, _||_, or-false, false≢true}
+use mathlib.Core.List.{List, [], _∷_}
+use mathlib.Core.Option.{some}
 use native.Mathlib.Omega.{arith}
 use borrow.Author.Tests.{eqb-true, eq-eqb, not-true}
 use lib.Dec.{eqb}
 use lib.ListN.{take}
-use Rattle.octets.specs.Options.{isSome, orElse}
+use Rattle.octets.specs.Options.{orElse}
 use Rattle.octets.proofs.Tests.{by-test, and-left, and-right}
 use Rattle.header.specs.Header.{FieldText}
 use Rattle.fields.specs.Fields.{isKind, fieldsIn}
-use Rattle.fields.specs.declared.Kind.{Kind}
 use Rattle.fields.specs.declared.Kind.the-variants.{Autocrypt, AutocryptGossip}
-use Rattle.outer.specs.Outer.{senderIn, recipientsIn}
+use Rattle.outer.specs.Outer.{recipientsIn}
 use Rattle.asked.specs.Asked.{occurs, hasKeyData}
 use Rattle.asked.specs.declared.Called.the-variants.{Unknown}
 use Rattle.faults.specs.Faults.{Fault, noValid, noFlaws, hasKind}

@@ -2,5 +2,6 @@ pub mod Having
 pub mod Flawed
 pub mod Findings
 pub mod Ordered
+pub mod Listing
 pub mod Counted
 pub mod Clean
