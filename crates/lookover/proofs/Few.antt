@@ -38,6 +38,7 @@ use Rattle.asked.specs.declared.Called.{Called}
 use Rattle.asked.specs.declared.Called.the-variants.{PreferEncrypt, Unknown}
 use Rattle.faults.specs.Faults.{Fault, noFlaws, hasKind, onlyIf, kindsBelow, kinds, faultsAt}
 use Rattle.faults.specs.declared.Flaws.{Flaws}
+use Rattle.faults.proofs.Counting.{faults-long}
 use Rattle.lookover.specs.Looking.{isOuter, sideNumber, namesOnly, lists, ownFlaws, gossipFlaws, isOwn, flawsOf, validIn, faultsFrom, validBehind, faultsIn, missing, faultsOf}
 use Rattle.lookover.specs.declared.Side.{Side}
 use Rattle.lookover.specs.declared.Side.the-variants.{Outer, Payload}
@@ -197,11 +198,6 @@ module _ (sender : List ℕ) (recipients : List (List ℕ)) (seen : Bool) (f : F
   field-few Outer = by-test (isKind Autocrypt (f .name)) (λ e. rw e (own-weight e)) (λ e. rw e (not-own Outer))
   field-few Payload = not-own Payload
 
-at-count : (block place : ℕ) (ks : List ℕ) → length (faultsAt block place ks) ≡ length ks
-unfolding faultsAt
-at-count block place [] = refl
-at-count block place (k ∷ ks) = ap suc (at-count block place ks)
-
 module _ (side : Side) (sender : List ℕ) (recipients : List (List ℕ)) where
   pub from-few : (seen : Bool) (place : ℕ) (fs : List FieldText)
       → 18 * length (faultsFrom side sender recipients seen place fs) ≤ share side * weight fs
@@ -210,7 +206,7 @@ module _ (side : Side) (sender : List ℕ) (recipients : List (List ℕ)) where
   from-few seen place (f ∷ fs) =
       let ks : List ℕ = kinds (flawsOf side sender recipients seen f) in
       let later : List Fault = faultsFrom side sender recipients (seen || validIn side sender f) (place + 1) fs in
-      rw (length-append (faultsAt (sideNumber side) place ks) later, at-count (sideNumber side) place ks)
+      rw (length-append (faultsAt (sideNumber side) place ks) later, faults-long (sideNumber side) place ks)
       (share-sum side (length ks) (length later) (length (textOf f) + 1) (weight fs)
       (field-few sender recipients seen f side) (from-few (seen || validIn side sender f) (place + 1) fs))
 

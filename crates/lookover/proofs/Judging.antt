@@ -18,7 +18,7 @@ use Rattle.asked.specs.Asked.{occurs, hasKeyData}
 use Rattle.asked.specs.declared.Called.the-variants.{PreferEncrypt, Unknown}
 use Rattle.faults.specs.Faults.{noFlaws}
 use Rattle.faults.specs.declared.Flaws.{Flaws}
-use Rattle.lookover.specs.Looking.{isOuter, lists, ownFlaws, gossipFlaws, isOwn, flawsOf, validIn}
+use Rattle.lookover.specs.Looking.{isOuter, lists, gossipFlaws, isOwn, flawsOf, validIn}
 use Rattle.lookover.specs.Answers.{JudgedAs, FieldAs}
 use Rattle.lookover.specs.declared.Side.{Side}
 use Rattle.lookover.specs.declared.Judged.{Judged}

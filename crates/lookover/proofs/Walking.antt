@@ -1,12 +1,13 @@
 -- The walk over a block: the faults of its fields, one field after the other.
---     laid-more, behind-more        numbers of faults written behind others
---     value-order, value-upto       where the value of a field stands
---     Overlooked                    the faults of the fields before the place `start` are written
---     look-judges, look-begin       what one field asks for, and the walk's begin
---     look-kept .. look-place       what it needs on its way: the list's length, room in it, a place that fits
---     look-over, look-broken        its end
---     look-next                     its step
---     the ruleset                   overlooking, for `look_over`
+--     laid-more, behind-more                numbers of faults written behind others
+--     value-order, value-upto               where the value of a field stands
+--     left                                  the fields from a place on
+--     Walked                                the faults of the fields before the place `start` are written
+--     look-judges, look-begin               what one field asks for, and the walk's begin
+--     look-kept, look-room, look-place      what it needs on its way: the list's length, room in it, a place that fits
+--     look-over, look-broken                its end
+--     look-next                             its step
+--     the ruleset                           walking, for `look_over`
 -- Assumes nothing.
 use Prim.Native.Nat.{ℕ, _+_, _-_, _*_, _^_, _<_, _≤_}
 use mathlib.Core.Path.{_≡_, refl, sym, ap, _∙_}
@@ -54,7 +55,7 @@ left s start = orElse [] (fieldsFrom s start)
 
 -- d is the list as it came and list as it is now, written from `at` to `to`; the field that begins at `start` is the one at `place`. A field takes an octet at
 -- least, and has at most 21 numbers.
-pub record Overlooked (side : Side) (sender : List ℕ) (recipients : List (List ℕ)) (s d : List ℕ) (at : ℕ) (list : List ℕ) (start place : ℕ) (seen : Bool) (to : ℕ) : Type 0 where
+pub record Walked (side : Side) (sender : List ℕ) (recipients : List (List ℕ)) (s d : List ℕ) (at : ℕ) (list : List ℕ) (start place : ℕ) (seen : Bool) (to : ℕ) : Type 0 where
   pub found : List Fault
   pub so-far : faultsIn side sender recipients (fieldsIn s) ≡ found ++ faultsFrom side sender recipients seen place (left s start)
   pub validly : validBehind side sender (fieldsIn s) ≡ (seen || validBehind side sender (left s start))
@@ -76,7 +77,7 @@ module _ (s sender roll tags places text₀ : List ℕ) (at : ℕ) (c : Looks s 
         room = simp (length-take, length-drop) (omega (arith, c .room));
       }
 
-  pub look-begin : (side : Side) (recipients : List (List ℕ)) (d : List ℕ) → Overlooked side sender recipients s d at d 0 1 false at
+  pub look-begin : (side : Side) (recipients : List (List ℕ)) (d : List ℕ) → Walked side sender recipients s d at d 0 1 false at
   unfolding faultsIn fieldsIn numbersOf
   look-begin side recipients d =
       let fits : length s ≤ limit = clear-fits s true (sym (c .readably)) refl in
@@ -95,7 +96,7 @@ module _ (s sender roll tags places text₀ : List ℕ) (at : ℕ) (c : Looks s 
       }
 
 module _ (side : Side) (sender : List ℕ) (recipients : List (List ℕ)) (s d : List ℕ) (at : ℕ) (list : List ℕ) (start place : ℕ) (seen : Bool) (to : ℕ)
-    (h : Overlooked side sender recipients s d at list start place seen to) where
+    (h : Walked side sender recipients s d at list start place seen to) where
   pub look-kept : length list ≡ length d
   look-kept = ap length (h .laid) ∙ laid-long d at (numbersOf (h .found))
 
@@ -123,7 +124,7 @@ module _ (side : Side) (sender : List ℕ) (recipients : List (List ℕ)) (s d :
 -- The field that stands there was judged, and the numbers of its faults are written. Each premise tells what the next ones speak of, as `search` asks it.
 module _ (side : Side) (sender : List ℕ) (recipients : List (List ℕ)) (s d : List ℕ) (at : ℕ) (r : Step) (n v e : ℕ) (q : r ≡ Field n v e)
     (start : ℕ) (t : r ≡ stepAt s start)
-    (list : List ℕ) (place : ℕ) (seen : Bool) (to : ℕ) (h : Overlooked side sender recipients s d at list start place seen to)
+    (list : List ℕ) (place : ℕ) (seen : Bool) (to : ℕ) (h : Walked side sender recipients s d at list start place seen to)
     (j : Judged) (g : FieldAs side sender recipients seen (take (n - start) (drop start s)) (take (e - v) (drop v s)) j)
     (number : ℕ) (out : List ℕ) (next : ℕ) (o : out ≡ laidAt list to (numbersOf (faultsAt number place (kinds (j .flaws)))))
     (p : next ≡ to + length (numbersOf (faultsAt number place (kinds (j .flaws))))) (k : number ≡ sideNumber side) where
@@ -146,7 +147,7 @@ module _ (side : Side) (sender : List ℕ) (recipients : List (List ℕ)) (s d :
   unfolding faultsFrom
   parted = rw (k, g .flawed, g .validly)
 
-  pub look-next : (m : ℕ) → m ≡ place + 1 → Overlooked side sender recipients s d at out e m (seen || j .valid) next
+  pub look-next : (m : ℕ) → m ≡ place + 1 → Walked side sender recipients s d at out e m (seen || j .valid) next
   unfolding validBehind
   look-next m y =
       rw y
@@ -171,5 +172,5 @@ module _ (side : Side) (sender : List ℕ) (recipients : List (List ℕ)) (s d :
         placed = omega (arith, h .placed, lies);
       })
 
-pub ruleset overlooking =
+pub ruleset walking =
     (look-judges, look-begin, look-kept, look-room, look-place, look-over, look-broken, look-next, name-from, name-upto, value-order, value-upto, field-less, needs)

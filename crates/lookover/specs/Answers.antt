@@ -4,7 +4,7 @@
 --     Looks, LookedAs    a block asked about, and the answer on it
 use Prim.Native.Nat.{ℕ, _+_, _≤_}
 use mathlib.Core.Path.{_≡_}
-use mathlib.Core.Bool.{Bool, true, false}
+use mathlib.Core.Bool.{Bool, true}
 use mathlib.Core.List.{List}
 use lib.ListN.{length}
 use Rattle.header.specs.Header.{readable, unfolded}

@@ -3,11 +3,11 @@
 //
 // Values are unfolded into a lent text, which has to be as long as the block. What it holds afterwards means nothing.
 ghost use mathlib.Core.Path.{_≡_};
-ghost use mathlib.Core.Bool.{true, false};
+ghost use mathlib.Core.Bool.{true};
 ghost use Rattle.address.specs.Address.{isCanonical};
 ghost use Rattle.roll.specs.Roll.{unrolled};
 ghost use Rattle.roll.specs.Index.{Indexed};
-ghost use Rattle.lookover.specs.Looking.{isOuter, sideNumber, namesOnly, lists, gossipFlaws, faultsIn, validBehind};
+ghost use Rattle.lookover.specs.Looking.{isOuter, sideNumber, namesOnly, lists, gossipFlaws};
 ghost use Rattle.lookover.specs.Answers.{JudgedAs, FieldAs, Judges, Looks, LookedAs};
 use asked::Called;
 use attributes::AddressAt;
