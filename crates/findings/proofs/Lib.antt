@@ -5,3 +5,4 @@ pub mod Ordered
 pub mod Listing
 pub mod Counted
 pub mod Clean
+pub mod Standing

@@ -1,3 +1,4 @@
 pub mod Wrong
 pub mod Findings
 pub mod Clean
+pub mod Standing
