@@ -6,3 +6,5 @@ pub mod Listing
 pub mod Counted
 pub mod Clean
 pub mod Standing
+pub mod Worked
+pub mod WorkedClean

@@ -2,3 +2,4 @@ pub mod Wrong
 pub mod Findings
 pub mod Clean
 pub mod Standing
+pub mod Worked
