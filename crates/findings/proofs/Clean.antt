@@ -29,7 +29,7 @@ use Rattle.runs.specs.declared.Class.the-variants.{Name}
 use Rattle.names.specs.Names.{autocrypt as autocryptName, gossip as gossipName}
 use Rattle.keylines.specs.Lines.{spread}
 use Rattle.pieces.specs.Pieces.{pieces, before}
-use Rattle.header.specs.Header.{FieldText}
+use Rattle.header.specs.Header.{FieldText, fields}
 use Rattle.address.specs.Address.{plain, canonical, addressOctet}
 use Rattle.address.proofs.Sides.{plain-octets}
 use Rattle.address.proofs.Spelling.{canonical-twice, plain-canonical}
@@ -58,7 +58,7 @@ use Rattle.trip.specs.RoundTrip.{Writable}
 use Rattle.trip.proofs.RoundTrip.{text-whole, value-read, done-writable, output-alone}
 use Rattle.findings.specs.Wrong as wrong
 use Rattle.findings.specs.Wrong.{fieldAt, fieldsOn, Stands, LookedAt, own, gossip, Wrong}
-use Rattle.findings.specs.Clean.{WrittenFor, GossipField, Ours, WrittenClean, AnsweredClean}
+use Rattle.findings.specs.Clean.{Left, WrittenFor, GossipField, Ours, WrittenClean, AnsweredClean}
 use Rattle.findings.proofs.Findings.{not-nought, none-exactly}
 
 -- a field of a name, among those of that name
@@ -119,15 +119,19 @@ firstValue (some []) = []
 firstValue (some (f ∷ rest)) = f .value
 
 module _ (name address : List ℕ) (m : Bool) (v : List ℕ) (w : WrittenFor name address m v) (named : runLength Name name ≡ length name) (some-name : 0 < length name) where
-  can : Writable address (w .key)
-  can = done-writable name address (w .key) (w .out) m (w .octets) (w .long) (w .done)
+  abbrev l : Left name address m (w .octets)
+  l = w .left
 
-  wrote-value : v ≡ valueOf (canonical address) m (spread (encode (w .key)))
+  can : Writable address (l .key)
+  can = done-writable name address (l .key) (l .out) m (l .key-octets) (l .long) (l .done)
+
+  wrote-value : v ≡ valueOf (canonical address) m (spread (encode (l .key)))
   unfolding firstValue
-  wrote-value = ap firstValue (sym (w .reads) ∙ output-alone name address (w .key) (w .out) m (w .octets) (w .long) (w .done) named some-name)
+  wrote-value =
+      ap firstValue (sym (w .reads) ∙ ap fields (l .is) ∙ output-alone name address (l .key) (l .out) m (l .key-octets) (l .long) (l .done) named some-name)
 
-  wrote-says : fieldOf keyLimit v ≡ some (record { address = canonical address; isMutual = m; key = w .key })
-  wrote-says = rw wrote-value (value-read address (w .key) m can)
+  wrote-says : fieldOf keyLimit v ≡ some (record { address = canonical address; isMutual = m; key = l .key })
+  wrote-says = ap (fieldOf keyLimit) wrote-value ∙ value-read address (l .key) m can
 
 -- a gossip field of ours
 record Told (recipients : List (List ℕ)) (v : List ℕ) : Type 0 where
@@ -145,14 +149,14 @@ told-field : (recipients : List (List ℕ)) (v : List ℕ) → GossipField recip
 unfolding run belongs blank
 told-field recipients v g =
     let w : WrittenFor gossipName (g .address) false v = g .wrote in
-    let c : Writable (g .address) (w .key) = can gossipName (g .address) false v w refl (omega arith) in
+    let c : Writable (g .address) (w .left .key) = can gossipName (g .address) false v w refl (omega arith) in
     record {
-      field = record { address = canonical (g .address); isMutual = false; key = w .key };
+      field = record { address = canonical (g .address); isMutual = false; key = w .left .key };
       says = wrote-says gossipName (g .address) false v w refl (omega arith);
       listed = among-canonical (g .address) recipients ∙ g .listed;
       quiet =
-          rw (wrote-value gossipName (g .address) false v w refl (omega arith))
-          (value-quiet (canonical (g .address)) (spread (encode (w .key))) (plain-canonical (g .address) (c .plainly)) (text-whole (g .address) (w .key) false c));
+          ap (occurs PreferEncrypt) (wrote-value gossipName (g .address) false v w refl (omega arith))
+          ∙ value-quiet (canonical (g .address)) (spread (encode (w .left .key))) (plain-canonical (g .address) (c .plainly)) (text-whole (g .address) (w .left .key) false c);
     }
 
 all-told : (recipients : List (List ℕ)) (vs : List (List ℕ)) → Each (GossipField recipients) vs → Each (Told recipients) vs
@@ -165,7 +169,7 @@ module _ (sender : List ℕ) (recipients : List (List ℕ)) (outer payload : Lis
   v = o .value
 
   abbrev ownField : Field
-  ownField = record { address = canonical (o .own .address); isMutual = o .own .prefers; key = o .own .wrote .key }
+  ownField = record { address = canonical (o .own .address); isMutual = o .own .prefers; key = o .own .wrote .left .key }
 
   says-own : fieldOf keyLimit v ≡ some ownField
   unfolding run belongs blank

@@ -5,3 +5,6 @@ pub mod Ordered
 pub mod Listing
 pub mod Counted
 pub mod Clean
+pub mod Standing
+pub mod Worked
+pub mod WorkedClean

@@ -1,5 +1,6 @@
 -- SCOPE, C23: a mail whose fields we wrote has no faults. These are claims, which proofs/Clean shows.
---     WrittenFor         the value of a field that a writer wrote for an address
+--     Left               what a call of a writer left in front of the output, for an address
+--     WrittenFor         the value of this field
 --     OwnField           an Autocrypt field that was written for the sender
 --     GossipField        a gossip field that was written for a recipient
 --     Ours               the fields of both blocks are such
@@ -26,14 +27,20 @@ use Rattle.lookover.specs.Looking.{faultsOf}
 use Rattle.lint.specs.Linting.{lintedOf}
 use Rattle.lint.specs.declared.Linted.the-variants.{Done as Found}
 
--- W1, W6: a writer answered how long its field is, and what it left in front of the output is read as one field with this value
-pub record WrittenFor (name address : List ℕ) (m : Bool) (v : List ℕ) : Type 0 where
+-- W1, W6: a writer answered how long its field is, and these octets are what it left in front of the output
+pub record Left (name address : List ℕ) (m : Bool) (octets : List ℕ) : Type 0 where
   pub key : List ℕ
-  pub octets : AllOctets key
+  pub key-octets : AllOctets key
   pub out : List ℕ
   pub long : ℕ
   pub done : Done long ≡ writtenOf name address m key (length out)
-  pub reads : fields (take long (leftByWriting name address m key out)) ≡ some (record { name = name; value = v } ∷ [])
+  pub is : octets ≡ take long (leftByWriting name address m key out)
+
+-- what a writer left is read as one field with this value
+pub record WrittenFor (name address : List ℕ) (m : Bool) (v : List ℕ) : Type 0 where
+  pub octets : List ℕ
+  pub left : Left name address m octets
+  pub reads : fields octets ≡ some (record { name = name; value = v } ∷ [])
 
 -- C23: `write_autocrypt` wrote it for an address whose canonical form is the sender, with or without a preference
 pub record OwnField (sender v : List ℕ) : Type 0 where

@@ -1,3 +1,5 @@
 pub mod Wrong
 pub mod Findings
 pub mod Clean
+pub mod Standing
+pub mod Worked

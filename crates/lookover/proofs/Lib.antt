@@ -1,6 +1,5 @@
 pub mod Validity
 pub mod Few
-pub mod Counting
 pub mod Owners
 pub mod Judging
 pub mod Walking

@@ -1,5 +1,6 @@
 -- A block that holds octets among other whole fields.
---     holding-fields    its fields, where the octets are read back as one
+--     readable-fields    the fields of a readable block are those of its text
+--     holding-fields     its fields, where the octets are read back as one
 -- Assumes nothing.
 use Prim.Native.Nat.{ℕ}
 use mathlib.Core.Path.{_≡_, sym, ap, _∙_}
@@ -26,7 +27,7 @@ all-in-front (g ∷ fs) f o all e =
     let r = front-some g (inFrontAll fs (inFront f o)) all e in
     r .1 .1 ∙ ap (λ (x : List FieldText). g ∷ x) (all-in-front fs f o (r .0) (r .1 .0))
 
-readable-fields : (s : List ℕ) (fs : List FieldText) → fieldsOf s ≡ some fs → fields s ≡ some fs
+pub readable-fields : (s : List ℕ) (fs : List FieldText) → fieldsOf s ≡ some fs → fields s ≡ some fs
 unfolding fieldsOf
 readable-fields s fs e =
     by-test (leb (length s) limit)
