@@ -1,10 +1,10 @@
 -- SCOPE, O6 to O9: what is asked of the value of an Autocrypt or Autocrypt-Gossip field, whatever spoils it.
---     isEmpty                         nothing is in a list
+--     isEmpty, lastOf                 nothing is in a list; the last of some pieces
 --     isUnknown, isName, isCalled     the name of a piece
 --     valueOf, valuesCalled, saying   the values of the pieces of a name, in order
 --     occurs                          there is such a piece
 --     namedBy, named                  the one address, in canonical form
---     lastOf, isBase64, hasKeyData    key data that is last, and Base64
+--     isBase64, hasKeyData            key data that is last, and Base64
 use Prim.Native.Nat.{ℕ}
 use mathlib.Core.Bool.{Bool, true, false, not, cond, _&&_}
 use mathlib.Core.List.{List, [], _∷_}
@@ -26,6 +26,12 @@ use Rattle.asked.specs.declared.Called.the-variants.{Addr, PreferEncrypt
 unfoldable pub isEmpty : {A : Type 0} → List A → Bool
 isEmpty [] = true
 isEmpty (x ∷ rest) = false
+
+-- the last of some pieces
+unfoldable pub lastOf : List (List ℕ) → List ℕ
+lastOf [] = []
+lastOf (p ∷ []) = p
+lastOf (p ∷ q ∷ rest) = lastOf (q ∷ rest)
 
 -- O7: a name that F5 neither knows nor ignores
 unfoldable pub isOther : Name → Bool
@@ -76,12 +82,6 @@ namedBy (some a) = cond (plain a) (some (canonical a)) none
 -- O6: the address that a value names: it has one `addr` and no other, and this is plain
 unfoldable pub named : List ℕ → Option (List ℕ)
 named s = namedBy (onlyOne (saying Addr s))
-
--- the last of some pieces
-unfoldable pub lastOf : List (List ℕ) → List ℕ
-lastOf [] = []
-lastOf (p ∷ []) = p
-lastOf (p ∷ q ∷ rest) = lastOf (q ∷ rest)
 
 -- O8, F9: a text that is Base64, its blanks taken out; how many octets it stands for is not asked
 unfoldable pub isBase64 : Option (List ℕ) → Bool
