@@ -537,7 +537,17 @@ def asked(mailbox, table_file):
     one = subprocess.Popen(words, stdout=subprocess.PIPE, stderr=subprocess.PIPE)
     line = one.stderr.readline().decode()
     assert line == f"vienghulac: waiting for another program, which holds {lock_of(table_file)}\n"
+    # It says so just before it waits in the system. A signal between the two would be seen only when the lock is free.
+    end = time.monotonic() + 1
+    while time.monotonic() < end and f" {one.pid} " not in waiting_for_locks():
+        time.sleep(0.01)
     return one
+
+
+def waiting_for_locks():
+    """The lines of the system's list of locks that are about programs which wait for one."""
+    with open("/proc/locks") as locks:
+        return "".join(line for line in locks if "->" in line)
 
 
 def test_an_import_waits_for_another_program(table_file):
