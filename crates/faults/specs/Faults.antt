@@ -6,7 +6,7 @@
 --     faultsAt                     the faults of the field at a place of a block
 --     numbersOf                    faults as numbers, three for each
 use Prim.Native.Nat.{ℕ, zero, suc}
-use mathlib.Core.Bool.{Bool, true, false, cond}
+use mathlib.Core.Bool.{Bool, false, cond}
 use mathlib.Core.List.{List, [], _∷_, _++_}
 use lib.Dec.{eqb}
 use Rattle.faults.specs.declared.Flaws.{Flaws}

@@ -9,7 +9,7 @@ ghost use Rattle.faults.specs.Laying.{laidAt, Placed, numbersIf, room};
 // The kinds of faults (O3). The first is about a block, the others about a field.
 pub const NO_VALID: u32 = 1;
 
-pub const MORE_VALID: u32 = 2;
+const MORE_VALID: u32 = 2;
 
 const WRONG_ADDRESS: u32 = 3;
 

@@ -5,7 +5,7 @@
 --     SaidAs, said-from                         the pieces of a value that says something
 --     field-named, field-known, field-keyed     a valid value names its address, has no unknown attribute, and has its key data
 --     valid-true, valid-names, valid-false      whether a value is valid, and that it then names the sender
---     own-valid, own-spoiled                    what is wrong with an Autocrypt value, by that
+--     flawsBy, own-valid, own-spoiled           what is wrong with an Autocrypt value, by that
 --     judged-valid, judged-spoiled              the same as the code answers it
 -- Assumes nothing.
 use Prim.Native.Nat.{ℕ}
@@ -38,6 +38,7 @@ use Rattle.keyowner.specs.declared.Own.the-variants.{Key, NoKey}
 use Rattle.asked.specs.Asked.{isEmpty, isOther, isUnknown, isName, isCalled, valueOf, valuesCalled, saying, occurs, namedBy, named, lastOf, isBase64, hasKeyData}
 use Rattle.asked.specs.declared.Called.{Called}
 use Rattle.asked.specs.declared.Called.the-variants.{Addr, PreferEncrypt, Keydata, Unknown}
+use Rattle.faults.specs.declared.Flaws.{Flaws}
 use Rattle.lookover.specs.Looking.{isValid, isJust, namesOnly, ownFlaws}
 use Rattle.lookover.specs.Answers.{JudgedAs}
 
@@ -265,6 +266,19 @@ module _ (limit : ℕ) (v : List ℕ) (f : Field) (e : fieldOf limit v ≡ some 
   unfolding hasKeyData isBase64 saying onlyOne isSome
   field-keyed = rw (pieces-are .ends, pieces-are .keyed, key-parts limit (parts .said .text) (f .key) (parts .key) .decoded)
 
+-- the flaws of an Autocrypt value, kinds 2 to 5 in their order; it has none of gossip
+abbrev pub flawsBy : Bool → Bool → Bool → Bool → Flaws
+flawsBy m a u k =
+    record {
+      «more_valid» = m;
+      «wrong_address» = a;
+      «unknown_attribute» = u;
+      «key_data» = k;
+      «gossip_outside» = false;
+      «gossip_unlisted» = false;
+      «gossip_preference» = false;
+    }
+
 -- what is wrong with an Autocrypt value. `seen` says whether a valid one stands before it
 module _ (sender v : List ℕ) where
   -- a valid one: nothing but that
@@ -280,17 +294,7 @@ module _ (sender v : List ℕ) where
     unfolding namesOnly isJust
     valid-names = rw (field-named keyLimit v f field-is, valid-is keyLimit sender v f e .1) (same-refl sender)
 
-    pub own-valid : (seen : Bool)
-        → record {
-          «more_valid» = seen;
-          «wrong_address» = false;
-          «unknown_attribute» = false;
-          «key_data» = false;
-          «gossip_outside» = false;
-          «gossip_unlisted» = false;
-          «gossip_preference» = false;
-        }
-        ≡ ownFlaws sender seen v
+    pub own-valid : (seen : Bool) → flawsBy seen false false false ≡ ownFlaws sender seen v
     unfolding ownFlaws
     own-valid seen = rw (← valid-true, valid-names, field-known keyLimit v f field-is, field-keyed keyLimit v f field-is, and-true)
 
@@ -300,17 +304,7 @@ module _ (sender v : List ℕ) where
     unfolding isValid isSome
     valid-false = rw e
 
-    pub own-spoiled : (seen : Bool)
-        → record {
-          «more_valid» = false;
-          «wrong_address» = not (namesOnly sender v);
-          «unknown_attribute» = occurs Unknown v;
-          «key_data» = not (hasKeyData v);
-          «gossip_outside» = false;
-          «gossip_unlisted» = false;
-          «gossip_preference» = false;
-        }
-        ≡ ownFlaws sender seen v
+    pub own-spoiled : (seen : Bool) → flawsBy false (not (namesOnly sender v)) (occurs Unknown v) (not (hasKeyData v)) ≡ ownFlaws sender seen v
     unfolding ownFlaws
     own-spoiled seen = rw (← valid-false, and-false)
 
@@ -318,19 +312,7 @@ module _ (sender v : List ℕ) where
 module _ (sender v key : List ℕ) (seen : Bool) (o : Own) (a : OwnAs keyLimit sender (validFor keyLimit sender v) key o) where
   pub judged-valid : (m : Bool) (n : ℕ) → o ≡ Key m n
       → JudgedAs sender seen v
-      (record {
-        flaws =
-            record {
-              «more_valid» = seen;
-              «wrong_address» = false;
-              «unknown_attribute» = false;
-              «key_data» = false;
-              «gossip_outside» = false;
-              «gossip_unlisted» = false;
-              «gossip_preference» = false;
-            };
-        valid = true;
-      })
+      (record { flaws = flawsBy seen false false false; valid = true })
   unfolding OwnAs
   judged-valid m n q =
       let h : OwnAt keyLimit sender (validFor keyLimit sender v) key m n = rw q at a in
@@ -340,19 +322,7 @@ module _ (sender v key : List ℕ) (seen : Bool) (o : Own) (a : OwnAs keyLimit s
   pub judged-spoiled :
       o ≡ NoKey → (n u k : Bool) → n ≡ namesOnly sender v → u ≡ occurs Unknown v → k ≡ hasKeyData v
       → JudgedAs sender seen v
-      (record {
-        flaws =
-            record {
-              «more_valid» = false;
-              «wrong_address» = not n;
-              «unknown_attribute» = u;
-              «key_data» = not k;
-              «gossip_outside» = false;
-              «gossip_unlisted» = false;
-              «gossip_preference» = false;
-            };
-        valid = false;
-      })
+      (record { flaws = flawsBy false (not n) u (not k); valid = false })
   unfolding OwnAs
   judged-spoiled q n u k en eu ek =
       let h : validFor keyLimit sender v ≡ none = rw q at a in
