@@ -14,7 +14,7 @@ use mathlib.Core.List.{List, [], ◌∷◌, ◌++◌, map}
 use native.Mathlib.Omega.{arith}
 use borrow.Author.Tests.{le-leb, ne_eqb}
 use lib.Dec.{ltb, eqb}
-use lib.ListN.{length, length_append}
+use lib.ListN.{length, length-append}
 use Rattle.octets.specs.Octets.{lower, lowered}
 use Rattle.octets.specs.Tests.{every}
 use Rattle.octets.proofs.Comparing.{same_refl}
@@ -82,13 +82,13 @@ module _ (s : List ℕ) (e : ascii_domain (behind 64 s) ≡ true) where
   sides_long : length (lower_sides s) ≡ length s
   unfolding lower_sides
   sides_long =
-      simp length_append
+      simp length-append
       (omega (
         arith,
         alike_length (alike_text (before 64 s)),
         length_lowered (from 64 s),
         ap length (before_from 64 s),
-        length_append (before 64 s) (from 64 s),
+        length-append (before 64 s) (from 64 s),
       ))
 
 module _ (s : List ℕ) (p : ascii_plain s ≡ true) where

@@ -6,7 +6,7 @@ use mathlib.Core.Path.{◌≡◌, ap}
 use mathlib.Core.Bool.{true}
 use mathlib.Core.List.{List, [], ◌∷◌, map}
 use native.Mathlib.Omega.{arith}
-use lib.ListN.{length, length_append}
+use lib.ListN.{length, length-append}
 use Rattle.octets.specs.Tests.{every}
 use Rattle.octets.proofs.Tests.{and_left, and_right}
 use Rattle.utf8.specs.Lowering.{lower_text}
@@ -24,13 +24,13 @@ following_long : (ps : List (List ℕ)) → every label ps ≡ true → length (
 unfolding following every
 following_long [] e = omega arith
 following_long (p ∷ ps) e =
-    simp length_append (omega (arith, label_long p (and_left (label p) (every label ps) e), following_long ps (and_right (label p) (every label ps) e)))
+    simp length-append (omega (arith, label_long p (and_left (label p) (every label ps) e), following_long ps (and_right (label p) (every label ps) e)))
 
 joined_long : (ps : List (List ℕ)) → every label ps ≡ true → length (joined 46 ps) ≤ 4 * length (joined 46 (map labelled ps))
 unfolding joined every
 joined_long [] e = omega arith
 joined_long (p ∷ ps) e =
-    simp length_append (omega (arith, label_long p (and_left (label p) (every label ps) e), following_long ps (and_right (label p) (every label ps) e)))
+    simp length-append (omega (arith, label_long p (and_left (label p) (every label ps) e), following_long ps (and_right (label p) (every label ps) e)))
 
 domain_long : (d : List ℕ) → domain d ≡ true → length d ≤ 4 * length (domain_form d)
 unfolding domain domain_form
@@ -42,9 +42,9 @@ plain_long s p =
     omega (
       arith,
       ap length (plain_join s p),
-      length_append (before 64 s) (64 ∷ behind 64 s),
+      length-append (before 64 s) (64 ∷ behind 64 s),
       domain_long (behind 64 s) (right s p),
       alike_length (alike_text (before 64 s)),
-      length_append (lower_text (before 64 s)) (64 ∷ domain_form (behind 64 s)),
+      length-append (lower_text (before 64 s)) (64 ∷ domain_form (behind 64 s)),
       short s p,
     )

@@ -11,7 +11,7 @@ use mathlib.Core.Option.{some, none}
 use mathlib.Core.Logic.{⊎_elim}
 use native.Mathlib.Omega.{arith}
 use borrow.Author.Rules.{rules}
-use lib.ListN.{length, take, drop, set, length_append, length-drop, length-set}
+use lib.ListN.{length, take, drop, set, length-append, length-drop, length-set}
 use lib.Seq.{drop-drop}
 use Rattle.octets.specs.Finding.{length_before}
 use Rattle.octets.specs.Written.{put_at}
@@ -113,7 +113,7 @@ module _ (d out s : List ℕ) (from at i to : ℕ) (h : Joining d out s from at 
   long_first : length (labelled piece) ≤ length (domain_form t)
   long_first =
       ⊎_elim
-      (λ (l : length (before 46 t) < length t). rw (more_form t l, ← first, length_append) (omega arith))
+      (λ (l : length (before 46 t) < length t). rw (more_form t l, ← first, length-append) (omega arith))
       (λ (l : length t ≤ length (before 46 t)). rw (last_form t l, ← first) (omega arith))
       (lt_or_le (length (before 46 t)) (length t))
 
@@ -126,7 +126,7 @@ module _ (d out s : List ℕ) (from at i to : ℕ) (h : Joining d out s from at 
       (lt_or_le (length (before 46 t)) (length t)))
 
   whole_long : (w : List ℕ) → w ≡ domain_form (drop from s) → length w ≡ length h.text + length (domain_form t)
-  whole_long w e = rw (e, h.forms, length_append)
+  whole_long w e = rw (e, h.forms, length-append)
 
   module _ (e : List ℕ) (g : Laid) (p : PutsText out e to (label_of piece) g) where
     pub join_none : g ≡ NoRoom → Untold d at e (domain_of (drop from s))
@@ -157,7 +157,7 @@ module _ (d out s : List ℕ) (from at i to : ℕ) (h : Joining d out s from at 
       written =
           told.writes
           ∙ rw (is_label.1, h.writes, h.counts)
-          (put_both d at h.text (labelled piece) (rw length_append (omega (arith, counted, told.room, h.kept))))
+          (put_both d at h.text (labelled piece) (rw length-append (omega (arith, counted, told.room, h.kept))))
 
       pub join_last : length s ≤ end → Told d at e m (domain_of (drop from s))
       join_last l =
@@ -168,7 +168,7 @@ module _ (d out s : List ℕ) (from at i to : ℕ) (h : Joining d out s from at 
                 of_domain (drop from s) _ (h.tests ∙ last_domain t k ∙ rw first is_label.0)
                 (h.forms ∙ rw (last_form t k, first));
             writes = written;
-            counts = counted ∙ rw length_append;
+            counts = counted ∙ rw length-append;
             room = omega (arith, told.room, h.kept);
           }
 
@@ -192,14 +192,14 @@ module _ (d out s : List ℕ) (from at i to : ℕ) (h : Joining d out s from at 
             record {
               long = λ w x.
                   let y = domain_of_lem (drop from s) w x in
-                  let z : length w ≡ length h.text + length (labelled piece) + (1 + length (domain_form (drop (end + 1) s))) = ap length (y.1 ∙ on_form) ∙ rw (length_append, length_append) (omega arith) in
+                  let z : length w ≡ length h.text + length (labelled piece) + (1 + length (domain_form (drop (end + 1) s))) = ap length (y.1 ∙ on_form) ∙ rw (length-append, length-append) (omega arith) in
                   omega (arith, z, counted, join_long);
               same = join_long;
             }
 
         pub join_next : m < length e → Joining d (set e m 46) s from at (end + 1) (m + 1)
         join_next f =
-            let n : at + length ((h.text ++ labelled piece) ++ 46 ∷ []) ≤ length d = rw (length_append, length_append) (omega (arith, counted, join_long)) in
+            let n : at + length ((h.text ++ labelled piece) ++ 46 ∷ []) ≤ length d = rw (length-append, length-append) (omega (arith, counted, join_long)) in
             record {
               upto = omega arith;
               kept = length-set e m 46 ∙ join_long;
@@ -207,9 +207,9 @@ module _ (d out s : List ℕ) (from at i to : ℕ) (h : Joining d out s from at 
               text = (h.text ++ labelled piece) ++ 46 ∷ [];
               writes =
                   over_one e m 46 (omega arith)
-                  ∙ rw (written, counted, ← length_append h.text (labelled piece))
+                  ∙ rw (written, counted, ← length-append h.text (labelled piece))
                   (put_both d at (h.text ++ labelled piece) (46 ∷ []) n);
-              counts = rw (length_append, length_append) (omega (arith, counted));
+              counts = rw (length-append, length-append) (omega (arith, counted));
               tests = on_domain;
               forms = on_form ∙ sym (append_assoc (h.text ++ labelled piece) (46 ∷ []) _);
             }

@@ -14,15 +14,15 @@ use mathlib.Core.Path.{◌≡◌, refl, sym, ap, ◌∙◌}
 use mathlib.Core.Bool.{Bool, true, false, false≢true}
 use mathlib.Core.List.{List, [], ◌∷◌, ◌++◌, append_assoc}
 use mathlib.Core.Option.{some, none}
-use native.Mathlib.Nat.{zero_add, sub_zero}
+use native.Mathlib.Nat.{zero-add, sub-zero}
 use native.Mathlib.Omega.{arith}
 use borrow.Author.Rules.{rules}
-use borrow.Author.Tests.{le-leb, lt_ltb, ltb_true}
+use borrow.Author.Tests.{le-leb, lt-ltb, ltb-true}
 use mir.Syntax.{w64}
 use mir.Val.{Fits}
 use lib.Dec.{ltb}
-use lib.ListN.{length, take, drop, set, length_append, length-set}
-use lib.Seq.{take_at, length_take_le}
+use lib.ListN.{length, take, drop, set, length-append, length-set}
+use lib.Seq.{take_at, length-take-le}
 use Rattle.octets.specs.Octets.{same_octets, same_name, lowered}
 use Rattle.octets.specs.Written.{put_at, onto}
 use Rattle.octets.specs.Puts.{Told, Untold, PutsText}
@@ -74,7 +74,7 @@ module _ (s : List ℕ) where
   pub local_of_lem : plain s ≡ true → local_of s ≡ Part (length (before 64 s))
   local_of_lem p =
       let n : length (before 64 s) < length s = omega (arith, counted s (right s p)) in
-      is_part s (rw (lt_ltb (length (before 64 s)) (length s) n, left s p))
+      is_part s (rw (lt-ltb (length (before 64 s)) (length s) n, left s p))
 
 -- the form of an address: d is the buffer as it came, and g what was found of the local part
 module _ (s d : List ℕ) (l : length d ≡ 254) (g : Local) (e : g ≡ local_of s) where
@@ -94,13 +94,13 @@ module _ (s d : List ℕ) (l : length d ≡ 254) (g : Local) (e : g ≡ local_of
 
     pub part_within : n < length s
     part_within =
-        omega (arith, is.1, ltb_true (length (before 64 s)) (length s) (and_left (ltb (length (before 64 s)) (length s)) _ is.0))
+        omega (arith, is.1, ltb-true (length (before 64 s)) (length s) (and_left (ltb (length (before 64 s)) (length s)) _ is.0))
 
     most : n ≤ 64
     most = omega (arith, is.1, local_most (before 64 s) good)
 
     part : take (n - 0) s ≡ before 64 s
-    part = rw (sub_zero, is.1, before_long) (place_before 64 s)
+    part = rw (sub-zero, is.1, before_long) (place_before 64 s)
 
     pub part_upto : n ≤ length s
     part_upto = omega (arith, part_within)
@@ -134,18 +134,18 @@ module _ (s d : List ℕ) (l : length d ≡ 254) (g : Local) (e : g ≡ local_of
       front =
           over_one u n 64 (omega (arith, part_at))
           ∙ rw (p, part, ← small_long)
-          (ap (λ i. put_at (put_at d 0 (lower_text (before 64 s))) i (64 ∷ [])) (sym (zero_add (length (lower_text (before 64 s)))))
-          ∙ put_both d 0 (lower_text (before 64 s)) (64 ∷ []) (rw length_append (omega (arith, small_long, most))))
+          (ap (λ i. put_at (put_at d 0 (lower_text (before 64 s))) i (64 ∷ [])) (sym (zero-add (length (lower_text (before 64 s)))))
+          ∙ put_both d 0 (lower_text (before 64 s)) (64 ∷ []) (rw length-append (omega (arith, small_long, most))))
 
       rest : drop (n + 1) s ≡ behind 64 s
       rest = rw is.1 (sym (behind_drop 64 s))
 
       form_long : length (address_form s) ≡ n + 1 + length (domain_form (behind 64 s))
       unfolding address_form
-      form_long = rw length_append (omega (arith, small_long))
+      form_long = rw length-append (omega (arith, small_long))
 
       place : n + 1 ≡ 0 + length (lower_text (before 64 s) ++ 64 ∷ [])
-      place = rw length_append (omega (arith, small_long))
+      place = rw length-append (omega (arith, small_long))
 
       whole : domain (behind 64 s) ≡ true → length (address_form s) ≤ 254 → plain s ≡ true
       unfolding plain
@@ -167,7 +167,7 @@ module _ (s d : List ℕ) (l : length d ≡ 254) (g : Local) (e : g ≡ local_of
                 (ap (λ i. put_at (put_at d 0 (lower_text (before 64 s) ++ 64 ∷ [])) i (domain_form (behind 64 s))) place
                 ∙ put_both d 0 (lower_text (before 64 s) ++ 64 ∷ []) (domain_form (behind 64 s)) (rw append_assoc (omega (arith, c, h.room, part_kept)))
                 ∙ rw append_assoc);
-            counts = c ∙ sym (zero_add (length (address_form s)));
+            counts = c ∙ sym (zero-add (length (address_form s)));
             room = omega (arith, h.room, part_kept);
           }
       part_domain v Full h =
@@ -233,7 +233,7 @@ module _ (s : List ℕ) (p : plain s ≡ true) where
     wide_made n q =
         let k : Told f 0 e n (form_of s) = rw q at h in
         record {
-          there = rw sub_zero at (told_front f e n _ k) ∙ (of_form s k.text k.is).1;
+          there = rw sub-zero at (told_front f e n _ k) ∙ (of_form s k.text k.is).1;
           within = omega (arith, told_long f 0 e n _ k, k.room);
         }
 
@@ -278,7 +278,7 @@ module _ (s d : List ℕ) where
 
     pub room_kept : (out : List ℕ) → out ≡ put_at d 0 (lowered s) → out ≡ onto_if_fits (lowered s) d
     unfolding put_at onto
-    room_kept out e = e ∙ rw zero_add (sym (onto_fits (lowered s) d (rw length_lowered l)))
+    room_kept out e = e ∙ rw zero-add (sym (onto_fits (lowered s) d (rw length_lowered l)))
 
 pub ruleset putting_small = (none_written, none_kept, room_front, room_written, room_kept, rules)
 
@@ -313,10 +313,10 @@ module _ (s d : List ℕ) (p : plain s ≡ true) where
       form_end = omega (arith, told_long f₀ 0 f n _ told, told.room)
 
       pub form_count : n ≡ length (take n f)
-      form_count = sym (length_take_le n f form_end)
+      form_count = sym (length-take-le n f form_end)
 
       is_front : lowered (take n f) ≡ canonical s
-      is_front = rw (rw sub_zero at (told_front f₀ f n _ told), (of_form s told.text told.is).1) (form_small s p)
+      is_front = rw (rw sub-zero at (told_front f₀ f n _ told), (of_form s told.text told.is).1) (form_small s p)
 
       pub form_written : (g : Fitted) → g ≡ written_of (lowered (take n f)) (length d) → g ≡ written_of (canonical s) (length d)
       form_written g e = e ∙ rw is_front
@@ -349,10 +349,10 @@ module _ (s form : List ℕ) (c : is_canonical form ≡ true) where
       wide_end = omega (arith, told_long f₀ 0 f n _ own, own.room)
 
       pub wide_count : n ≡ length (take n f)
-      wide_count = sym (length_take_le n f wide_end)
+      wide_count = sym (length-take-le n f wide_end)
 
       pub wide_has : (b : Bool) → b ≡ same_octets (take n f) form → b ≡ same_octets (canonical s) form
-      wide_has b e = e ∙ rw (rw sub_zero at (told_front f₀ f n _ own), (of_form s own.text own.is).1)
+      wide_has b e = e ∙ rw (rw sub-zero at (told_front f₀ f n _ own), (of_form s own.text own.is).1)
 
   module _ (b : Bool) (e : b ≡ same_name s form) where
     small : b ≡ same_octets (lowered s) form

@@ -8,7 +8,7 @@ use mathlib.Core.Path.{◌≡◌, refl, sym, ap, ◌∙◌}
 use mathlib.Core.List.{List, ◌∷◌}
 use mathlib.Core.Option.{Option, some, none}
 use native.Mathlib.Omega.{arith}
-use native.Mathlib.Nat.{zero_add, add-zero}
+use native.Mathlib.Nat.{zero-add, add-zero}
 use borrow.Author.Rules.{rules}
 use lib.ListN.{length}
 use Rattle.octets.specs.Options.{in_front}
@@ -28,7 +28,7 @@ counted n (some rest) = Count (n + length rest)
 from_none : (o : Option (List (List ℕ))) → counted_of o ≡ counted 0 o
 unfolding counted_of counted
 from_none none = refl
-from_none (some rest) = ap Count (sym (zero_add (length rest)))
+from_none (some rest) = ap Count (sym (zero-add (length rest)))
 
 one_more : (n : ℕ) (a : List ℕ) (o : Option (List (List ℕ))) → counted n (in_front a o) ≡ counted (n + 1) o
 unfolding counted in_front

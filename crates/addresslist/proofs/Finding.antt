@@ -13,7 +13,7 @@ use mathlib.Core.Bool.{Bool, true, false, cond}
 use mathlib.Core.List.{List}
 use mathlib.Core.Option.{some}
 use native.Mathlib.Omega.{arith}
-use native.Mathlib.Nat.{sub_zero}
+use native.Mathlib.Nat.{sub-zero}
 use borrow.Author.Rules.{rules}
 use lib.ListN.{length, get_or, take, drop}
 use lib.Seq.{drop-drop}
@@ -159,7 +159,7 @@ inside_earlier s at from Unfound l h = h
 module _ (s : List ℕ) (at : ℕ) (r : Reached) (e : r ≡ reached s (skipped (drop at s))) where
   past_end : (n : ℕ) → length s ≤ at → r ≡ To n → n ≡ length s
   unfolding past reached
-  past_end n l q = let z : To n ≡ To (length s) = sym q ∙ e ∙ rw (drop_done s at l, sub_zero) in cc
+  past_end n l q = let z : To n ≡ To (length s) = sym q ∙ e ∙ rw (drop_done s at l, sub-zero) in cc
 
   came : (n : ℕ) → r ≡ To n → at < length s → Left s at n (skipped (drop at s))
   came n q l = skip_to s at r e n q (omega arith)

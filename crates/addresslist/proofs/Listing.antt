@@ -10,7 +10,7 @@ use mathlib.Core.Bool.{Bool, true, false}
 use mathlib.Core.List.{List, [], ◌∷◌, ◌++◌}
 use mathlib.Core.Option.{Option, some, none}
 use native.Mathlib.Omega.{arith}
-use lib.ListN.{length, take, drop, length-drop, length_append, take-append-drop}
+use lib.ListN.{length, take, drop, length-drop, length-append, take-append-drop}
 use Rattle.octets.specs.Options.{in_front}
 use Rattle.octets.specs.Finding.{holds}
 use Rattle.octets.specs.Octets.{octet}
@@ -98,7 +98,7 @@ stands s t p = rw p at (go (skipped s) refl)
 
 -- an address has an octet at least
 shorter : (s a rest : List ℕ) → Suffix (a ++ rest) s → plain a ≡ true → length rest < length s
-shorter s a rest h p = omega (arith, suffix_length h, length_append a rest, plain_least a p)
+shorter s a rest h p = omega (arith, suffix_length h, length-append a rest, plain_least a p)
 
 -- one token of a list, the others being counted by n
 module _ (n : ℕ) (stage : Stage) (inside : Bool) (s : List ℕ) where

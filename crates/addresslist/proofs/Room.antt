@@ -7,7 +7,7 @@ use mathlib.Core.Bool.{Bool}
 use mathlib.Core.List.{List}
 use mathlib.Core.Option.{Option, some}
 use native.Mathlib.Omega.{arith}
-use lib.ListN.{length, length_append}
+use lib.ListN.{length, length-append}
 use Rattle.octets.specs.Options.{total}
 use Rattle.octets.proofs.Options.{Takes, takes_more, takes_front}
 use Rattle.tokens.proofs.Places.{suffix_length}
@@ -57,6 +57,6 @@ total_room s list e =
     (λ stage t. tt)
     (λ stage next inside inner t a rest o g l p h.
     takes_front (λ (a : List ℕ). a) (length rest + spare next) (length t + spare stage) a o
-    (omega (arith, suffix_length l, length_append a rest, spare_taken stage next inside inner g)) h)
+    (omega (arith, suffix_length l, length-append a rest, spare_taken stage next inside inner g)) h)
     (λ stage next t rest o l k h.
     takes_more (λ (a : List ℕ). a) (length rest + spare next) (length t + spare stage) o (omega (arith, k, spare_most next)) h) s)

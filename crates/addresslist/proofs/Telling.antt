@@ -8,7 +8,7 @@ use mathlib.Core.Path.{◌≡◌, refl, sym, ◌∙◌}
 use mathlib.Core.Bool.{Bool, true, false}
 use mathlib.Core.List.{List}
 use borrow.Author.Rules.{rules}
-use borrow.Author.Tests.{eq_eqb, ne_eqb}
+use borrow.Author.Tests.{eq-eqb, ne_eqb}
 use lib.ListN.{length, get_or, drop}
 use Rattle.octets.specs.Finding.{holds}
 use Rattle.octets.specs.Octets.{octet}
@@ -49,7 +49,7 @@ module _ (s : List ℕ) (i : ℕ) (h : Looks s i) where
 
   pub looks_found : i < length s → get_or s i 0 ≡ 64 → true ≡ holds (octet "@") s
   unfolding holds
-  looks_found l e = sym (h.so_far ∙ rw (drop_one s i l, eq_eqb (get_or s i 0) 64 e))
+  looks_found l e = sym (h.so_far ∙ rw (drop_one s i l, eq-eqb (get_or s i 0) 64 e))
 
   pub looks_on : i < length s → (get_or s i 0 ≡ 64 → ⊥) → Looks s (i + 1)
   unfolding holds

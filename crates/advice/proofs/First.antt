@@ -12,7 +12,7 @@ use mathlib.Core.Bool.{Bool, true, false, ◌||◌, false≢true}
 use mathlib.Core.List.{List, [], ◌∷◌, ◌++◌, map}
 use native.Mathlib.Omega.{arith}
 use native.Mathlib.Numerals.{unary_clauses}
-use lib.ListN.{length, length_map, take}
+use lib.ListN.{length, length-map, take}
 use lib.Seq.{take-length}
 use Rattle.octets.proofs.Tests.{by_test}
 use Rattle.advice.specs.Advice.{any_disable, all_encrypt, any_discourage, overall, is_disable, first_disable, DisableAt}
@@ -169,6 +169,6 @@ module _ {A : Type 0} (f g : A → Advice) where
       by_test (any_disable (map f list))
       (λ y. let both = any_alike list e y in (both.0, any_overall (map f list) y ∙ sym (any_overall (map g list) both.1)))
       (λ n.
-      let all : first_disable (map f list) ≡ length list = first_none (map f list) n ∙ length_map list f in
+      let all : first_disable (map f list) ≡ length list = first_none (map f list) n ∙ length-map list f in
       let same : map f list ≡ map g list = rw (all, take-length) at e in
       (ap first_disable same, ap overall same))

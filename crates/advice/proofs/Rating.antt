@@ -11,7 +11,7 @@ use mathlib.Core.Bool.{Bool, true, false, ◌||◌}
 use mathlib.Core.List.{List}
 use mathlib.Core.Option.{some, none}
 use borrow.Author.Rules.{rules}
-use borrow.Author.Tests.{lt_ltb, le_ltb}
+use borrow.Author.Tests.{lt-ltb, le-ltb}
 use Rattle.octets.specs.Options.{or_else}
 use Rattle.octets.proofs.Tests.{by_test}
 use Rattle.heads.specs.declared.Head.{Head}
@@ -69,11 +69,11 @@ module _ (n : Head) where
   module _ (d : n.direct ≡ true) where
     pub rate_stale : n.timestamp + 3024000 < n.last_seen → Discourage ≡ rated_as n
     unfolding rated_as stale
-    rate_stale l = rw (rated_as, d, stale, lt_ltb (n.timestamp + 3024000) n.last_seen l)
+    rate_stale l = rw (rated_as, d, stale, lt-ltb (n.timestamp + 3024000) n.last_seen l)
 
     pub rate_recent : n.last_seen ≤ n.timestamp + 3024000 → Available ≡ rated_as n
     unfolding rated_as stale
-    rate_recent l = rw (rated_as, d, stale, le_ltb (n.timestamp + 3024000) n.last_seen l)
+    rate_recent l = rw (rated_as, d, stale, le-ltb (n.timestamp + 3024000) n.last_seen l)
 
   module _ (d : n.direct ≡ false) where
     pub rate_gossip : n.gossip ≡ true → Discourage ≡ rated_as n

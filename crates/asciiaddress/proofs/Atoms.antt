@@ -9,9 +9,9 @@ use mathlib.Core.Bool.{Bool, true, false, and-false}
 use mathlib.Core.List.{List, [], ◌∷◌, ◌++◌, append-nil}
 use native.Mathlib.Omega.{arith}
 use borrow.Author.Rules.{rules}
-use borrow.Author.Tests.{ne_eqb, le-leb, lt-leb, lt_ltb, le_ltb}
+use borrow.Author.Tests.{ne_eqb, le-leb, lt-leb, lt-ltb, le-ltb}
 use lib.Dec.{leb, eqb}
-use lib.ListN.{length, get_or, take, drop, length_append}
+use lib.ListN.{length, get_or, take, drop, length-append}
 use Rattle.octets.proofs.Lists.{drop_one}
 use Rattle.octets.specs.Tests.{every}
 use Rattle.octets.proofs.Tests.{by_test}
@@ -58,7 +58,7 @@ module _ (s : List ℕ) (i : ℕ) (h : Atoms s i) where
 
   no_end : length s ≤ length (before 64 s) → NoPart ≡ local_of s
   unfolding local_of
-  no_end l = rw (le_ltb (length (before 64 s)) (length s) l)
+  no_end l = rw (le-ltb (length (before 64 s)) (length s) l)
 
   pub atoms_end : length s ≤ i → NoPart ≡ local_of s
   atoms_end l = no_end (omega (arith, h.long))
@@ -74,7 +74,7 @@ module _ (s : List ℕ) (i : ℕ) (h : Atoms s i) where
     split = ap (before 64) here.split ∙ before_into (belongs Atom) 64 no_at piece (drop e s) here.all
 
     long : length (before 64 s) ≡ e + length (before 64 (drop e s))
-    long = h.long ∙ rw (split, length_append, here.counts) (omega (arith, here.from))
+    long = h.long ∙ rw (split, length-append, here.counts) (omega (arith, here.from))
 
     pub atom_empty : e ≡ i → NoPart ≡ local_of s
     atom_empty z =
@@ -101,7 +101,7 @@ module _ (s : List ℕ) (i : ℕ) (h : Atoms s i) where
         atom_whole m =
             let n : length (before 64 s) ≡ e = long ∙ rw ends (omega arith) in
             let w : every atom (pieces 46 (before 64 s)) ≡ true = h.so_far ∙ rw (split, ends, append-nil) (all_end atoms piece here.all ∙ full) in
-            rw (n, w, lt_ltb e (length s) k, le-leb 1 e (omega arith), le-leb e 64 m)
+            rw (n, w, lt-ltb e (length s) k, le-leb 1 e (omega arith), le-leb e 64 m)
 
         pub atom_long : 64 < e → NoPart ≡ local_of s
         unfolding local_of local_part

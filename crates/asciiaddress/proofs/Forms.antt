@@ -14,9 +14,9 @@ use mathlib.Core.Path.{◌≡◌, refl, sym, ap, ◌∙◌}
 use mathlib.Core.Bool.{Bool, true, false, ◌&&◌, ◌||◌, and-true, and_assoc, or-true}
 use mathlib.Core.List.{List, [], ◌∷◌, ◌++◌}
 use native.Mathlib.Omega.{arith}
-use native.Mathlib.Nat.{zero_add, sub_zero}
+use native.Mathlib.Nat.{zero-add, sub-zero}
 use borrow.Author.Rules.{rules}
-use borrow.Author.Tests.{eq_eqb, ne_eqb, lt_ltb, le_ltb, ltb_true}
+use borrow.Author.Tests.{eq-eqb, ne_eqb, lt-ltb, le-ltb, ltb-true}
 use lib.Dec.{eqb, ltb}
 use lib.ListN.{length, get_or, take, drop, length-drop}
 use lib.Seq.{take_all}
@@ -43,9 +43,9 @@ use Rattle.asciiaddress.proofs.Lowered.{sides_ascii}
 pub small_is : (x : ℕ) → (ltb x 65 || ltb 90 x) ≡ eqb (lower x) x
 small_is x =
     by_case (λ y. (ltb x 65 || ltb 90 x) ≡ eqb y x) x
-    (λ h. rw (lt_ltb x 65 h, eq_eqb x x refl))
-    (λ h. rw (lt_ltb 90 x h, or-true, eq_eqb x x refl))
-    (λ h k. rw (le_ltb x 65 h, le_ltb 90 x k, ne_eqb (x + 32) x (λ e. omega arith)))
+    (λ h. rw (lt-ltb x 65 h, eq-eqb x x refl))
+    (λ h. rw (lt-ltb 90 x h, or-true, eq-eqb x x refl))
+    (λ h k. rw (le-ltb x 65 h, le-ltb 90 x k, ne_eqb (x + 32) x (λ e. omega arith)))
 
 -- whether the text is its own lower case comes to `all` of what was passed, and to what is left from i on
 pub record Small (s : List ℕ) (all : Bool) (i : ℕ) : Type 0 where
@@ -75,10 +75,10 @@ ascii_octet : (x : ℕ) → small_ascii x ≡ true → (x < 128) × (lower x ≡
 unfolding small_ascii
 ascii_octet x e =
     by_test (ltb x 65)
-    (λ t. let l : x < 65 = ltb_true x 65 t in (omega arith, sym (lower_below x l)))
+    (λ t. let l : x < 65 = ltb-true x 65 t in (omega arith, sym (lower_below x l)))
     (λ t.
     let m : (ltb 90 x && ltb x 128) ≡ true = rw t at e in
-    (ltb_true x 128 (and_right (ltb 90 x) (ltb x 128) m), sym (lower_above x (ltb_true 90 x (and_left (ltb 90 x) (ltb x 128) m)))))
+    (ltb-true x 128 (and_right (ltb 90 x) (ltb x 128) m), sym (lower_above x (ltb-true 90 x (and_left (ltb 90 x) (ltb x 128) m)))))
 
 ascii_own : (s : List ℕ) → every small_ascii s ≡ true → (all_ascii s ≡ true) × (lowered s ≡ s)
 unfolding every lowered
@@ -86,7 +86,7 @@ ascii_own [] e = (refl, refl)
 ascii_own (x ∷ s) e =
     let h = ascii_octet x (and_left (small_ascii x) (every small_ascii s) e) in
     let k = ascii_own s (and_right (small_ascii x) (every small_ascii s) e) in
-    (rw (lt_ltb x 128 h.0) k.0, rw (h.1, k.1))
+    (rw (lt-ltb x 128 h.0) k.0, rw (h.1, k.1))
 
 -- a local part
 module _ (s : List ℕ) (b : Bool) (e : b ≡ same_octets (octetwise 0 s) s) where
@@ -108,10 +108,10 @@ pub ruleset local_small = (small_steady, small_formed, small_broken, rules)
 -- the two sides, by the place of the "@"
 module _ (s : List ℕ) (at : ℕ) (e : at ≡ 0 + length_before 64 s) where
   is_place : at ≡ length_before 64 s
-  is_place = e ∙ zero_add _
+  is_place = e ∙ zero-add _
 
   pub left_part : take (at - 0) s ≡ before 64 s
-  left_part = rw (sub_zero, is_place) (place_before 64 s)
+  left_part = rw (sub-zero, is_place) (place_before 64 s)
 
   pub right_part : drop at s ≡ from 64 s
   right_part = rw is_place (place_from 64 s)

@@ -9,7 +9,7 @@ use mathlib.Core.Bool.{Bool, true, false, ◌&&◌, and-false}
 use mathlib.Core.List.{List}
 use native.Mathlib.Omega.{arith}
 use borrow.Author.Rules.{rules}
-use borrow.Author.Tests.{le-leb, lt-leb, ltb_true, ltb-false}
+use borrow.Author.Tests.{le-leb, lt-leb, ltb-true, ltb-false}
 use mir.Syntax.{w64}
 use mir.Val.{Fits}
 use lib.Dec.{ltb}
@@ -56,7 +56,7 @@ module _ (s : List ℕ) where
     pub part_within : (n : ℕ) → g ≡ Part n → n < length s
     part_within n p =
         let h : (opens ≡ true) × (n ≡ length (before 64 s)) = part_is n p in
-        omega (arith, h.1, ltb_true (length (before 64 s)) (length s) (and_left (ltb (length (before 64 s)) (length s)) _ h.0))
+        omega (arith, h.1, ltb-true (length (before 64 s)) (length s) (and_left (ltb (length (before 64 s)) (length s)) _ h.0))
 
     pub part_fits : (n : ℕ) → length s ≤ 254 → g ≡ Part n → Fits w64 (n + 1)
     part_fits n l p = omega (arith, part_within n p)

@@ -16,7 +16,7 @@ use mathlib.Core.Bool.{Bool, true, false}
 use mathlib.Core.List.{List, [], ◌∷◌}
 use native.Mathlib.Omega.{arith}
 use borrow.Author.Rules.{rules}
-use borrow.Author.Tests.{lt_ltb, le_ltb}
+use borrow.Author.Tests.{lt-ltb, le-ltb}
 use lib.ListN.{length}
 use Rattle.octets.proofs.Lists.{lt_or_le}
 use Rattle.pieces.specs.Pieces.{pieces}
@@ -50,19 +50,19 @@ last_later p d t = rw (pieces_first d t)
 module _ (what : Called) (s : List ℕ) (end : ℕ) where
   pub rest_on : end < length s → rest_from what s end ≡ saying_from what s (end + 1)
   unfolding rest_from
-  rest_on l = rw (lt_ltb end (length s) l)
+  rest_on l = rw (lt-ltb end (length s) l)
 
   pub rest_over : length s ≤ end → rest_from what s end ≡ []
   unfolding rest_from
-  rest_over l = rw (le_ltb end (length s) l)
+  rest_over l = rw (le-ltb end (length s) l)
 
   pub last_on : end < length s → last_behind what s end ≡ last_from what s (end + 1)
   unfolding last_behind
-  last_on l = rw (lt_ltb end (length s) l)
+  last_on l = rw (lt-ltb end (length s) l)
 
   pub last_alone : length s ≤ end → last_behind what s end ≡ true
   unfolding last_behind
-  last_alone l = rw (le_ltb end (length s) l)
+  last_alone l = rw (le-ltb end (length s) l)
 
 pub record Seeking (what : Called) (s : List ℕ) (at place : ℕ) : Type 0 where
   pub same : saying_from what s at ≡ saying_from what s place

@@ -9,7 +9,7 @@ use mathlib.Core.Path.{◌≡◌, refl, sym, ◌∙◌}
 use mathlib.Core.Bool.{true, false}
 use mathlib.Core.List.{List, [], ◌∷◌}
 use native.Mathlib.Omega.{arith}
-use borrow.Author.Tests.{eq_eqb}
+use borrow.Author.Tests.{eq-eqb}
 use lib.Dec.{eqb}
 use lib.ListN.{length, take}
 use Rattle.octets.specs.Finding.{holds}
@@ -27,7 +27,7 @@ before_take d (x ∷ t) = by_test (eqb x d) (λ e. rw (before, e)) (λ e. rw (be
 
 before_nothing : (d : ℕ) (t : List ℕ) → length (before d (d ∷ t)) ≡ 0
 unfolding before
-before_nothing d t = rw (before, eq_eqb d d refl)
+before_nothing d t = rw (before, eq-eqb d d refl)
 
 before_longer : (d x : ℕ) (t : List ℕ) → eqb x d ≡ false → length (before d (x ∷ t)) ≡ suc (length (before d t))
 unfolding before
@@ -45,7 +45,7 @@ others_none d (x ∷ t) l =
 pub holds_some : (d : ℕ) {t : List ℕ} → By d t → length (before d t) < length t → holds d t ≡ true
 unfolding holds
 holds_some d none l = absurd (omega arith)
-holds_some d (one v) l = rw (holds, eq_eqb d d refl)
+holds_some d (one v) l = rw (holds, eq-eqb d d refl)
 holds_some d (other {x} {s = t} e v) l = rw (holds, e) (holds_some d v (omega (arith, before_longer d x t e)))
 
 holds_none : (d : ℕ) {t : List ℕ} → By d t → length t ≤ length (before d t) → holds d t ≡ false

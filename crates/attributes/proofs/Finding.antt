@@ -8,7 +8,7 @@ use mathlib.Core.Path.{◌≡◌, refl, ap}
 use mathlib.Core.List.{List}
 use native.Mathlib.Omega.{arith}
 use borrow.Author.Rules.{rules}
-use borrow.Author.Tests.{eq_eqb}
+use borrow.Author.Tests.{eq-eqb}
 use lib.ListN.{length, take, drop}
 use mir.Syntax.{w64}
 use mir.Val.{Fits}
@@ -21,7 +21,7 @@ use Rattle.attributes.proofs.Parts.{part_length}
 length_before_lem : (d : ℕ) {s : List ℕ} → By d s → length (before d s) ≡ length_before d s
 unfolding before length_before
 length_before_lem d none = refl
-length_before_lem d (one {s} v) = rw (before, eq_eqb d d refl, before_here d s)
+length_before_lem d (one {s} v) = rw (before, eq-eqb d d refl, before_here d s)
 length_before_lem d (other {x} {s} e v) = rw (before, e, before_on d x s e) (ap suc (length_before_lem d v))
 
 module _ (s : List ℕ) (from to x n : ℕ) (w : Within s from to) (e : n ≡ 0 + length_before x (take (to - from) (drop from s))) where

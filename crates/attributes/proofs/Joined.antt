@@ -10,9 +10,9 @@ use mathlib.Core.Path.{◌≡◌, refl, sym, ap, ◌∙◌}
 use mathlib.Core.Bool.{Bool, true, false, not}
 use mathlib.Core.List.{List, [], ◌∷◌, ◌++◌, append-nil, reverse, reverse-cons, reverse-reverse}
 use native.Mathlib.Omega.{arith}
-use borrow.Author.Tests.{eq_eqb, not-true}
+use borrow.Author.Tests.{eq-eqb, not-true}
 use lib.Dec.{eqb}
-use lib.ListN.{length_append}
+use lib.ListN.{length-append}
 use Rattle.octets.specs.Octets.{ascii, same_octets, blank, without_blanks}
 use Rattle.octets.specs.Tests.{every, without}
 use Rattle.octets.specs.Finding.{holds}
@@ -30,13 +30,13 @@ abbrev pub other : ℕ → ℕ → Bool
 other d x = not (eqb x d)
 
 other_self : (d : ℕ) → other d d ≡ false
-other_self d = rw (eq_eqb d d refl)
+other_self d = rw (eq-eqb d d refl)
 
 -- pieces
 module _ (d : ℕ) (p : List ℕ) (e : every (other d) p ≡ true) where
   pub piece_cut : (rest : List ℕ) → pieces d (p ++ (d ∷ rest)) ≡ p ∷ pieces d rest
   unfolding before others
-  piece_cut rest = pieces_into (other d) d (other_self d) p (d ∷ rest) e ∙ rw (before, others, eq_eqb d d refl, append-nil)
+  piece_cut rest = pieces_into (other d) d (other_self d) p (d ∷ rest) e ∙ rw (before, others, eq-eqb d d refl, append-nil)
 
   pub piece_alone : pieces d p ≡ p ∷ []
   piece_alone = pieces_whole (other d) d (other_self d) p e
@@ -51,7 +51,7 @@ module _ (n v : List ℕ) (e : every (other 61) n ≡ true) where
   joined_behind = behind_into (other 61) 61 (other_self 61) n (61 ∷ v) e
 
   joined_holds : holds 61 (n ++ (61 ∷ v)) ≡ true
-  joined_holds = holds_some 61 (by 61 (n ++ (61 ∷ v))) (rw joined_before (simp length_append (omega arith)))
+  joined_holds = holds_some 61 (by 61 (n ++ (61 ∷ v))) (rw joined_before (simp length-append (omega arith)))
 
   attribute_joined : attribute_of (n ++ (61 ∷ v)) ≡ attribute (name_of (trimmed n)) (trimmed v)
   unfolding attribute_of

@@ -10,7 +10,7 @@ use mathlib.Core.List.{List, [], ◌∷◌, ◌++◌}
 use native.Mathlib.Omega.{arith}
 use native.Mathlib.Nat.{sub_self}
 use lib.ListN.{length, get_or, take, drop, length-drop}
-use lib.Seq.{length_take_le, take_all, take_take, take-add, drop_at, drop-drop, get_or-drop}
+use lib.Seq.{length-take-le, take_all, take-take, take-add, drop_at, drop-drop, get_or-drop}
 use Rattle.octets.proofs.Lists.{take_one}
 use Rattle.attributes.specs.Answers.{part}
 
@@ -21,7 +21,7 @@ module _ (s : List ℕ) where
 
   pub part_length : (from to : ℕ) → to ≤ length s → length (part s from to) ≡ to - from
   unfolding part
-  part_length from to h = length_take_le (to - from) (drop from s) (omega (arith, length-drop from s))
+  part_length from to h = length-take-le (to - from) (drop from s) (omega (arith, length-drop from s))
 
   pub part_last : (from to : ℕ) → from < to → to ≤ length s → part s from to ≡ part s from (to - 1) ++ (get_or s (to - 1) 0 ∷ [])
   unfolding part
@@ -40,7 +40,7 @@ module _ (s : List ℕ) where
   unfolding part
   part_front from to n h =
       let e : from + n - from ≡ n = omega arith in
-      rw (e, take_take n (to - from) (drop from s) (omega arith))
+      rw (e, take-take n (to - from) (drop from s) (omega arith))
 
   pub part_back : (from to n : ℕ) → from + n ≤ to → to ≤ length s → part s (from + n) to ≡ drop n (part s from to)
   unfolding part
@@ -48,4 +48,4 @@ module _ (s : List ℕ) where
       let e : to - from ≡ n + (to - (from + n)) = omega arith in
       let k : n ≤ length (drop from s) = omega (arith, length-drop from s) in
       rw (e, ← drop-drop n from s, take-add n (to - (from + n)) (drop from s))
-      (sym (drop_at (take n (drop from s)) (take (to - (from + n)) (drop n (drop from s))) n (length_take_le n (drop from s) k)))
+      (sym (drop_at (take n (drop from s)) (take (to - (from + n)) (drop n (drop from s))) n (length-take-le n (drop from s) k)))

@@ -15,7 +15,7 @@ use mathlib.Core.Bool.{Bool}
 use mathlib.Core.List.{List}
 use native.Mathlib.Omega.{arith}
 use borrow.Author.Rules.{rules}
-use borrow.Author.Tests.{eq_eqb, ne_eqb}
+use borrow.Author.Tests.{eq-eqb, ne_eqb}
 use mir.Syntax.{w32}
 use mir.Val.{Fits}
 use Rattle.refusals.specs.Refusals.{number_of, index_of}
@@ -135,11 +135,11 @@ pub ruleset answering = (of_done, of_refused, of_wrote, of_not_written, of_advic
 module _ (n : ℕ) where
   pub set_take : n ≡ 1 → Take ≡ setting_of n
   unfolding setting_of
-  set_take e = rw (setting_of, eq_eqb n 1 e)
+  set_take e = rw (setting_of, eq-eqb n 1 e)
 
   pub set_skip : (n ≡ 1 → ⊥) → n ≡ 2 → Skip ≡ setting_of n
   unfolding setting_of
-  set_skip d e = rw (setting_of, ne_eqb n 1 d, eq_eqb n 2 e)
+  set_skip d e = rw (setting_of, ne_eqb n 1 d, eq-eqb n 2 e)
 
   pub set_unset : (n ≡ 1 → ⊥) → (n ≡ 2 → ⊥) → Unset ≡ setting_of n
   unfolding setting_of

@@ -12,7 +12,7 @@ use native.Mathlib.Omega.{arith}
 use mir.Val.{Fits}
 use mir.Syntax.{w64}
 use borrow.Author.Rules.{rules}
-use borrow.Author.Tests.{ne_eqb, eqb_true, eqb-false, le-leb, lt-leb, leb-true, leb-false}
+use borrow.Author.Tests.{ne_eqb, eqb-true, eqb-false, le-leb, lt-leb, leb-true, leb-false}
 use lib.Dec.{eqb, leb}
 use Rattle.octets.proofs.Tests.{by_test}
 use Rattle.calendar.specs.Calendar.{leap, leap_day, month_length, year_days, month_days, day_count}
@@ -30,7 +30,7 @@ module _ (year : ℕ) where
       let b : (year + 1) / 100 ≡ year / 100 + 1 = omega arith in
       rw (leaps, a, b) (leap_day_by (year + 1) _ (leap_hundred (year + 1) h)
       (λ n. year / 4 + 1 - (year / 100 + 1) + (year + 1) / 400 ≡ leaps year + n)
-      (λ q. omega (arith, eqb_true)) (λ q. omega (arith, eqb-false)))
+      (λ q. omega (arith, eqb-true)) (λ q. omega (arith, eqb-false)))
 
   leaps_other : ((year + 1) % 100 ≡ 0 → ⊥) → leaps (year + 1) ≡ leaps year + leap_day (year + 1)
   unfolding leaps
@@ -39,10 +39,10 @@ module _ (year : ℕ) where
       let b : (year + 1) / 400 ≡ year / 400 = omega arith in
       rw (leaps, a, b) (leap_day_by (year + 1) _ (leap_other (year + 1) h)
       (λ n. (year + 1) / 4 - year / 100 + year / 400 ≡ leaps year + n)
-      (λ q. omega (arith, eqb_true)) (λ q. omega (arith, eqb-false)))
+      (λ q. omega (arith, eqb-true)) (λ q. omega (arith, eqb-false)))
 
   leaps_more : leaps (year + 1) ≡ leaps year + leap_day (year + 1)
-  leaps_more = by_test (eqb ((year + 1) % 100) 0) (λ e. leaps_hundred (eqb_true _ _ e)) (λ e. leaps_other (eqb-false _ _ e))
+  leaps_more = by_test (eqb ((year + 1) % 100) 0) (λ e. leaps_hundred (eqb-true _ _ e)) (λ e. leaps_other (eqb-false _ _ e))
 
 -- from 1 March of the year 0 to that of the year 1899 + k, and 306 days on to 1 January of the next one
 walked : (k : ℕ) → 365 * (1899 + k) + leaps (1899 + k) + 306 ≡ 693901 + year_days k

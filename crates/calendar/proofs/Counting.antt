@@ -9,7 +9,7 @@ use mathlib.Core.Path.{◌≡◌, refl, sym, ◌∙◌}
 use mathlib.Core.Bool.{Bool, true, false, cond}
 use native.Mathlib.Omega.{arith}
 use borrow.Author.Rules.{rules}
-use borrow.Author.Tests.{eq_eqb, ne_eqb, eqb_true}
+use borrow.Author.Tests.{eq-eqb, ne_eqb, eqb-true}
 use lib.Dec.{eqb}
 use lib.ListN.{get_or}
 use Rattle.octets.proofs.Lists.{at_most}
@@ -19,7 +19,7 @@ use Rattle.calendar.specs.Calendar.{leap, leap_day, month_lengths, month_length,
 module _ (year : ℕ) where
   pub leap_hundred : year % 100 ≡ 0 → eqb (year % 400) 0 ≡ leap year
   unfolding leap
-  leap_hundred h = rw (leap, eq_eqb _ _ h)
+  leap_hundred h = rw (leap, eq-eqb _ _ h)
 
   pub leap_other : (year % 100 ≡ 0 → ⊥) → eqb (year % 4) 0 ≡ leap year
   unfolding leap
@@ -46,7 +46,7 @@ pub each_month :
 each_month f g q month h l =
     let e : month - 1 + 1 ≡ month = omega arith in
     let t : eqb (f (month - 1 + 1)) (g (month - 1 + 1)) ≡ true = all_below_lem (λ k. eqb (f (k + 1)) (g (k + 1))) 12 q (month - 1) (omega arith) in
-    eqb_true (f month) (g month) (rw e at t)
+    eqb-true (f month) (g month) (rw e at t)
 
 month_rule :
     (month : ℕ) → 1 ≤ month → month ≤ 12 → cond (eqb month 2) 28 (30 + (month + month / 8) % 2) ≡ get_or month_lengths (month - 1) 0
@@ -55,7 +55,7 @@ month_rule = each_month _ _ refl
 module _ (year month : ℕ) where
   pub month_february : (n : ℕ) → n ≡ leap_day year → month ≡ 2 → 28 + n ≡ month_length year month
   unfolding month_length
-  month_february n e h = rw (month_length, eq_eqb _ _ h, e)
+  month_february n e h = rw (month_length, eq-eqb _ _ h, e)
 
   pub month_other : 1 ≤ month → month ≤ 12 → (month ≡ 2 → ⊥) → 30 + (month + month / 8) % 2 ≡ month_length year month
   unfolding month_length

@@ -12,7 +12,7 @@ use mathlib.Core.Option.{Option, some, none}
 use mathlib.Core.Logic.{⊎_elim}
 use native.Mathlib.Omega.{arith}
 use lib.Dec.{ltb}
-use lib.ListN.{length, get_or, length_append, get_or-eq_default}
+use lib.ListN.{length, get_or, length-append, get_or-eq_default}
 use Rattle.octets.proofs.Lists.{lt_or_le}
 use Rattle.octets.proofs.Tests.{by_test}
 use Rattle.octets.proofs.Every.{every_at}
@@ -37,7 +37,7 @@ one_most p =
 pub encoded_most : (ps : List ℕ) → length (encoded ps) ≤ 4 * length ps
 unfolding encoded
 encoded_most [] = omega arith
-encoded_most (p ∷ ps) = simp length_append (omega (arith, one_most p, encoded_most ps))
+encoded_most (p ∷ ps) = simp length-append (omega (arith, one_most p, encoded_most ps))
 
 pub points_fewer : (s ps : List ℕ) → points s ≡ some ps → length s ≤ 4 * length ps
 points_fewer s ps e = omega (arith, encoded_most ps, ap length (encoded_points s ps e))

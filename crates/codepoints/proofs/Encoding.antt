@@ -10,7 +10,7 @@ use mathlib.Core.Path.{◌≡◌, refl, sym, ◌∙◌}
 use mathlib.Core.List.{List, [], ◌∷◌, ◌++◌, append-nil}
 use native.Mathlib.Omega.{arith}
 use borrow.Author.Rules.{rules}
-use borrow.Author.Tests.{lt_ltb, le_ltb}
+use borrow.Author.Tests.{lt-ltb, le-ltb}
 use lib.ListN.{length, get_or, drop, set}
 use Rattle.octets.specs.Written.{put_at}
 use Rattle.octets.specs.Puts.{Written, TooLong, Puts}
@@ -32,7 +32,7 @@ module _ (d : List ℕ) (at p : ℕ) (h : at ≤ length d) where
   module _ (a : p < 0x80) where
     one : encoded_one p ≡ p ∷ []
     unfolding encoded_one
-    one = rw (lt_ltb p 0x80 a)
+    one = rw (lt-ltb p 0x80 a)
 
     pub short_one : length d - at < 1 → TooLong d at d (encoded_one p)
     short_one l = short _ one l
@@ -43,7 +43,7 @@ module _ (d : List ℕ) (at p : ℕ) (h : at ≤ length d) where
   module _ (a : 0x80 ≤ p) (b : p < 0x800) where
     two : encoded_one p ≡ (0xC0 + p / 64) ∷ (0x80 + p % 64) ∷ []
     unfolding encoded_one
-    two = rw (le_ltb p 0x80 a, lt_ltb p 0x800 b)
+    two = rw (le-ltb p 0x80 a, lt-ltb p 0x800 b)
 
     pub short_two : length d - at < 2 → TooLong d at d (encoded_one p)
     short_two l = short _ two l
@@ -54,7 +54,7 @@ module _ (d : List ℕ) (at p : ℕ) (h : at ≤ length d) where
   module _ (a : 0x800 ≤ p) (b : p < 0x10000) where
     three : encoded_one p ≡ (0xE0 + p / 4096) ∷ (0x80 + p / 64 % 64) ∷ (0x80 + p % 64) ∷ []
     unfolding encoded_one
-    three = rw (le_ltb p 0x80 (omega arith), le_ltb p 0x800 a, lt_ltb p 0x10000 b)
+    three = rw (le-ltb p 0x80 (omega arith), le-ltb p 0x800 a, lt-ltb p 0x10000 b)
 
     pub short_three : length d - at < 3 → TooLong d at d (encoded_one p)
     short_three l = short _ three l
@@ -66,7 +66,7 @@ module _ (d : List ℕ) (at p : ℕ) (h : at ≤ length d) where
   module _ (a : 0x10000 ≤ p) where
     four : encoded_one p ≡ (0xF0 + p / 262144) ∷ (0x80 + p / 4096 % 64) ∷ (0x80 + p / 64 % 64) ∷ (0x80 + p % 64) ∷ []
     unfolding encoded_one
-    four = rw (le_ltb p 0x80 (omega arith), le_ltb p 0x800 (omega arith), le_ltb p 0x10000 a)
+    four = rw (le-ltb p 0x80 (omega arith), le-ltb p 0x800 (omega arith), le-ltb p 0x10000 a)
 
     pub short_four : length d - at < 4 → TooLong d at d (encoded_one p)
     short_four l = short _ four l

@@ -11,8 +11,8 @@ use mathlib.Core.Option.{Option, some, none}
 use native.Mathlib.Numerals.{add-one}
 use native.Mathlib.Omega.{arith}
 use borrow.Author.Rules.{rules}
-use lib.ListN.{length, take, drop, set, length-set, length_append}
-use lib.Seq.{take_suc_set, take_all}
+use lib.ListN.{length, take, drop, set, length-set, length-append}
+use lib.Seq.{take-suc-set, take_all}
 use Rattle.octets.specs.Options.{in_front}
 use Rattle.octets.proofs.Lists.{drop_done}
 use Rattle.utf8.specs.Utf8.{points}
@@ -39,7 +39,7 @@ front_one w p (some ps) = ap some (sym (append_assoc w (p ∷ []) ps))
 front_long : (w : List ℕ) (p : ℕ) (o : Option (List ℕ)) (ps : List ℕ) → all_front w (in_front p o) ≡ some ps → length w < length ps
 unfolding all_front in_front
 front_long w p none ps e = let z : ◌≡◌ {A = ℕ} 0 1 = cc in absurd (omega arith)
-front_long w p (some qs) ps e = let q : w ++ (p ∷ qs) ≡ ps = cc in omega (arith, ap length q, length_append w (p ∷ qs))
+front_long w p (some qs) ps e = let q : w ++ (p ∷ qs) ≡ ps = cc in omega (arith, ap length q, length-append w (p ∷ qs))
 
 small_front : (p : ℕ) (o : Option (List ℕ)) → small_of (in_front p o) ≡ in_front (lower_point p) (small_of o)
 unfolding small_of in_front lower_points
@@ -88,7 +88,7 @@ module _ (s d out : List ℕ) (n i : ℕ) (g : Walk s d out n i) where
 
       pub walk_next : (q : ℕ) → n < length out → q ≡ lower_point p → Walk s d (set out n q) (n + 1) to
       walk_next q l e =
-          let t : take (n + 1) (set out n q) ≡ take n out ++ (q ∷ []) = rw add-one (take_suc_set out n q l) in
+          let t : take (n + 1) (set out n q) ≡ take n out ++ (q ∷ []) = rw add-one (take-suc-set out n q l) in
           record {
             is = here ∙ front_one (take n out) (lower_point p) (small_of (points (drop to s))) ∙ rw (t, e);
             kept = length-set out n q ∙ g.kept;

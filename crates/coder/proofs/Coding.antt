@@ -9,10 +9,10 @@ use Prim.Native.Nat.{ℕ, suc, ◌+◌, ◌-◌, ◌<◌, ◌≤◌}
 use mathlib.Core.Path.{◌≡◌, refl, ◌∙◌}
 use mathlib.Core.List.{List, [], ◌∷◌, ◌++◌, append_assoc}
 use mathlib.Core.Logic.{⊎_elim}
-use native.Mathlib.Nat.{zero_add}
+use native.Mathlib.Nat.{zero-add}
 use native.Mathlib.Omega.{arith}
 use borrow.Author.Rules.{rules}
-use borrow.Author.Tests.{eq_eqb, ne_eqb}
+use borrow.Author.Tests.{eq-eqb, ne_eqb}
 use lib.ListN.{length, get_or, drop, set}
 use Rattle.octets.specs.Puts.{Written, TooLong, Puts}
 use Rattle.octets.proofs.Lists.{drop_one, drop_done, lt_or_le}
@@ -91,7 +91,7 @@ pub ruleset basics = (basics_begin, basics_kept, basics_inside, basics_next, bas
 module _ (d : List ℕ) (at : ℕ) (h : at ≤ length d) where
   pub delimiter_none : at ≡ 0 → Written d at d at (delimiter_at at) []
   unfolding delimiter_at
-  delimiter_none e = rw (eq_eqb at 0 e) (wrote_none d at [] h)
+  delimiter_none e = rw (eq-eqb at 0 e) (wrote_none d at [] h)
 
   pub delimiter_one : (at ≡ 0 → ⊥) → at < length d → Written d at (set d at 45) (at + 1) (delimiter_at at) []
   unfolding delimiter_at
@@ -124,7 +124,7 @@ module _ (d ps : List ℕ) (p : Points (length d) ps) (r₁ : Laid) (e₁ : List
     first = rw a at q
 
     counts : b ≡ length (below 128 ps)
-    counts = wrote_counts d 0 e₁ b _ first ∙ zero_add _
+    counts = wrote_counts d 0 e₁ b _ first ∙ zero-add _
 
     -- behind the code points below 128
     all : Written d 0 e₁ b (encode ps) (delimiter_at b ++ numbers ps b)

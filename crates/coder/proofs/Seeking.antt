@@ -10,7 +10,7 @@ use mathlib.Core.List.{List, ◌∷◌}
 use mathlib.Core.Option.{Option, some, none}
 use native.Mathlib.Omega.{arith}
 use borrow.Author.Rules.{rules}
-use borrow.Author.Tests.{lt_ltb, le_ltb}
+use borrow.Author.Tests.{lt-ltb, le-ltb}
 use lib.Dec.{ltb}
 use lib.ListN.{length, get_or, drop}
 use lib.Seq.{drop-length}
@@ -24,20 +24,20 @@ use Rattle.coder.specs.declared.Found.TheVariants.{Point, Nothing}
 -- `lesser`
 pub lesser_below : (n c : ℕ) (f : Found) → c < n → f ≡ lesser_of n c f
 unfolding lesser_of
-lesser_below n c Nothing l = rw (lesser_of, lt_ltb c n l)
-lesser_below n c (Point m) l = rw (lesser_of, lt_ltb c n l)
+lesser_below n c Nothing l = rw (lesser_of, lt-ltb c n l)
+lesser_below n c (Point m) l = rw (lesser_of, lt-ltb c n l)
 
 pub lesser_first : (n c : ℕ) (f : Found) → f ≡ Nothing → n ≤ c → Point c ≡ lesser_of n c f
 unfolding lesser_of
-lesser_first n c f e l = rw (e, lesser_of, le_ltb c n l)
+lesser_first n c f e l = rw (e, lesser_of, le-ltb c n l)
 
 pub lesser_new : (n c m : ℕ) (f : Found) → f ≡ Point m → n ≤ c → c < m → Point c ≡ lesser_of n c f
 unfolding lesser_of
-lesser_new n c m f e l k = rw (e, lesser_of, le_ltb c n l) (rw (lt_ltb c m k))
+lesser_new n c m f e l k = rw (e, lesser_of, le-ltb c n l) (rw (lt-ltb c m k))
 
 pub lesser_old : (n c m : ℕ) (f : Found) → f ≡ Point m → n ≤ c → m ≤ c → Point m ≡ lesser_of n c f
 unfolding lesser_of
-lesser_old n c m f e l k = rw (e, lesser_of, le_ltb c n l) (rw (le_ltb c m k))
+lesser_old n c m f e l k = rw (e, lesser_of, le-ltb c n l) (rw (le-ltb c m k))
 
 pub ruleset choosing = (lesser_below, lesser_first, lesser_new, lesser_old, rules)
 

@@ -9,8 +9,8 @@ use mathlib.Core.Logic.{⊎_elim}
 use mathlib.Core.List.{List, [], ◌∷◌, ◌++◌}
 use native.Mathlib.Nat.{pow-succ'}
 use native.Mathlib.Omega.{arith}
-use borrow.Author.Tests.{lt_ltb, le_ltb}
-use lib.ListN.{length, length_append}
+use borrow.Author.Tests.{lt-ltb, le-ltb}
+use lib.ListN.{length, length-append}
 use Rattle.octets.proofs.Lists.{lt_or_le}
 use Rattle.columns.specs.Columns.{last_digits, decimal}
 use Rattle.columns.specs.Columns.{ended}
@@ -18,11 +18,11 @@ use Rattle.columns.specs.Columns.{ended}
 -- one turn
 last_one : (k n : ℕ) → n < 10 → last_digits (suc k) n ≡ (48 + n) ∷ []
 unfolding last_digits
-last_one k n l = rw (last_digits, lt_ltb n 10 l)
+last_one k n l = rw (last_digits, lt-ltb n 10 l)
 
 last_more : (k n : ℕ) → 10 ≤ n → last_digits (suc k) n ≡ last_digits k (n / 10) ++ ((48 + n % 10) ∷ [])
 unfolding last_digits
-last_more k n l = rw (last_digits, le_ltb n 10 l)
+last_more k n l = rw (last_digits, le-ltb n 10 l)
 
 -- a count above the number is enough
 enough : (k m n : ℕ) → n < k → n < m → last_digits k n ≡ last_digits m n
@@ -44,7 +44,7 @@ module _ (n : ℕ) where
 
 pub ended_long : (w : List ℕ) (x : ℕ) → length (ended w x) ≡ length w + 1
 unfolding ended
-ended_long w x = length_append w (x ∷ [])
+ended_long w x = length-append w (x ∷ [])
 
 pub decimal_most : (k n : ℕ) → n < 10 ^ suc k → length (decimal n) ≤ suc k
 decimal_most zero n h = rw (decimal_one n (omega arith)) (omega arith)

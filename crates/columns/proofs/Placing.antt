@@ -15,7 +15,7 @@ use native.Mathlib.Omega.{arith}
 use borrow.Author.Rules.{rules}
 use mir.Syntax.{w64}
 use mir.Val.{Fits}
-use lib.ListN.{length, set, length_append}
+use lib.ListN.{length, set, length-append}
 use Rattle.octets.specs.Octets.{ascii}
 use Rattle.octets.specs.Written.{put_at}
 use Rattle.octets.proofs.Writing.{begin_at, put, puts, done_at}
@@ -28,7 +28,7 @@ use Rattle.columns.proofs.Decimal.{decimal_one, decimal_more, ended_long}
 -- the text w is u and then v
 module _ (w u v d : List ℕ) (at : ℕ) (r : Room d at w) (s : w ≡ u ++ v) where
   both_long : length w ≡ length u + length v
-  both_long = ap length s ∙ length_append u v
+  both_long = ap length s ∙ length-append u v
 
   pub room_one : Room d at u
   room_one = record { fits = omega (arith, both_long, r.fits) }

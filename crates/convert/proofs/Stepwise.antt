@@ -12,7 +12,7 @@ use mathlib.Core.Bool.{true, false, false≢true}
 use mathlib.Core.List.{List}
 use mathlib.Core.Option.{Option, some}
 use native.Mathlib.Omega.{arith}
-use borrow.Author.Tests.{lt_ltb, le_ltb, eqb_true, eqb-false}
+use borrow.Author.Tests.{lt-ltb, le-ltb, eqb-true, eqb-false}
 use lib.Dec.{eqb}
 use lib.ListN.{length}
 use Rattle.octets.specs.Octets.{AllOctets}
@@ -41,11 +41,11 @@ use Rattle.convert.proofs.Places.{Led, led, leads_slot, follows_free, converted_
 module _ (t : List ℕ) (n i : ℕ) where
   at_below : i < n → partly_at t n i ≡ converted_at t n i
   unfolding partly_at
-  at_below l = rw (partly_at, lt_ltb i n l)
+  at_below l = rw (partly_at, lt-ltb i n l)
 
   at_above : n ≤ i → partly_at t n i ≡ slot_at t i
   unfolding partly_at
-  at_above l = rw (partly_at, le_ltb i n l)
+  at_above l = rw (partly_at, le-ltb i n l)
 
 module _ (u : List ℕ) (i : ℕ) where
   pub brought_unused : marked (slot_at u i) ≡ false → brought u i ≡ u
@@ -232,7 +232,7 @@ module _ (t : List ℕ) (w : TableBy Ascii t) (o : AllOctets t) where
             (slotwise.length_kept freed (slot_of both) j freed_room both_long ∙ slotwise.length_kept (partly t n) free_slot n room free_long ∙ partly_long n low)
             (λ k l.
             by_test (eqb k j)
-            (λ q. let p : k ≡ j = eqb_true k j q in rw p (slotwise.slot_same freed (slot_of both) j freed_room both_long ∙ merged_there))
+            (λ q. let p : k ≡ j = eqb-true k j q in rw p (slotwise.slot_same freed (slot_of both) j freed_room both_long ∙ merged_there))
             (λ q.
             unchanged k (λ z. omega arith) (eqb-false k j q)
             ∙ partly_below n low k l

@@ -9,12 +9,12 @@ use Prim.Native.Nat.{ℕ, zero, suc, ◌+◌, ◌-◌, ◌*◌, ◌/◌, ◌%◌
 use mathlib.Core.Path.{◌≡◌, refl, sym, ◌∙◌}
 use mathlib.Core.Logic.{⊎_elim}
 use mathlib.Core.Bool.{true, ◌&&◌}
-use borrow.Author.Tests.{eqb_true}
+use borrow.Author.Tests.{eqb-true}
 use lib.Dec.{leb, eqb}
 use mathlib.Core.List.{List, [], ◌∷◌, ◌++◌}
 use native.Mathlib.Omega.{arith}
-use lib.ListN.{length, length-replicate, take, drop, length_append, length-drop, take-append-drop}
-use lib.Seq.{drop_at, take_all, take_take, length_take_le, take-append-le, drop-append-le}
+use lib.ListN.{length, length-replicate, take, drop, length-append, length-drop, take-append-drop}
+use lib.Seq.{drop_at, take_all, take-take, length-take-le, take-append-le, drop-append-le}
 use Rattle.octets.proofs.Lists.{lt_or_le}
 use Rattle.octets.proofs.Tests.{and_left}
 use Rattle.octets.proofs.Zeros.{zero_true}
@@ -29,7 +29,7 @@ in_front_lem s t j l =
     rw (drop-append-le (j * 4392) s t (omega arith)) (take-append-le 4392 (drop (j * 4392) s) t (simp length-drop (omega arith)))
 
 take_part : (u : List ℕ) (at n m : ℕ) → at + n ≤ m → take n (drop at (take m u)) ≡ take n (drop at u)
-take_part u at n m l = rw (drop_take at m u) (take_take n (m - at) (drop at u) (omega arith))
+take_part u at n m l = rw (drop_take at m u) (take-take n (m - at) (drop at u) (omega arith))
 
 no_octets : (u : List ℕ) → length u ≡ 0 → u ≡ []
 no_octets [] e = refl
@@ -40,7 +40,7 @@ module _ (slot : ℕ → List ℕ) where
   unfolding table_of
   table_long zero h = refl
   table_long (suc n) h =
-      simp length_append (omega (arith, table_long n (λ i l. h i (omega arith)), h n (omega arith)))
+      simp length-append (omega (arith, table_long n (λ i l. h i (omega arith)), h n (omega arith)))
 
   pub table_at : (n : ℕ) → ((i : ℕ) → i < n → length (slot i) ≡ slot_length) → (i : ℕ) → i < n → slot_at (table_of slot n) i ≡ slot i
   unfolding table_of slot_at
@@ -60,7 +60,7 @@ module _ (slot : ℕ → List ℕ) where
   table_is zero u l h = no_octets u l
   table_is (suc n) u l h =
       let front : take (n * 4392) u ≡ table_of slot n =
-      table_is n (take (n * 4392) u) (length_take_le (n * 4392) u (omega arith))
+      table_is n (take (n * 4392) u) (length-take-le (n * 4392) u (omega arith))
       (λ i m. take_part u (i * 4392) 4392 (n * 4392) (omega arith) ∙ h i (omega arith)) in
       let last : drop (n * 4392) u ≡ slot n = sym (take_all 4392 (drop (n * 4392) u) (simp length-drop (omega arith))) ∙ h n (omega arith) in
       sym (take-append-drop (n * 4392) u) ∙ rw (front, last)
@@ -75,7 +75,7 @@ table_same f g (suc n) h = rw (table_same f g n (λ i l. h i (omega arith)), h n
 pub whole_long : (t : List ℕ) → whole t ≡ true → length t ≡ slots t * 4392
 unfolding whole slots
 whole_long t w =
-    let e : length t % 4392 ≡ 0 = eqb_true (length t % 4392) 0
+    let e : length t % 4392 ≡ 0 = eqb-true (length t % 4392) 0
     (and_left (eqb (length t % 4392) 0) (leb 1 (length t / 4392)) (and_left (eqb (length t % 4392) 0 && leb 1 (length t / 4392)) (leb (length t / 4392) 256) w)) in
     omega arith
 

@@ -10,7 +10,7 @@ use mathlib.Core.Path.{◌≡◌, refl, sym, ◌∙◌}
 use mathlib.Core.Bool.{Bool, true, false, ◌&&◌}
 use mathlib.Core.List.{List, [], ◌∷◌}
 use mathlib.Core.Option.{Option, some, none, bind, none-ne-some}
-use native.Mathlib.Nat.{add-zero, zero_add, pow-le-pow_right, pow-succ'}
+use native.Mathlib.Nat.{add-zero, zero-add, pow-le-pow_right, pow-succ'}
 use native.Mathlib.Numerals.{add-one}
 use native.Mathlib.Omega.{arith}
 use mir.Val.{Fits}
@@ -155,7 +155,7 @@ value_below (x ∷ t) i n m h e = go (digit_of x) refl (λ d. value_below t (i +
 -- a number of so many digits
 pub number_below : (t : List ℕ) (n : ℕ) → number_of t ≡ some n → n < 10 ^ length t
 unfolding number_of
-number_below t n e = rw zero_add at (value_below t 0 0 n (omega arith) (only_if_some (leb (length t) 4) _ n e))
+number_below t n e = rw zero-add at (value_below t 0 0 n (omega arith) (only_if_some (leb (length t) 4) _ n e))
 
 pub number_small : (t : List ℕ) (n : ℕ) → number_of t ≡ some n → n ≤ 9999
 unfolding number_of

@@ -7,7 +7,7 @@ use mathlib.Core.Bool.{Bool, true, false, ◌&&◌}
 use mathlib.Core.List.{List}
 use mathlib.Core.Option.{Option, some, none, bind, none-ne-some}
 use native.Mathlib.Omega.{arith}
-use borrow.Author.Tests.{leb-true, eqb_true, eq_eqb}
+use borrow.Author.Tests.{leb-true, eqb-true, eq-eqb}
 use lib.Dec.{leb, eqb}
 use lib.ListN.{length, drop}
 use Rattle.octets.proofs.Lists.{at_most}
@@ -58,16 +58,16 @@ unfolding year_by
 year_by_lem width m n h l e = two (eqb width 2) refl
   where
     new : (b : Bool) → leb m 49 ≡ b → width ≡ 2 → (1900 ≤ n) × (n ≤ 9999)
-    new true p w = let q : m + 2000 ≡ n = cc (rw (year_by, eq_eqb width 2 w, p) at e) in omega (arith, leb-true m 49 p)
+    new true p w = let q : m + 2000 ≡ n = cc (rw (year_by, eq-eqb width 2 w, p) at e) in omega (arith, leb-true m 49 p)
     new false p w =
-        let q : m + 1900 ≡ n = cc (rw (year_by, eq_eqb width 2 w, p) at e) in
+        let q : m + 1900 ≡ n = cc (rw (year_by, eq-eqb width 2 w, p) at e) in
         let k : m < 10 ^ 2 = rw w at h in
         omega arith
 
     three : (b : Bool) → eqb width 3 ≡ b → eqb width 2 ≡ false → (1900 ≤ n) × (n ≤ 9999)
     three true p w =
         let q : m + 1900 ≡ n = cc (rw (year_by, w, p) at e) in
-        let k : m < 10 ^ 3 = rw (eqb_true width 3 p) at h in
+        let k : m < 10 ^ 3 = rw (eqb-true width 3 p) at h in
         omega arith
     three false p w =
         let o : only_if (eqb width 4 && leb 1900 m) (some m) ≡ some n = rw (year_by, w, p) at e in
@@ -75,7 +75,7 @@ year_by_lem width m n h l e = two (eqb width 2) refl
         omega (arith, leb-true 1900 m (both_right (eqb width 4) (leb 1900 m) (only_if_true _ (some m) n o)))
 
     two : (b : Bool) → eqb width 2 ≡ b → (1900 ≤ n) × (n ≤ 9999)
-    two true p = new (leb m 49) refl (eqb_true width 2 p)
+    two true p = new (leb m 49) refl (eqb-true width 2 p)
     two false p = three (eqb width 3) refl p
 
 pub year_some : (t : List ℕ) (n : ℕ) → year_of t ≡ some n → (1900 ≤ n) × (n ≤ 9999)

@@ -12,7 +12,7 @@ use native.Mathlib.Omega.{arith}
 use mir.Val.{Fits}
 use mir.Syntax.{w64}
 use borrow.Author.Rules.{rules}
-use borrow.Author.Tests.{eq_eqb, ne_eqb, le-leb, lt-leb}
+use borrow.Author.Tests.{eq-eqb, ne_eqb, le-leb, lt-leb}
 use lib.ListN.{length, get_or, take, drop, length-drop}
 use lib.Seq.{take_all}
 use Rattle.octets.specs.Octets.{same_octets}
@@ -71,16 +71,16 @@ module _ (width n : ℕ) where
   module _ (two : width ≡ 2) where
     pub year_new : n ≤ 49 → Value (n + 2000) ≡ meaning (year_by width n)
     unfolding year_by only_if meaning
-    year_new h = rw (year_by, eq_eqb width 2 two, le-leb n 49 h)
+    year_new h = rw (year_by, eq-eqb width 2 two, le-leb n 49 h)
 
     pub year_old : 49 < n → Value (n + 1900) ≡ meaning (year_by width n)
     unfolding year_by only_if meaning
-    year_old h = rw (year_by, eq_eqb width 2 two, lt-leb n 49 h)
+    year_old h = rw (year_by, eq-eqb width 2 two, lt-leb n 49 h)
 
   module _ (two : width ≡ 2 → ⊥) where
     pub year_three : width ≡ 3 → Value (n + 1900) ≡ meaning (year_by width n)
     unfolding year_by only_if meaning
-    year_three h = rw (year_by, ne_eqb width 2 two, eq_eqb width 3 h)
+    year_three h = rw (year_by, ne_eqb width 2 two, eq-eqb width 3 h)
 
     module _ (three : width ≡ 3 → ⊥) where
       pub year_none : (width ≡ 4 → ⊥) → Nothing ≡ meaning (year_by width n)
@@ -89,11 +89,11 @@ module _ (width n : ℕ) where
 
       pub year_early : width ≡ 4 → n < 1900 → Nothing ≡ meaning (year_by width n)
       unfolding year_by only_if meaning
-      year_early h l = rw (year_by, ne_eqb width 2 two, ne_eqb width 3 three, eq_eqb width 4 h, lt-leb 1900 n l)
+      year_early h l = rw (year_by, ne_eqb width 2 two, ne_eqb width 3 three, eq-eqb width 4 h, lt-leb 1900 n l)
 
       pub year_four : width ≡ 4 → 1900 ≤ n → Value n ≡ meaning (year_by width n)
       unfolding year_by only_if meaning
-      year_four h l = rw (year_by, ne_eqb width 2 two, ne_eqb width 3 three, eq_eqb width 4 h, le-leb 1900 n l)
+      year_four h l = rw (year_by, ne_eqb width 2 two, ne_eqb width 3 three, eq-eqb width 4 h, le-leb 1900 n l)
 
 -- behind a number that was read
 module _ (t : List ℕ) (g : Meaning) (e : g ≡ meaning (number_of t)) where
@@ -111,24 +111,24 @@ module _ (t : List ℕ) (g : Meaning) (e : g ≡ meaning (number_of t)) where
   module _ (most : ℕ) (w : length t ≡ 2) where
     pub two_is : (n : ℕ) → g ≡ Value n → n ≤ most → Value n ≡ meaning (two_digits most t)
     unfolding two_digits only_if bind meaning
-    two_is n q h = rw (eq_eqb (length t) 2 w, value_is (number_of t) g n e q, le-leb n most h)
+    two_is n q h = rw (eq-eqb (length t) 2 w, value_is (number_of t) g n e q, le-leb n most h)
 
     pub two_above : (n : ℕ) → g ≡ Value n → most < n → Nothing ≡ meaning (two_digits most t)
     unfolding two_digits only_if bind meaning
-    two_above n q h = rw (eq_eqb (length t) 2 w, value_is (number_of t) g n e q, lt-leb n most h)
+    two_above n q h = rw (eq-eqb (length t) 2 w, value_is (number_of t) g n e q, lt-leb n most h)
 
     pub two_no_number : g ≡ Nothing → Nothing ≡ meaning (two_digits most t)
     unfolding two_digits only_if bind meaning
-    two_no_number q = rw (eq_eqb (length t) 2 w, nothing_is (number_of t) g e q)
+    two_no_number q = rw (eq-eqb (length t) 2 w, nothing_is (number_of t) g e q)
 
   module _ (w : length t ≡ 4) where
     pub offset_is : (n : ℕ) (r : Meaning) → g ≡ Value n → r ≡ meaning (offset_by n) → r ≡ meaning (offset_of t)
     unfolding offset_of only_if bind
-    offset_is n r q h = rw (eq_eqb (length t) 4 w, value_is (number_of t) g n e q) h
+    offset_is n r q h = rw (eq-eqb (length t) 4 w, value_is (number_of t) g n e q) h
 
     pub offset_no_number : g ≡ Nothing → Nothing ≡ meaning (offset_of t)
     unfolding offset_of only_if bind meaning
-    offset_no_number q = rw (eq_eqb (length t) 4 w, nothing_is (number_of t) g e q)
+    offset_no_number q = rw (eq-eqb (length t) 4 w, nothing_is (number_of t) g e q)
 
 pub two_width : (t : List ℕ) (most : ℕ) → (length t ≡ 2 → ⊥) → Nothing ≡ meaning (two_digits most t)
 unfolding two_digits only_if meaning

@@ -8,7 +8,7 @@ use mathlib.Core.Bool.{Bool, true, false}
 use mathlib.Core.List.{List}
 use native.Mathlib.Nat.{add-zero}
 use borrow.Author.Rules.{rules}
-use borrow.Author.Tests.{eq_eqb, ne_eqb}
+use borrow.Author.Tests.{eq-eqb, ne_eqb}
 use lib.ListN.{get_or, drop}
 use Rattle.runs.specs.Runs.{belongs, run_length}
 use Rattle.runs.specs.declared.Class.TheVariants.{Digit, Letter}
@@ -29,12 +29,12 @@ module _ (x : ℕ) (d : Bool) (ed : d ≡ belongs Digit x) where
     module _ (ql : l ≡ false) where
       pub opens_plus : x ≡ 43 → Plus ≡ opening_of x
       unfolding opening_of
-      opens_plus q = rw (opening_of, sym ed ∙ qd, sym el ∙ ql, eq_eqb x 43 q)
+      opens_plus q = rw (opening_of, sym ed ∙ qd, sym el ∙ ql, eq-eqb x 43 q)
 
       module _ (np : x ≡ 43 → ⊥) where
         pub opens_minus : x ≡ 45 → Minus ≡ opening_of x
         unfolding opening_of
-        opens_minus q = rw (opening_of, sym ed ∙ qd, sym el ∙ ql, ne_eqb x 43 np, eq_eqb x 45 q)
+        opens_minus q = rw (opening_of, sym ed ∙ qd, sym el ∙ ql, ne_eqb x 43 np, eq-eqb x 45 q)
 
         pub opens_mark : (x ≡ 45 → ⊥) → Mark ≡ opening_of x
         unfolding opening_of

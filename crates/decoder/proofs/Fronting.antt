@@ -8,13 +8,13 @@ use Prim.Native.Nat.{ℕ, ◌+◌, ◌-◌, ◌<◌, ◌≤◌}
 use mathlib.Core.Path.{◌≡◌, refl, sym, ap, ◌∙◌}
 use mathlib.Core.Bool.{false, ◌&&◌}
 use mathlib.Core.List.{List, ◌∷◌, ◌++◌}
-use native.Mathlib.Nat.{zero_add}
+use native.Mathlib.Nat.{zero-add}
 use native.Mathlib.Omega.{arith}
 use borrow.Author.Rules.{rules}
-use borrow.Author.Tests.{eq_eqb, ne_eqb, lt_ltb, le_ltb}
+use borrow.Author.Tests.{eq-eqb, ne_eqb, lt-ltb, le-ltb}
 use lib.Dec.{ltb}
 use lib.ListN.{length, get_or, take, drop, set, length-take, take-append-drop}
-use lib.Seq.{drop-length, get_or-take, length_take_le}
+use lib.Seq.{drop-length, get_or-take, length-take-le}
 use Rattle.octets.specs.Finding.{holds}
 use Rattle.octets.specs.Tests.{every}
 use Rattle.octets.proofs.Lists.{drop_one, drop_done}
@@ -65,7 +65,7 @@ pub ruleset fronting = (front_begin, front_within, front_next, front_found, fron
 
 -- `behind`
 pub behind_none : (b : ℕ) → b ≡ 0 → 0 ≡ behind_of b
-behind_none b e = rw (eq_eqb b 0 e)
+behind_none b e = rw (eq-eqb b 0 e)
 
 pub behind_some : (b : ℕ) → (b ≡ 0 → ⊥) → b + 1 ≡ behind_of b
 behind_some b e = rw (ne_eqb b 0 e)
@@ -84,7 +84,7 @@ module _ (text d : List ℕ) (b : ℕ) (r : (b ≤ length text) × (b ≤ length
 
 module _ (text d out : List ℕ) (b i : ℕ) (h : Copies text d out b i) where
   long : length (take b text) ≡ b
-  long = length_take_le b text h.few
+  long = length-take-le b text h.few
 
   pub copies_kept : length out ≡ length d
   copies_kept = copy_kept (take b text) d out 0 i h.copied
@@ -93,7 +93,7 @@ module _ (text d out : List ℕ) (b i : ℕ) (h : Copies text d out b i) where
   copies_within l = omega (arith, h.few)
 
   pub copies_room : i < b → i < length out
-  copies_room l = rw zero_add at (copy_room (take b text) d out 0 i h.copied (rw long l))
+  copies_room l = rw zero-add at (copy_room (take b text) d out 0 i h.copied (rw long l))
 
   one : i < b → all_basic (drop i (take b text)) ≡ (ltb (get_or text i 0) 128 && all_basic (drop (i + 1) (take b text)))
   unfolding every
@@ -102,13 +102,13 @@ module _ (text d out : List ℕ) (b i : ℕ) (h : Copies text d out b i) where
   pub copies_next : (x : ℕ) → x ≡ get_or text i 0 → i < b → get_or text i 0 ≤ 127 → Copies text d (set out i x) b (i + 1)
   copies_next x e l k =
       record {
-        copied = rw zero_add at (copy_next (take b text) d out 0 i h.copied x (rw long l) (e ∙ sym (get_or-take b text i 0 l)));
-        basic = h.basic ∙ one l ∙ rw (lt_ltb (get_or text i 0) 128 (omega arith));
+        copied = rw zero-add at (copy_next (take b text) d out 0 i h.copied x (rw long l) (e ∙ sym (get_or-take b text i 0 l)));
+        basic = h.basic ∙ one l ∙ rw (lt-ltb (get_or text i 0) 128 (omega arith));
         few = h.few;
       }
 
   pub copies_foreign : i < b → 127 < get_or text i 0 → Foreign d out (take b text)
-  copies_foreign l k = record { same = copies_kept; basic = h.basic ∙ one l ∙ rw (le_ltb (get_or text i 0) 128 (omega arith)) }
+  copies_foreign l k = record { same = copies_kept; basic = h.basic ∙ one l ∙ rw (le-ltb (get_or text i 0) 128 (omega arith)) }
 
   pub copies_end : b ≤ i → Copied d out (take b text)
   unfolding every

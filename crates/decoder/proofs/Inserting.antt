@@ -12,10 +12,10 @@ use mathlib.Core.List.{List, ◌∷◌, ◌++◌, append_assoc}
 use native.Mathlib.Numerals.{add-one}
 use native.Mathlib.Omega.{arith}
 use borrow.Author.Rules.{rules}
-use borrow.Author.Tests.{lt_ltb, le_ltb, le-leb, lt-leb}
+use borrow.Author.Tests.{lt-ltb, le-ltb, le-leb, lt-leb}
 use lib.Dec.{ltb}
-use lib.ListN.{length, get_or, take, drop, set, length-drop, length_append}
-use lib.Seq.{get_or-drop, get_or-take, length_take_le, take_at, take_take, get_or-set_other}
+use lib.ListN.{length, get_or, take, drop, set, length-drop, length-append}
+use lib.Seq.{get_or-drop, get_or-take, length-take-le, take_at, take-take, get_or-set_other}
 use Rattle.octets.specs.Written.{put_at}
 use Rattle.octets.proofs.Copying.{Copied as Copying, copy_begin, copy_next, copy_end, copy_kept}
 use Rattle.utf8.specs.Utf8.{scalar}
@@ -35,7 +35,7 @@ module _ (d : List ℕ) (len at x : ℕ) where
     pub upto : j ≤ len - at
 
   moved_long : at ≤ len → len < length d → length moved ≡ suc (len - at)
-  moved_long h k = ap suc (length-drop at (take len d) ∙ rw (length_take_le len d (omega arith)))
+  moved_long h k = ap suc (length-drop at (take len d) ∙ rw (length-take-le len d (omega arith)))
 
   pub moving_begin : (at ≤ len) × (len < length d) → Moving d x 0
   moving_begin h =
@@ -77,29 +77,29 @@ pub ruleset moving = (moving_begin, moving_kept, moving_room, moving_next, movin
 pub take_inserted : (d : List ℕ) (len at x : ℕ) → at ≤ len → len < length d → take (len + 1) (put_at d at (x ∷ drop at (take len d))) ≡ inserted x at (take len d)
 unfolding put_at inserted
 take_inserted d len at x h l =
-    let a : length (take len d) ≡ len = length_take_le len d (omega arith) in
-    let b : length (take at d) ≡ at = length_take_le at d (omega arith) in
-    let c : length (take at d ++ (x ∷ drop at (take len d))) ≡ len + 1 = simp (length_append, length-drop) (omega (arith, a, b)) in
-    rw (← append_assoc (take at d) (x ∷ drop at (take len d)) (drop (at + length (x ∷ drop at (take len d))) d), take_take at len d h)
+    let a : length (take len d) ≡ len = length-take-le len d (omega arith) in
+    let b : length (take at d) ≡ at = length-take-le at d (omega arith) in
+    let c : length (take at d ++ (x ∷ drop at (take len d))) ≡ len + 1 = simp (length-append, length-drop) (omega (arith, a, b)) in
+    rw (← append_assoc (take at d) (x ∷ drop at (take len d)) (drop (at + length (x ∷ drop at (take len d))) d), take-take at len d h)
     (take_at (take at d ++ (x ∷ drop at (take len d))) _ (len + 1) c)
 
 -- `is_scalar`
 module _ (n : ℕ) where
   pub scalar_low : n < 0xD800 → true ≡ scalar n
   unfolding scalar
-  scalar_low l = rw (lt_ltb n 0xD800 l)
+  scalar_low l = rw (lt-ltb n 0xD800 l)
 
   pub scalar_none : 0xD800 ≤ n → n < 0xE000 → false ≡ scalar n
   unfolding scalar
-  scalar_none l k = rw (le_ltb n 0xD800 l, lt-leb 0xE000 n k)
+  scalar_none l k = rw (le-ltb n 0xD800 l, lt-leb 0xE000 n k)
 
   pub scalar_high : 0xD800 ≤ n → 0xE000 ≤ n → ltb n 0x110000 ≡ scalar n
   unfolding scalar
-  scalar_high l k = rw (le_ltb n 0xD800 l, le-leb 0xE000 n k)
+  scalar_high l k = rw (le-ltb n 0xD800 l, le-leb 0xE000 n k)
 
 pub ruleset scalaring = (scalar_low, scalar_none, scalar_high, rules)
 
 -- and nothing beyond them is one
 pub scalar_over : (n : ℕ) → 0x110000 ≤ n → scalar n ≡ false
 unfolding scalar
-scalar_over n h = rw (le_ltb n 0xD800 (omega arith), le-leb 0xE000 n (omega arith), le_ltb n 0x110000 h)
+scalar_over n h = rw (le-ltb n 0xD800 (omega arith), le-leb 0xE000 n (omega arith), le-ltb n 0x110000 h)

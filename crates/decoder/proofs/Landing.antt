@@ -14,7 +14,7 @@ use mir.Syntax.{w32, w64}
 use mir.Val.{Fits}
 use lib.Dec.{eqb}
 use lib.ListN.{length, take, drop, length-drop}
-use lib.Seq.{length_take_le}
+use lib.Seq.{length-take-le}
 use Rattle.octets.specs.Written.{put_at}
 use Rattle.octets.proofs.Putting.{put_long}
 use Rattle.utf8.specs.Utf8.{scalar}
@@ -37,7 +37,7 @@ landed_over s n old out j h =
 -- `land`
 module _ (d : List ℕ) (sum : ℕ) (s : Decoder) (h : Lands (length d) sum s) where
   len_long : length (take s.len d) ≡ s.len
-  len_long = length_take_le s.len d (omega (arith, h.inside))
+  len_long = length-take-le s.len d (omega (arith, h.inside))
 
   pub land_point : Fits w64 (s.n + sum / (s.len + 1))
   land_point = omega (arith, h.point, h.most, h.inside, h.short, div-le_self sum (s.len + 1))

@@ -10,10 +10,10 @@ use mathlib.Core.List.{List, [], ◌∷◌}
 use mathlib.Core.Option.{none}
 use native.Mathlib.Omega.{arith}
 use borrow.Author.Rules.{rules}
-use borrow.Author.Tests.{eq_eqb, ne_eqb, eqb_true, eqb-false}
+use borrow.Author.Tests.{eq-eqb, ne_eqb, eqb-true, eqb-false}
 use lib.Dec.{eqb}
 use lib.ListN.{length, get_or, take, drop}
-use lib.Seq.{length_take_le, take_at}
+use lib.Seq.{length-take-le, take_at}
 use Rattle.octets.specs.Written.{put_at}
 use Rattle.octets.proofs.Lists.{drop_one, drop_done}
 use Rattle.octets.proofs.Putting.{put_long}
@@ -88,7 +88,7 @@ module _ (text : List ℕ) (from b : ℕ) (d out : List ℕ) (s : Decoder) (at :
 
   pub rest_end : length text ≤ at → s.k ≡ 36 → Shown d out (runs (drop from text) (take b d)) s.len
   unfolding run
-  rest_end l e = record { same = g.kept; text = g.goes ∙ rw (drop_done text at l, eq_eqb s.k 36 e); upto = omega (arith, g.kept, g.fine.inside) }
+  rest_end l e = record { same = g.kept; text = g.goes ∙ rw (drop_done text at l, eq-eqb s.k 36 e); upto = omega (arith, g.kept, g.fine.inside) }
 
   pub rest_open : length text ≤ at → (s.k ≡ 36 → ⊥) → NoText d out (runs (drop from text) (take b d))
   unfolding run
@@ -128,7 +128,7 @@ module _ (text d e : List ℕ) (p : (length text ≤ length d) × (length d < 2 
       done = rw a at q
 
       b_long : length (take b text) ≡ b
-      b_long = length_take_le b text f.upto
+      b_long = length-take-le b text f.upto
 
       pub decode_kept : length e ≡ length d
       decode_kept = ap length done.text ∙ put_long d 0 (take b text) (omega (arith, b_long, f.upto, p.0))
@@ -144,7 +144,7 @@ module _ (text d e : List ℕ) (p : (length text ≤ length d) × (length d < 2 
           positive t = let n = eqb-false b 0 t in omega (arith, n)
 
       behind_past : b ≤ behind_of b
-      behind_past = by_test (eqb b 0) (λ t. rw t (omega (arith, eqb_true b 0 t))) (λ t. rw t (omega arith))
+      behind_past = by_test (eqb b 0) (λ t. rw t (omega (arith, eqb-true b 0 t))) (λ t. rw t (omega arith))
 
       module _ (n : ℕ) (m : n ≡ behind_of b) where
         pub decode_reads : Reads (length e) text n b

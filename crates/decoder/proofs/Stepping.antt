@@ -16,7 +16,7 @@ use borrow.Author.Tests.{ne_eqb}
 use mir.Syntax.{w64}
 use mir.Val.{Fits}
 use lib.ListN.{length, take}
-use lib.Seq.{length_take_le}
+use lib.Seq.{length-take-le}
 use Rattle.octets.proofs.Lists.{lt_or_le}
 use Rattle.punycode.specs.Punycode.{value, threshold, landed, run}
 use Rattle.punycode.specs.Steps.{Threshold, value_of}
@@ -69,7 +69,7 @@ value_some (some u) v e = cc
 
 module _ (d : List ℕ) (c : ℕ) (s : Decoder) (h : Steps (length d) s) (r : Value) where
   long : length (take s.len d) ≡ s.len
-  long = length_take_le s.len d (omega (arith, h.more))
+  long = length-take-le s.len d (omega (arith, h.more))
 
   pub one_other : r ≡ Other → r ≡ value_of (value c) → Gone d d c s
   one_other a e = record { same = refl; goes = λ rest. run_other c rest _ _ _ _ _ _ _ (value_none (value c) (sym a ∙ e)) }

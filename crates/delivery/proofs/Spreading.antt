@@ -7,7 +7,7 @@ use mathlib.Core.Path.{◌≡◌, sym, ap, ◌∙◌}
 use mathlib.Core.Bool.{true}
 use mathlib.Core.List.{List}
 use native.Mathlib.Omega.{arith}
-use native.Mathlib.Nat.{sub_zero}
+use native.Mathlib.Nat.{sub-zero}
 use borrow.Author.Rules.{rules}
 use lib.ListN.{length, take, drop}
 use Rattle.octets.specs.Options.{is_some}
@@ -65,7 +65,7 @@ module _ (limit date : ℕ) (recipients payload t₀ t tags : List ℕ) (at : �
       one = heard_at limit (unrolled recipients) payload at address key r p e n k q
 
       pub spread_canonical : is_canonical (take (n - 0) (drop 0 address)) ≡ true
-      spread_canonical = rw sub_zero one.canonical
+      spread_canonical = rw sub-zero one.canonical
 
       pub spread_address : n ≤ length address
       spread_address = one.address_within
@@ -91,7 +91,7 @@ module _ (limit date : ℕ) (recipients payload t₀ t tags : List ℕ) (at : �
             so_far =
                 h.so_far
                 ∙ ap (λ (gs : List Gossiped). heard_all date gs t) one.first
-                ∙ rw (w, sub_zero n, sub_zero k);
+                ∙ rw (w, sub-zero n, sub-zero k);
             opened = s;
             most = h.most;
             in_range = h.in_range;

@@ -9,7 +9,7 @@ use mathlib.Core.Bool.{Bool}
 use mathlib.Core.List.{List}
 use mathlib.Core.Option.{some, none}
 use native.Mathlib.Omega.{arith}
-use native.Mathlib.Nat.{sub_zero}
+use native.Mathlib.Nat.{sub-zero}
 use borrow.Author.Rules.{rules}
 use lib.ListN.{length, take, drop}
 use Rattle.slots.specs.Slot.{key_limit}
@@ -38,7 +38,7 @@ module _ (key : List ℕ) (r : Own) (m : Bool) (n : ℕ) (q : r ≡ Key m n) whe
       (sender t u : List ℕ) (date : ℕ) → u ≡ put t sender (updated date (some (record { timestamp = date; key = take (n - 0) (drop 0 key); «mutual» = m })))
       → u ≡ put t sender (updated date (direct_from date key r))
   unfolding direct_from
-  updated_keyed sender t u date w = rw q (rw sub_zero at w)
+  updated_keyed sender t u date w = rw q (rw sub-zero at w)
 
 pub updated_keyless :
     (key : List ℕ) (r : Own) → r ≡ NoKey → (sender t u : List ℕ) (date : ℕ) → u ≡ put t sender (updated date none)

@@ -8,7 +8,7 @@ use mathlib.Core.Path.{◌≡◌, refl, sym, ap, ◌∙◌}
 use mathlib.Core.Bool.{true, false, false≢true, and-false}
 use mathlib.Core.List.{List}
 use native.Mathlib.Omega.{arith}
-use borrow.Author.Tests.{eqb_true, eqb-false}
+use borrow.Author.Tests.{eqb-true, eqb-false}
 use lib.Dec.{eqb, ltb}
 use lib.ListN.{length, get_or, take, drop, replicate}
 use Rattle.octets.specs.Options.{or_else}
@@ -52,7 +52,7 @@ lies t w x k at offset n a b l e =
       there =
           rw (a, b)
           (by_test (eqb n 0)
-          (λ q. let z : n ≡ 0 = eqb_true n 0 q in rw z (rw z at e))
+          (λ q. let z : n ≡ 0 = eqb-true n 0 q in rw z (rw z at e))
           (λ q. rw (← start_there at offset n (eqb-false n 0 q)) e));
       nowhere = λ q. a ∙ sym (start_empty at offset n (l ∙ ap length q));
     }

@@ -12,7 +12,7 @@ use mathlib.Core.Bool.{Bool, true, false, not}
 use mathlib.Core.List.{List, [], ◌∷◌, ◌++◌}
 use native.Mathlib.Omega.{arith}
 use borrow.Author.Rules.{rules}
-use borrow.Author.Tests.{eq_eqb, ne_eqb, lt_ltb, le_ltb, ltb_true, not-true, not-false}
+use borrow.Author.Tests.{eq-eqb, ne_eqb, lt-ltb, le-ltb, ltb-true, not-true, not-false}
 use lib.Dec.{ltb}
 use lib.ListN.{length, set}
 use mir.Syntax.{w64}
@@ -31,7 +31,7 @@ use Rattle.entry.specs.Shown.{shown_count, start_of, placed, stated, parts, told
 module _ (at offset n : ℕ) where
   pub start_empty : n ≡ 0 → 0 ≡ start_of at offset n
   unfolding start_of
-  start_empty e = rw (eq_eqb n 0 e)
+  start_empty e = rw (eq-eqb n 0 e)
 
   pub start_there : (n ≡ 0 → ⊥) → at + offset ≡ start_of at offset n
   unfolding start_of
@@ -79,11 +79,11 @@ module _ (t : List ℕ) (i : ℕ) where
   module _ (n : ℕ) (c : n ≡ slots t) where
     pub past_unused : n ≤ i → false ≡ used_at t i
     unfolding used_at
-    past_unused l = rw (le_ltb i (slots t) (omega arith))
+    past_unused l = rw (le-ltb i (slots t) (omega arith))
 
     pub within_used : i < n → (b : Bool) → b ≡ marked (slot_at t i) → b ≡ used_at t i
     unfolding used_at
-    within_used l b e = rw (lt_ltb i (slots t) (omega arith)) e
+    within_used l b e = rw (lt-ltb i (slots t) (omega arith)) e
 
   module _ (b : Bool) (e : b ≡ used_at t i) where
     module _ (q : not b ≡ true) where
@@ -94,7 +94,7 @@ module _ (t : List ℕ) (i : ℕ) where
     module _ (q : not b ≡ false) where
       pub used_below : i < slots t
       unfolding used_at
-      used_below = ltb_true i (slots t) (and_left (ltb i (slots t)) (marked (slot_at t i)) (sym e ∙ not-false b q))
+      used_below = ltb-true i (slots t) (and_left (ltb i (slots t)) (marked (slot_at t i)) (sym e ∙ not-false b q))
 
       pub used_end : length t < 2 ^ 64 → i * 4392 + slot_length < 2 ^ 64
       used_end l = omega (arith, room t i used_below)

@@ -12,7 +12,7 @@ use mathlib.Core.Bool.{Bool, true, false}
 use mathlib.Core.List.{List, [], ◌∷◌, ◌++◌}
 use native.Mathlib.Numerals.{add-one}
 use native.Mathlib.Omega.{arith}
-use lib.ListN.{length, length_append}
+use lib.ListN.{length, length-append}
 use Rattle.faults.specs.declared.Flaws.{Flaws}
 use Rattle.faults.specs.Faults.{Fault, no_flaws, has_kind, only_if, kinds_below, kinds, faults_at, numbers_of}
 
@@ -56,7 +56,7 @@ module _ (w : Flaws) where
   few_kinds zero = rw kinds_none (omega arith)
   few_kinds (suc n) =
       let e : suc n + 2 ≡ n + 2 + 1 = omega arith in
-      rw (e, kinds_next (n + 2), length_append) (omega (arith, few_kinds n, one_at_most (has_kind w (n + 2)) (n + 2)))
+      rw (e, kinds_next (n + 2), length-append) (omega (arith, few_kinds n, one_at_most (has_kind w (n + 2)) (n + 2)))
 
   pub kinds_most : length (kinds w) ≤ 7
   unfolding kinds

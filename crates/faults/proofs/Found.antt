@@ -9,7 +9,7 @@ use mathlib.Core.Path.{◌≡◌, refl, sym, ◌∙◌}
 use mathlib.Core.Bool.{Bool, true, false, ◌&&◌, ◌||◌, and-true, and-false, or-false, or_assoc, and-or_distrib_left}
 use mathlib.Core.List.{List, [], ◌∷◌, ◌++◌}
 use native.Mathlib.Omega.{arith}
-use borrow.Author.Tests.{ltb_true, ltb-false, eqb_true, eqb-false, lt_ltb, le_ltb}
+use borrow.Author.Tests.{ltb-true, ltb-false, eqb-true, eqb-false, lt-ltb, le-ltb}
 use lib.Dec.{eqb, ltb}
 use Rattle.octets.proofs.Tests.{by_test}
 use Rattle.faults.specs.declared.Flaws.{Flaws}
@@ -27,14 +27,14 @@ in_both f (g ∷ a) b = rw (in_both f a b) (sym (or_assoc (same_fault f g) (is_i
 below_more : (k n : ℕ) → eqb k n ≡ false → ltb k (suc n) ≡ ltb k n
 below_more k n d =
     by_test (ltb k n)
-    (λ e. rw e (lt_ltb k (suc n) (omega (arith, ltb_true k n e))))
-    (λ e. rw e (le_ltb k (suc n) (omega (arith, ltb-false k n e, eqb-false k n d))))
+    (λ e. rw e (lt-ltb k (suc n) (omega (arith, ltb-true k n e))))
+    (λ e. rw e (le-ltb k (suc n) (omega (arith, ltb-false k n e, eqb-false k n d))))
 
 module _ (w : Flaws) (k : ℕ) where
   has_more : (n : ℕ) → (ltb k n && has_kind w k || eqb k n && has_kind w n) ≡ (ltb k (suc n) && has_kind w k)
   has_more n =
       by_test (eqb k n)
-      (λ e. rw (e, eqb_true k n e, le_ltb n n (omega arith), lt_ltb n (suc n) (omega arith)))
+      (λ e. rw (e, eqb-true k n e, le-ltb n n (omega arith), lt-ltb n (suc n) (omega arith)))
       (λ e. rw (e, below_more k n e) (or-false (ltb k n && has_kind w k)))
 
   -- no kind lies above the last
@@ -59,7 +59,7 @@ module _ (f : Fault) (block place : ℕ) where
   module _ (w : Flaws) where
     in_below : (n : ℕ) → is_in f (faults_at block place (kinds_below w n)) ≡ (here && (ltb f.kind n && has_kind w f.kind))
     unfolding kinds_below faults_at is_in
-    in_below zero = rw (le_ltb f.kind 0 (omega arith)) (sym (and-false here))
+    in_below zero = rw (le-ltb f.kind 0 (omega arith)) (sym (and-false here))
     in_below (suc n) =
         rw (faults_both, in_both, in_below n, in_one, ← has_more w f.kind n)
         (sym (and-or_distrib_left here (ltb f.kind n && has_kind w f.kind) (eqb f.kind n && has_kind w n)))

@@ -7,7 +7,7 @@
 use Prim.Native.Nat.{ℕ, zero, suc, ◌+◌, ◌<◌, ◌≤◌}
 use mathlib.Core.Path.{◌≡◌, refl, ap, ◌∙◌}
 use mathlib.Core.List.{List, [], ◌∷◌, ◌++◌}
-use native.Mathlib.Nat.{add-zero, zero_add}
+use native.Mathlib.Nat.{add-zero, zero-add}
 use native.Mathlib.Omega.{arith}
 use borrow.Author.Rules.{rules}
 use lib.ListN.{length, set, length-set}
@@ -38,7 +38,7 @@ laid_put d at (x ∷ w) h = laid_put (set d at x) (at + 1) w (simp length-set (o
 
 pub laid_onto : (d w : List ℕ) → length w ≤ length d → laid_at d 0 w ≡ onto w d
 unfolding put_at onto
-laid_onto d w h = laid_put d 0 w (omega arith) ∙ rw zero_add
+laid_onto d w h = laid_put d 0 w (omega arith) ∙ rw zero-add
 
 -- `put_number`
 module _ (d : List ℕ) (at x : ℕ) where

@@ -12,7 +12,7 @@ use mathlib.Core.Path.{◌≡◌, refl}
 use mathlib.Core.Bool.{true, false, ◌&&◌, and-false, false≢true}
 use mathlib.Core.List.{List, [], ◌∷◌}
 use native.Mathlib.Omega.{arith}
-use borrow.Author.Tests.{ltb_true, eqb_true, ne_eqb}
+use borrow.Author.Tests.{ltb-true, eqb-true, ne_eqb}
 use lib.Dec.{eqb, ltb}
 use Rattle.octets.specs.Tests.{every}
 use Rattle.octets.proofs.Tests.{by_test, and_left, and_right}
@@ -31,13 +31,13 @@ module _ (f g : Fault) where
   unfolding before
   told h =
       by_test (ltb f.block g.block)
-      (λ e. by_block (ltb_true f.block g.block e))
+      (λ e. by_block (ltb-true f.block g.block e))
       (λ e. by_test (eqb f.block g.block)
-      (λ b. let q = eqb_true f.block g.block b in
+      (λ b. let q = eqb-true f.block g.block b in
       by_test (ltb f.place g.place)
-      (λ d. by_place q (ltb_true f.place g.place d))
+      (λ d. by_place q (ltb-true f.place g.place d))
       (λ d. let k : (eqb f.place g.place && ltb f.kind g.kind) ≡ true = rw (e, b, d) at h in
-      by_kind q (eqb_true f.place g.place (and_left _ (ltb f.kind g.kind) k)) (ltb_true f.kind g.kind (and_right (eqb f.place g.place) _ k))))
+      by_kind q (eqb-true f.place g.place (and_left _ (ltb f.kind g.kind) k)) (ltb-true f.kind g.kind (and_right (eqb f.place g.place) _ k))))
       (λ b. absurd (false≢true (rw (e, b) at h))))
 
   tell : Before f g → before f g ≡ true

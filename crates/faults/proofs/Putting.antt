@@ -11,7 +11,7 @@ use mathlib.Core.List.{List, ◌++◌}
 use native.Mathlib.Omega.{arith}
 use borrow.Author.Rules.{rules}
 use borrow.Author.Tests.{ne_eqb}
-use lib.ListN.{length, length_append}
+use lib.ListN.{length, length-append}
 use Rattle.faults.specs.declared.Flaws.{Flaws}
 use Rattle.faults.specs.Faults.{has_kind, only_if, kinds_below, kinds, faults_at, numbers_of}
 use Rattle.faults.specs.Laying.{laid_at, Placed, numbers_if, room}
@@ -111,7 +111,7 @@ module _ (w : Flaws) (block place at : ℕ) (d : List ℕ) where
           first = omega (arith, h.first);
           last = omega arith;
           fits = h.fits;
-          behind = rw (one_more w block place k, length_append, ← e) (omega (arith, h.behind));
+          behind = rw (one_more w block place k, length-append, ← e) (omega (arith, h.behind));
           so_far = rw (one_more w block place k, ← e) (q ∙ rw (h.behind, h.so_far) (laid_both d at _ _));
         }
 

@@ -12,7 +12,7 @@ use mathlib.Core.Path.{◌≡◌, refl, sym, ◌∙◌}
 use mathlib.Core.Bool.{Bool, true, false, ◌&&◌, ◌||◌, or-true}
 use mathlib.Core.List.{List, [], ◌∷◌, ◌++◌}
 use native.Mathlib.Omega.{arith}
-use borrow.Author.Tests.{ltb_true, eqb_true, lt_ltb, eq_eqb}
+use borrow.Author.Tests.{ltb-true, eqb-true, lt-ltb, eq-eqb}
 use lib.Dec.{eqb, ltb}
 use Rattle.octets.specs.Tests.{every}
 use Rattle.octets.proofs.Tests.{and_left, and_right}
@@ -25,17 +25,17 @@ use Rattle.faults.proofs.Counting.{faults_both}
 module _ (f g : Fault) where
   pub before_block : f.block < g.block → before f g ≡ true
   unfolding before
-  before_block l = rw (lt_ltb f.block g.block l)
+  before_block l = rw (lt-ltb f.block g.block l)
 
   module _ (e : f.block ≡ g.block) where
     pub before_place : f.place < g.place → before f g ≡ true
     unfolding before
-    before_place l = rw (eq_eqb f.block g.block e, lt_ltb f.place g.place l, or-true (ltb f.block g.block))
+    before_place l = rw (eq-eqb f.block g.block e, lt-ltb f.place g.place l, or-true (ltb f.block g.block))
 
     pub before_kind : f.place ≡ g.place → f.kind < g.kind → before f g ≡ true
     unfolding before
     before_kind p l =
-        rw (eq_eqb f.block g.block e, eq_eqb f.place g.place p, lt_ltb f.kind g.kind l)
+        rw (eq-eqb f.block g.block e, eq-eqb f.place g.place p, lt-ltb f.kind g.kind l)
         (or-true (ltb f.block g.block || ltb f.place g.place))
 
 pub all_before : (first second : Fault → Bool) (a b : List Fault) → every first a ≡ true → every second b ≡ true
@@ -61,17 +61,17 @@ module _ (block place : ℕ) where
   pub faults_here : (ks : List ℕ) → every (λ (f : Fault). eqb f.block block && eqb f.place place) (faults_at block place ks) ≡ true
   unfolding every faults_at
   faults_here [] = refl
-  faults_here (k ∷ ks) = rw (eq_eqb block block refl, eq_eqb place place refl) (faults_here ks)
+  faults_here (k ∷ ks) = rw (eq-eqb block block refl, eq-eqb place place refl) (faults_here ks)
 
   here_before : (f g : Fault) → (eqb f.block block && eqb f.place place) ≡ true → (eqb g.block block && ltb place g.place) ≡ true
       → before f g ≡ true
   here_before f g d e =
       before_place f g
-      (eqb_true f.block block (and_left _ (eqb f.place place) d) ∙ sym (eqb_true g.block block (and_left _ (ltb place g.place) e)))
+      (eqb-true f.block block (and_left _ (eqb f.place place) d) ∙ sym (eqb-true g.block block (and_left _ (ltb place g.place) e)))
       (omega (
         arith,
-        eqb_true f.place place (and_right (eqb f.block block) _ d),
-        ltb_true place g.place (and_right (eqb g.block block) _ e),
+        eqb-true f.place place (and_right (eqb f.block block) _ d),
+        ltb-true place g.place (and_right (eqb g.block block) _ e),
       ))
 
   -- the fault of this kind

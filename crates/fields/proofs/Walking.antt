@@ -10,7 +10,7 @@ use mathlib.Core.Path.{◌≡◌, refl, sym, ap, ◌∙◌}
 use mathlib.Core.Bool.{Bool, true, false}
 use mathlib.Core.List.{List, []}
 use borrow.Author.Rules.{rules}
-use borrow.Author.Tests.{eq_eqb, ne_eqb, eqb_true}
+use borrow.Author.Tests.{eq-eqb, ne_eqb, eqb-true}
 use lib.Dec.{eqb}
 use lib.ListN.{length, take, drop}
 use Rattle.octets.specs.Options.{is_some, or_else}
@@ -39,7 +39,7 @@ module _ (b : Bool) (at e : ℕ) (v : Span) where
 
   pub past_first : b ≡ true → v.last ≡ 0 → record { first = at; last = e } ≡ span_past b at e v
   unfolding span_past
-  past_first k z = rw (k, span_past, eq_eqb v.last 0 z)
+  past_first k z = rw (k, span_past, eq-eqb v.last 0 z)
 
   pub past_later : b ≡ true → (v.last ≡ 0 → ⊥) → record { first = v.first; last = e } ≡ span_past b at e v
   unfolding span_past
@@ -101,7 +101,7 @@ module _ (kind : Kind) (s : List ℕ) where
         go : (b : Bool) → is_kind kind name ≡ b → (z : Bool) → eqb v.last 0 ≡ z → Passed kind s (span_past b at e v) e
         go false k z q = other k
         go true k true q =
-            rw (span_past, q) (record { all = sym h.no_more ∙ ap (values_from kind s) (eqb_true v.last 0 q); no_more = refl; clear = sym same })
+            rw (span_past, q) (record { all = sym h.no_more ∙ ap (values_from kind s) (eqb-true v.last 0 q); no_more = refl; clear = sym same })
         go true k false q = rw (span_past, q) (record { all = h.all; no_more = refl; clear = h.clear })
 
 pub record Walked (s : List ℕ) (v : Survey) (at : ℕ) : Type 0 where

@@ -13,7 +13,7 @@ use mathlib.Core.Bool.{Bool, true, false, ◌&&◌, ◌||◌, or-false, false≢
 use mathlib.Core.List.{List, [], ◌∷◌}
 use mathlib.Core.Option.{some}
 use native.Mathlib.Omega.{arith}
-use borrow.Author.Tests.{eqb_true, eq_eqb, not-true}
+use borrow.Author.Tests.{eqb-true, eq-eqb, not-true}
 use lib.Dec.{eqb}
 use lib.ListN.{take}
 use Rattle.octets.specs.Options.{or_else}
@@ -128,9 +128,9 @@ module _ (sender : List ℕ) (recipients : List (List ℕ)) (outer payload : Lis
       let h : (eqb block 0 && eqb place 0 && eqb kind 1) ≡ true = sym (or-false (eqb block 0 && eqb place 0 && eqb kind 1)) ∙ q in
       let b : (eqb block 0 && eqb place 0) ≡ true = and_left _ (eqb kind 1) h in
       rw (
-        eqb_true block 0 (and_left _ (eqb place 0) b),
-        eqb_true place 0 (and_right (eqb block 0) _ b),
-        eqb_true kind 1 (and_right (eqb block 0 && eqb place 0) _ h),
+        eqb-true block 0 (and_left _ (eqb place 0) b),
+        eqb-true place 0 (and_right (eqb block 0) _ b),
+        eqb-true kind 1 (and_right (eqb block 0 && eqb place 0) _ h),
       )
       (wrong.no_valid_fault (behind_none sender outer v)))
 
@@ -209,7 +209,7 @@ each_listed outer payload sender x e = rw e (each_fault sender (recipients_in (f
 none_in : (l : List Fault) → ((x : Fault) → is_in x l ≡ true → ⊥) → l ≡ []
 unfolding is_in same_fault
 none_in [] n = refl
-none_in (f ∷ l) n = absurd (n f (rw (eq_eqb f.block f.block refl, eq_eqb f.place f.place refl, eq_eqb f.kind f.kind refl)))
+none_in (f ∷ l) n = absurd (n f (rw (eq-eqb f.block f.block refl, eq-eqb f.place f.place refl, eq-eqb f.kind f.kind refl)))
 
 pub none_exactly : NoneExactly
 unfolding is_in

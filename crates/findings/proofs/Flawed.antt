@@ -14,7 +14,7 @@ use mathlib.Core.Bool.{Bool, true, false, not, false≢true}
 use mathlib.Core.List.{List, [], ◌∷◌}
 use mathlib.Core.Option.{some}
 use native.Mathlib.Omega.{arith}
-use borrow.Author.Tests.{eqb_true, not-false}
+use borrow.Author.Tests.{eqb-true, not-false}
 use lib.Dec.{eqb}
 use lib.ListN.{length}
 use Rattle.octets.specs.Octets.{lowered, same_octets, same_name}
@@ -52,13 +52,13 @@ pub data Kinded (w : Flaws) : ℕ → Type 0 where
 pub kinded : (w : Flaws) (k : ℕ) → has_kind w k ≡ true → Kinded w k
 unfolding has_kind
 kinded w k h =
-    by_test (eqb k 2) (λ e. rw (eqb_true k 2 e) (more_valid_fault (rw e at h)))
-    (λ n₂. by_test (eqb k 3) (λ e. rw (eqb_true k 3 e) (wrong_address_fault (rw (n₂, e) at h)))
-    (λ n₃. by_test (eqb k 4) (λ e. rw (eqb_true k 4 e) (unknown_attribute_fault (rw (n₂, n₃, e) at h)))
-    (λ n₄. by_test (eqb k 5) (λ e. rw (eqb_true k 5 e) (key_data_fault (rw (n₂, n₃, n₄, e) at h)))
-    (λ n₅. by_test (eqb k 6) (λ e. rw (eqb_true k 6 e) (gossip_outside_fault (rw (n₂, n₃, n₄, n₅, e) at h)))
-    (λ n₆. by_test (eqb k 7) (λ e. rw (eqb_true k 7 e) (gossip_unlisted_fault (rw (n₂, n₃, n₄, n₅, n₆, e) at h)))
-    (λ n₇. by_test (eqb k 8) (λ e. rw (eqb_true k 8 e) (gossip_preference_fault (rw (n₂, n₃, n₄, n₅, n₆, n₇, e) at h)))
+    by_test (eqb k 2) (λ e. rw (eqb-true k 2 e) (more_valid_fault (rw e at h)))
+    (λ n₂. by_test (eqb k 3) (λ e. rw (eqb-true k 3 e) (wrong_address_fault (rw (n₂, e) at h)))
+    (λ n₃. by_test (eqb k 4) (λ e. rw (eqb-true k 4 e) (unknown_attribute_fault (rw (n₂, n₃, e) at h)))
+    (λ n₄. by_test (eqb k 5) (λ e. rw (eqb-true k 5 e) (key_data_fault (rw (n₂, n₃, n₄, e) at h)))
+    (λ n₅. by_test (eqb k 6) (λ e. rw (eqb-true k 6 e) (gossip_outside_fault (rw (n₂, n₃, n₄, n₅, e) at h)))
+    (λ n₆. by_test (eqb k 7) (λ e. rw (eqb-true k 7 e) (gossip_unlisted_fault (rw (n₂, n₃, n₄, n₅, n₆, e) at h)))
+    (λ n₇. by_test (eqb k 8) (λ e. rw (eqb-true k 8 e) (gossip_preference_fault (rw (n₂, n₃, n₄, n₅, n₆, n₇, e) at h)))
     (λ n₈. absurd (false≢true (rw (n₂, n₃, n₄, n₅, n₆, n₇, n₈) at h)))))))))
 
 -- names that are the same but for their case are as long as each other, and the two names are not

@@ -9,7 +9,7 @@ use mathlib.Core.Bool.{Bool, true, ◌&&◌, ◌||◌, or-true, or-false, or_ass
 use mathlib.Core.List.{List, [], ◌∷◌, ◌++◌}
 use mathlib.Core.Option.{some}
 use native.Mathlib.Omega.{arith}
-use borrow.Author.Tests.{eqb_true, eq_eqb}
+use borrow.Author.Tests.{eqb-true, eq-eqb}
 use lib.Dec.{eqb}
 use lib.ListN.{take}
 use Rattle.octets.proofs.Tests.{by_test, and_left, and_right}
@@ -54,8 +54,8 @@ module _ (side : Side) (sender : List ℕ) (recipients : List (List ℕ)) (x : F
         front = 0;
         field = f;
         there = refl;
-        block = eqb_true x.block (side_number side) (and_left _ (eqb x.place place) b);
-        placed = eqb_true x.place place (and_right (eqb x.block (side_number side)) _ b) ∙ omega arith;
+        block = eqb-true x.block (side_number side) (and_left _ (eqb x.place place) b);
+        placed = eqb-true x.place place (and_right (eqb x.block (side_number side)) _ b) ∙ omega arith;
         kind = rw (or-false seen) (and_right (eqb x.block (side_number side) && eqb x.place place) _ h);
       }
 
@@ -88,7 +88,7 @@ module _ (side : Side) (sender : List ℕ) (recipients : List (List ℕ)) (x : F
       → is_in x (faults_at (side_number side) place (kinds (flaws_of side sender recipients seen f))) ≡ true
   in_here seen place f b p k =
       in_kinds x (side_number side) place (flaws_of side sender recipients seen f)
-      ∙ rw (eq_eqb x.block (side_number side) b, eq_eqb x.place place p) k
+      ∙ rw (eq-eqb x.block (side_number side) b, eq-eqb x.place place p) k
 
   pub has_from : (seen : Bool) (place : ℕ) (fs : List FieldText) (n : ℕ) (f : FieldText) → field_at fs (suc n) ≡ some f
       → x.block ≡ side_number side → x.place ≡ place + n

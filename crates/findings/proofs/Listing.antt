@@ -10,7 +10,7 @@ use mathlib.Core.Bool.{true, ◌&&◌, false≢true, or-true}
 use mathlib.Core.List.{List, [], ◌∷◌, ◌++◌}
 use mathlib.Core.Option.{Option, some, none}
 use native.Mathlib.Omega.{arith}
-use borrow.Author.Tests.{eqb_true, eq_eqb}
+use borrow.Author.Tests.{eqb-true, eq-eqb}
 use lib.Dec.{eqb}
 use lib.ListN.{length, get_or, drop}
 use Rattle.octets.specs.Written.{onto}
@@ -39,9 +39,9 @@ module _ (x : Fault) where
           record {
             nth = 0;
             within = omega arith;
-            block = sym (eqb_true x.block f.block (and_left _ (eqb x.place f.place) b));
-            place = sym (eqb_true x.place f.place (and_right (eqb x.block f.block) _ b));
-            kind = sym (eqb_true x.kind f.kind (and_right (eqb x.block f.block && eqb x.place f.place) _ d));
+            block = sym (eqb-true x.block f.block (and_left _ (eqb x.place f.place) b));
+            place = sym (eqb-true x.place f.place (and_right (eqb x.block f.block) _ b));
+            kind = sym (eqb-true x.kind f.kind (and_right (eqb x.block f.block && eqb x.place f.place) _ d));
           }
 
       later : Listed (numbers_of l ++ rest) (length l) x → Listed (numbers_of (f ∷ l) ++ rest) (suc (length l)) x
@@ -62,7 +62,7 @@ module _ (x : Fault) where
   unfolding is_in same_fault numbers_of
   listed_in [] rest i h b p k = absurd (omega arith)
   listed_in (f ∷ l) rest zero h b p k =
-      rw (eq_eqb x.block f.block (sym b), eq_eqb x.place f.place (sym p), eq_eqb x.kind f.kind (sym k))
+      rw (eq-eqb x.block f.block (sym b), eq-eqb x.place f.place (sym p), eq-eqb x.kind f.kind (sym k))
   listed_in (f ∷ l) rest (suc i) h b p k =
       rw
       (listed_in l rest i (omega arith) (sym (three_more f (numbers_of l ++ rest) (3 * suc i) (3 * i) (omega arith)) ∙ b)

@@ -10,7 +10,7 @@ use mathlib.Core.Path.{◌≡◌, refl, sym, ◌∙◌}
 use mathlib.Core.Bool.{Bool, true, false, ◌&&◌, ◌||◌}
 use mathlib.Core.List.{List, [], ◌∷◌, ◌++◌}
 use native.Mathlib.Omega.{arith}
-use borrow.Author.Tests.{ltb_true, eqb_true, eqb-false, lt_ltb}
+use borrow.Author.Tests.{ltb-true, eqb-true, eqb-false, lt-ltb}
 use lib.Dec.{eqb, ltb}
 use Rattle.octets.specs.Tests.{every}
 use Rattle.octets.proofs.Tests.{by_test, and_left, and_right}
@@ -37,7 +37,7 @@ here_later : (block place low : ℕ) → low < place → (f : Fault) → here bl
 here_later block place low l f e =
     rw (
       and_left (eqb f.block block) (eqb f.place place) e,
-      lt_ltb low f.place (omega (arith, eqb_true f.place place (and_right (eqb f.block block) _ e))),
+      lt-ltb low f.place (omega (arith, eqb-true f.place place (and_right (eqb f.block block) _ e))),
     )
 
 module _ (side : Side) (sender : List ℕ) (recipients : List (List ℕ)) where
@@ -67,15 +67,15 @@ module _ (side : Side) (sender : List ℕ) (recipients : List (List ℕ)) where
 block_before : (f g : Fault) → later 0 0 f ≡ true → later 1 0 g ≡ true → before f g ≡ true
 block_before f g d e =
     before_block f g
-    (omega (arith, eqb_true f.block 0 (and_left _ (ltb 0 f.place) d), eqb_true g.block 1 (and_left _ (ltb 0 g.place) e)))
+    (omega (arith, eqb-true f.block 0 (and_left _ (ltb 0 f.place) d), eqb-true g.block 1 (and_left _ (ltb 0 g.place) e)))
 
 -- the fault of the mail stands at place 0 of the outer block, and each of a field behind it
 mail_before : (f g : Fault) → here 0 0 f ≡ true → ltb 0 g.place ≡ true → before f g ≡ true
 mail_before f g d e =
-    let b : f.block ≡ 0 = eqb_true f.block 0 (and_left _ (eqb f.place 0) d) in
-    let p : f.place ≡ 0 = eqb_true f.place 0 (and_right (eqb f.block 0) _ d) in
+    let b : f.block ≡ 0 = eqb-true f.block 0 (and_left _ (eqb f.place 0) d) in
+    let p : f.place ≡ 0 = eqb-true f.place 0 (and_right (eqb f.block 0) _ d) in
     by_test (eqb g.block 0)
-    (λ q. before_place f g (b ∙ sym (eqb_true g.block 0 q)) (omega (arith, ltb_true 0 g.place e)))
+    (λ q. before_place f g (b ∙ sym (eqb-true g.block 0 q)) (omega (arith, ltb-true 0 g.place e)))
     (λ q. let n : g.block ≡ 0 → ⊥ = eqb-false g.block 0 q in before_block f g (omega arith))
 
 module _ (sender : List ℕ) (recipients : List (List ℕ)) (outer payload : List FieldText) where

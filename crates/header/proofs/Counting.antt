@@ -11,7 +11,7 @@ use Prim.Native.Nat.{ℕ, suc, ◌+◌, ◌<◌, ◌≤◌, zero-le, suc-le-suc}
 use mathlib.Core.Path.{◌≡◌, refl, sym, ◌∙◌}
 use mathlib.Core.Bool.{Bool, true, false}
 use mathlib.Core.List.{List, [], ◌∷◌}
-use native.Mathlib.Nat.{zero_add}
+use native.Mathlib.Nat.{zero-add}
 use native.Mathlib.Omega.{arith}
 use borrow.Author.Rules.{rules}
 use borrow.Author.Tests.{eqb-false}
@@ -70,7 +70,7 @@ module _ (s : List ℕ) (i : ℕ) where
 raw_line : {s : List ℕ} → By lf s → raw_length s ≡ line_length s + raw_length (drop (line_length s) s)
 unfolding length_before raw_length
 raw_line none = refl
-raw_line (one {s} v) = sym (zero_add (raw_length (lf ∷ s)))
+raw_line (one {s} v) = sym (zero-add (raw_length (lf ∷ s)))
 raw_line (other {x} {s} e v) =
     rw (raw_on x s (sym (closes_other x (get_or s 0 0) (eqb-false x lf e))), before_on lf x s e) (omega (arith, raw_line v))
 

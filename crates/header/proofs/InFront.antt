@@ -8,7 +8,7 @@ use mathlib.Core.Path.{◌≡◌, refl, sym, ap, ◌∙◌}
 use mathlib.Core.Bool.{Bool, true, false, not, ◌&&◌, false≢true}
 use mathlib.Core.List.{List, [], ◌∷◌, ◌++◌}
 use native.Mathlib.Omega.{arith}
-use borrow.Author.Tests.{eqb_true, lt_ltb, leb-true, not-true}
+use borrow.Author.Tests.{eqb-true, lt-ltb, leb-true, not-true}
 use lib.Dec.{leb, eqb}
 use lib.ListN.{length, get_or}
 use lib.Seq.{take-append_seam, drop-append_seam, drop-append-add, get_or-append_seam}
@@ -56,7 +56,7 @@ run_append class (x ∷ s) t h o =
 pub raw_append : (s t : List ℕ) → is_raw s ≡ true → belongs Blank (get_or t 0 0) ≡ false → raw_length (s ++ t) ≡ length s
 unfolding is_raw
 raw_append [] t h o = absurd (false≢true h)
-raw_append (x ∷ []) t h o = raw_last x t (sym (closes_lf x (get_or t 0 0) (get_or t 0 0) false (eqb_true x lf h) refl (sym o)))
+raw_append (x ∷ []) t h o = raw_last x t (sym (closes_lf x (get_or t 0 0) (get_or t 0 0) false (eqb-true x lf h) refl (sym o)))
 raw_append (x ∷ y ∷ s) t h o =
     let c : not (closes x y) ≡ true = and_left (not (closes x y)) (is_raw (y ∷ s)) h in
     let r : is_raw (y ∷ s) ≡ true = and_right (not (closes x y)) (is_raw (y ∷ s)) h in
@@ -88,7 +88,7 @@ module _ (name raw rest : List ℕ) (named : run_length Name name ≡ length nam
 
   opens : opens_field whole ≡ true
   unfolding whole opens_field
-  opens = rw (opens_field, name_ends, lt_ltb 0 (length name) some_name, get_or-append_seam name (octet ":") (raw ++ rest) 0)
+  opens = rw (opens_field, name_ends, lt-ltb 0 (length name) some_name, get_or-append_seam name (octet ":") (raw ++ rest) 0)
 
   after : after_colon whole ≡ raw ++ rest
   unfolding whole

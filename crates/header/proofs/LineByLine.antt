@@ -11,10 +11,10 @@ use mathlib.Core.Bool.{Bool, true, false}
 use mathlib.Core.List.{List, [], ◌∷◌, ◌++◌}
 use native.Mathlib.Omega.{arith}
 use borrow.Author.Rules.{rules}
-use borrow.Author.Tests.{eqb_true, eqb-false}
+use borrow.Author.Tests.{eqb-true, eqb-false}
 use lib.Dec.{eqb}
-use lib.ListN.{length, get_or, take, drop, length-drop, length_append}
-use lib.Seq.{drop-drop, get_or-drop, length_take_le}
+use lib.ListN.{length, get_or, take, drop, length-drop, length-append}
+use lib.Seq.{drop-drop, get_or-drop, length-take-le}
 use mir.Syntax.{w64}
 use mir.Val.{Fits}
 use Rattle.octets.specs.Written.{put_at, onto}
@@ -92,7 +92,7 @@ pub ruleset texts = (text_empty, text_room, text_cr, text_lf, rules)
 -- an octet of a line ending that is no LF stands before one
 before_lf : (x y : ℕ) → eqb x lf ≡ false → of_ending x y ≡ true → y ≡ lf
 unfolding of_ending
-before_lf x y e t = eqb_true y lf (and_right (eqb x cr) (eqb y lf) (rw e at t))
+before_lf x y e t = eqb-true y lf (and_right (eqb x cr) (eqb y lf) (rw e at t))
 
 unfolded_line : {s : List ℕ} → By lf s → unfolded s ≡ take (text_length s) s ++ unfolded (drop (suc (line_length s)) s)
 unfolding unfolded text_length length_before of_ending
@@ -133,7 +133,7 @@ module _ (raw d out : List ℕ) (n i : ℕ) (h : Unfolds raw d out n i) where
     size = omega arith
 
     long : length (take (f - i) (drop i raw)) ≡ f - i
-    long = rw size (length_take_le (text_length (drop i raw)) (drop i raw) (text_short (drop i raw)))
+    long = rw size (length-take-le (text_length (drop i raw)) (drop i raw) (text_short (drop i raw)))
 
     goes_on : Wrote (unfolded raw) d out n (take (f - i) (drop i raw) ++ unfolded (drop (e + 1) raw))
     goes_on =
@@ -141,7 +141,7 @@ module _ (raw d out : List ℕ) (n i : ℕ) (h : Unfolds raw d out n i) where
         rw (k, size, ← drop-drop (suc (line_length (drop i raw))) i raw, ← unfolded_line (by lf (drop i raw))) h.so_far
 
     sum : n + (length (take (f - i) (drop i raw)) + length (unfolded (drop (e + 1) raw))) ≡ length (unfolded raw)
-    sum = simp length_append at (counted (unfolded raw) d out n (take (f - i) (drop i raw) ++ unfolded (drop (e + 1) raw)) goes_on)
+    sum = simp length-append at (counted (unfolded raw) d out n (take (f - i) (drop i raw) ++ unfolded (drop (e + 1) raw)) goes_on)
 
     pub unfold_room : n + length (take (f - i) (drop i raw)) ≤ length out
     unfold_room = omega (arith, sum, unfold_kept, goes_on.room)

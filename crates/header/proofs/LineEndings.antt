@@ -7,10 +7,10 @@ use mathlib.Core.Path.{◌≡◌, refl, sym, ap, ◌∙◌}
 use mathlib.Core.Bool.{Bool, true, false, not, false≢true}
 use mathlib.Core.List.{List, [], ◌∷◌, ◌++◌}
 use native.Mathlib.Omega.{arith}
-use borrow.Author.Tests.{eqb_true, eqb-false}
+use borrow.Author.Tests.{eqb-true, eqb-false}
 use lib.Dec.{ltb, eqb}
 use lib.ListN.{length, get_or, take, drop}
-use lib.Seq.{take_at, drop_at, drop-drop, length_take_le}
+use lib.Seq.{take_at, drop_at, drop-drop, length-take-le}
 use Rattle.octets.specs.Octets.{octet, cr, lf, blank}
 use Rattle.octets.proofs.Tests.{and_right}
 use Rattle.runs.specs.Runs.{belongs, run_length, run}
@@ -56,7 +56,7 @@ first_alike f h [] = refl
 first_alike f h (x ∷ s) = go (eqb x lf) refl
   where
     go : (b : Bool) → eqb x lf ≡ b → f (get_or (with_cr_lf (x ∷ s)) 0 0) ≡ f x
-    go true e = rw (with_lf x s e) (h ∙ ap f (sym (eqb_true x lf e)))
+    go true e = rw (with_lf x s e) (h ∙ ap f (sym (eqb-true x lf e)))
     go false e = rw (with_other x s e)
 
 -- no LF stands at the beginning
@@ -83,7 +83,7 @@ over_kept [] h = refl
 over_kept (x ∷ s) h = go (eqb x lf) refl
   where
     go : (b : Bool) → eqb x lf ≡ b → over (with_cr_lf (x ∷ s)) ≡ of_ending x (get_or s 0 0)
-    go true e = rw (with_lf x s e) (ends_lf x (get_or s 0 0) (eqb_true x lf e))
+    go true e = rw (with_lf x s e) (ends_lf x (get_or s 0 0) (eqb-true x lf e))
     go false e = rw (with_other x s e) (plain_there x s h e ∙ sym (plain_here x s h e))
 
 run_kept : (s : List ℕ) → run_length Name (with_cr_lf s) ≡ run_length Name s
@@ -93,7 +93,7 @@ run_kept (x ∷ s) = go (run_kept s) (eqb x lf) refl (belongs Name x) refl
   where
     go : run_length Name (with_cr_lf s) ≡ run_length Name s → (b : Bool) → eqb x lf ≡ b → (d : Bool) → belongs Name x ≡ d
         → run_length Name (with_cr_lf (x ∷ s)) ≡ run_length Name (x ∷ s)
-    go ih true e d m = rw (with_lf x s e, eqb_true x lf e) (run_out (belongs Name) cr (lf ∷ with_cr_lf s) refl ∙ sym (run_out (belongs Name) lf s refl))
+    go ih true e d m = rw (with_lf x s e, eqb-true x lf e) (run_out (belongs Name) cr (lf ∷ with_cr_lf s) refl ∙ sym (run_out (belongs Name) lf s refl))
     go ih false e true m = rw (with_other x s e) (run_in (belongs Name) x (with_cr_lf s) m ∙ ap suc ih ∙ sym (run_in (belongs Name) x s m))
     go ih false e false m = rw (with_other x s e) (run_out (belongs Name) x (with_cr_lf s) m ∙ sym (run_out (belongs Name) x s m))
 
@@ -106,12 +106,12 @@ name_stays (x ∷ s) = go (name_stays s) (belongs Name x) refl (eqb x lf) refl
     go : with_cr_lf s ≡ name_of s ++ with_cr_lf (drop (run_length Name s) s) → (d : Bool) → belongs Name x ≡ d → (b : Bool) → eqb x lf ≡ b
         → with_cr_lf (x ∷ s) ≡ name_of (x ∷ s) ++ with_cr_lf (drop (run_length Name (x ∷ s)) (x ∷ s))
     go ih false m b e = rw (run_out (belongs Name) x s m)
-    go ih true m true e = absurd (let z : belongs Name lf ≡ true = rw (eqb_true x lf e) at m in false≢true z)
+    go ih true m true e = absurd (let z : belongs Name lf ≡ true = rw (eqb-true x lf e) at m in false≢true z)
     go ih true m false e = rw (run_in (belongs Name) x s m, with_other x s e) (ap (λ (l : List ℕ). x ∷ l) ih)
 
 module _ (s : List ℕ) where
   long : length (name_of s) ≡ run_length Name s
-  long = length_take_le (run_length Name s) s (run_short (belongs Name) s)
+  long = length-take-le (run_length Name s) s (run_short (belongs Name) s)
 
   name_kept : name_of (with_cr_lf s) ≡ name_of s
   name_kept = rw (run_kept s, name_stays s) (take_at (name_of s) (with_cr_lf (drop (run_length Name s) s)) (run_length Name s) long)
@@ -139,7 +139,7 @@ after_kept : (s : List ℕ) → opens_field s ≡ true → after_colon (with_cr_
 unfolding opens_field
 after_kept s o =
     let n : ℕ = run_length Name s in
-    let c : get_or (drop n s) 0 0 ≡ octet ":" = next_octet s n ∙ eqb_true (get_or s n 0) (octet ":") (and_right (ltb 0 n) (eqb (get_or s n 0) (octet ":")) o) in
+    let c : get_or (drop n s) 0 0 ≡ octet ":" = next_octet s n ∙ eqb-true (get_or s n 0) (octet ":") (and_right (ltb 0 n) (eqb (get_or s n 0) (octet ":")) o) in
     rw (run_kept s) (sym (drop-drop 1 n (with_cr_lf s)) ∙ ap (drop 1) (behind_kept s) ∙ one_off (drop n s) c ∙ ap with_cr_lf (drop-drop 1 n s))
 
 -- a value as it stands, and what follows it
@@ -149,7 +149,7 @@ record Cut (t : List ℕ) : Type 0 where
 
 closes_kept : (x : ℕ) (s : List ℕ) → eqb x lf ≡ true → closes lf (get_or (with_cr_lf s) 0 0) ≡ closes x (get_or s 0 0)
 unfolding closes belongs blank
-closes_kept x s e = rw (eqb_true x lf e) (ap not (first_alike (belongs Blank) refl s))
+closes_kept x s e = rw (eqb-true x lf e) (ap not (first_alike (belongs Blank) refl s))
 
 cut_none : Cut []
 unfolding with_cr_lf raw_length
@@ -187,7 +187,7 @@ unfolded_kept (x ∷ s) h = go (unfolded_kept s (λ i. h (suc i))) (eqb x lf) re
   where
     go : unfolded (with_cr_lf s) ≡ unfolded s → (b : Bool) → eqb x lf ≡ b → unfolded (with_cr_lf (x ∷ s)) ≡ unfolded (x ∷ s)
     go ih true e =
-        rw (with_lf x s e) (unfolded_crlf (with_cr_lf s) ∙ ih ∙ sym (unfolded_out x s (sym (ends_lf x (get_or s 0 0) (eqb_true x lf e)))))
+        rw (with_lf x s e) (unfolded_crlf (with_cr_lf s) ∙ ih ∙ sym (unfolded_out x s (sym (ends_lf x (get_or s 0 0) (eqb-true x lf e)))))
     go ih false e =
         rw (with_other x s e)
         (unfolded_in x (with_cr_lf s) (plain_there x s h e) ∙ ap (λ (l : List ℕ). x ∷ l) ih ∙ sym (unfolded_in x s (plain_here x s h e)))

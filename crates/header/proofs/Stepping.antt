@@ -12,7 +12,7 @@ use mathlib.Core.Bool.{Bool, true, false}
 use mathlib.Core.List.{List}
 use native.Mathlib.Omega.{arith}
 use borrow.Author.Rules.{rules}
-use borrow.Author.Tests.{lt_ltb, le_ltb, ltb_true, eq_eqb, ne_eqb, eqb_true}
+use borrow.Author.Tests.{lt-ltb, le-ltb, ltb-true, eq-eqb, ne_eqb, eqb-true}
 use lib.Dec.{ltb, eqb}
 use lib.ListN.{length, get_or, drop, get_or-eq_default}
 use lib.Seq.{get_or-drop}
@@ -51,11 +51,11 @@ module _ (s : List ℕ) (at : ℕ) where
   -- a field opens where a name is not empty and a colon stands behind it
   nameless : name_end s at ≡ at → opens_field (drop at s) ≡ false
   unfolding opens_field
-  nameless e = rw (opens_field, le_ltb 0 (run_length Name (drop at s)) (omega arith))
+  nameless e = rw (opens_field, le-ltb 0 (run_length Name (drop at s)) (omega arith))
 
   named : (name_end s at ≡ at → ⊥) → opens_field (drop at s) ≡ eqb (get_or s (name_end s at) 0) (octet ":")
   unfolding opens_field
-  named n = rw (opens_field, lt_ltb 0 (run_length Name (drop at s)) (omega arith), get_or-drop at s (run_length Name (drop at s)) 0)
+  named n = rw (opens_field, lt-ltb 0 (run_length Name (drop at s)) (omega arith), get_or-drop at s (run_length Name (drop at s)) 0)
 
 module _ (s : List ℕ) (at : ℕ) (b : Bool) (t : b ≡ over (drop at s)) where
   pub step_over : b ≡ true → Over ≡ step_at s at
@@ -73,7 +73,7 @@ module _ (s : List ℕ) (at : ℕ) (b : Bool) (t : b ≡ over (drop at s)) where
 
       pub step_field : (e : ℕ) → p ≡ octet ":" → e ≡ (n + 1) + raw_length (drop (n + 1) s) → Field n (n + 1) e ≡ step_at s at
       step_field e c z =
-          let o : opens_field (drop at s) ≡ true = named s at (λ y. m (q ∙ y)) ∙ eq_eqb (get_or s (name_end s at) 0) (octet ":") (rw (← q) (sym w ∙ c)) in
+          let o : opens_field (drop at s) ≡ true = named s at (λ y. m (q ∙ y)) ∙ eq-eqb (get_or s (name_end s at) 0) (octet ":") (rw (← q) (sym w ∙ c)) in
           rw (z, q) (sym (is_field s at (sym t ∙ f) o))
 
 pub colon_fits : (s : List ℕ) (n p : ℕ) → length s < 2 ^ 64 → p ≡ get_or s n 0 → p ≡ octet ":" → n + 1 < 2 ^ 64
@@ -97,8 +97,8 @@ unfolding opens_field
 opened s at o =
     let n : ℕ = run_length Name (drop at s) in
     let b : Bool = eqb (get_or (drop at s) n 0) (octet ":") in
-    let c : get_or s (name_end s at) 0 ≡ octet ":" = sym (get_or-drop at s n 0) ∙ eqb_true (get_or (drop at s) n 0) (octet ":") (and_right (ltb 0 n) b o) in
-    (omega (arith, ltb_true 0 n (and_left (ltb 0 n) b o)), below_end s (name_end s at) c)
+    let c : get_or s (name_end s at) 0 ≡ octet ":" = sym (get_or-drop at s n 0) ∙ eqb-true (get_or (drop at s) n 0) (octet ":") (and_right (ltb 0 n) b o) in
+    (omega (arith, ltb-true 0 n (and_left (ltb 0 n) b o)), below_end s (name_end s at) c)
 
 pub held : (s : List ℕ) (at : ℕ) → Held s at (step_at s at)
 held s at = go (over (drop at s)) refl (opens_field (drop at s)) refl

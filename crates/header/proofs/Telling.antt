@@ -12,7 +12,7 @@ use mathlib.Core.Bool.{Bool, true, false, not, ◌||◌}
 use mathlib.Core.List.{List}
 use native.Mathlib.Nat.{add-zero}
 use borrow.Author.Rules.{rules}
-use borrow.Author.Tests.{eq_eqb, ne_eqb}
+use borrow.Author.Tests.{eq-eqb, ne_eqb}
 use lib.Dec.{eqb}
 use lib.ListN.{length, get_or, drop, get_or-eq_default}
 use lib.Seq.{get_or-drop}
@@ -31,7 +31,7 @@ next_octet s at = get_or-drop at s 0 0 ∙ ap (λ (i : ℕ). get_or s i 0) (add-
 module _ (x y : ℕ) where
   pub ends_lf : x ≡ lf → true ≡ of_ending x y
   unfolding of_ending
-  ends_lf e = rw (eq_eqb x lf e)
+  ends_lf e = rw (eq-eqb x lf e)
 
   pub ends_other : (x ≡ lf → ⊥) → (x ≡ cr → ⊥) → false ≡ of_ending x y
   unfolding of_ending
@@ -39,7 +39,7 @@ module _ (x y : ℕ) where
 
   pub ends_cr : (p : ℕ) → (x ≡ lf → ⊥) → x ≡ cr → p ≡ y → eqb p lf ≡ of_ending x y
   unfolding of_ending
-  ends_cr p n e q = rw (ne_eqb x lf n, eq_eqb x cr e, q)
+  ends_cr p n e q = rw (ne_eqb x lf n, eq-eqb x cr e, q)
 
   pub closes_other : (x ≡ lf → ⊥) → false ≡ closes x y
   unfolding closes
@@ -47,7 +47,7 @@ module _ (x y : ℕ) where
 
   pub closes_lf : (p : ℕ) (b : Bool) → x ≡ lf → p ≡ y → b ≡ belongs Blank p → not b ≡ closes x y
   unfolding closes
-  closes_lf p b e q t = rw (eq_eqb x lf e, t, q)
+  closes_lf p b e q t = rw (eq-eqb x lf e, t, q)
 
 module _ (s : List ℕ) (at : ℕ) where
   pub over_past : length s ≤ at → true ≡ over (drop at s)

@@ -10,11 +10,11 @@ use Prim.Native.Nat.{ℕ, suc, ◌-◌, ◌≤◌, zero-le, suc-le-suc}
 use mathlib.Core.Path.{◌≡◌, refl, sym, ap, ◌∙◌}
 use mathlib.Core.Bool.{Bool, true, false, ◌&&◌}
 use mathlib.Core.List.{List, [], ◌∷◌, ◌++◌}
-use native.Mathlib.Nat.{sub_zero}
+use native.Mathlib.Nat.{sub-zero}
 use native.Mathlib.Omega.{arith}
-use borrow.Author.Tests.{eqb_true, eqb-false, ne_eqb}
+use borrow.Author.Tests.{eqb-true, eqb-false, ne_eqb}
 use lib.Dec.{eqb}
-use lib.ListN.{length, get_or, take, drop, length_append}
+use lib.ListN.{length, get_or, take, drop, length-append}
 use lib.Seq.{take-append_seam}
 use Rattle.octets.specs.Written.{onto}
 use Rattle.octets.specs.Octets.{cr, lf}
@@ -49,7 +49,7 @@ unfolding of_ending
 plain_octet x y n m = rw (ne_eqb x lf n) (go (eqb x cr) refl)
   where
     go : (b : Bool) → eqb x cr ≡ b → (b && eqb y lf) ≡ false
-    go true e = ne_eqb y lf (m (eqb_true x cr e))
+    go true e = ne_eqb y lf (m (eqb-true x cr e))
     go false e = refl
 
 pub unfolded_plain : (s : List ℕ) → NoLf s → unfolded s ≡ s
@@ -77,7 +77,7 @@ same_ending : (x y z : ℕ) → (x ≡ cr → y ≡ lf → ⊥) → (x ≡ cr �
 same_ending x y z p q = go (eqb x lf) refl
   where
     go : (b : Bool) → eqb x lf ≡ b → of_ending x y ≡ of_ending x z
-    go true e = sym (ends_lf x y (eqb_true x lf e)) ∙ ends_lf x z (eqb_true x lf e)
+    go true e = sym (ends_lf x y (eqb-true x lf e)) ∙ ends_lf x z (eqb-true x lf e)
     go false e = plain_octet x y (eqb-false x lf e) p ∙ sym (plain_octet x z (eqb-false x lf e) q)
 
 pub unfolded_append : (s t : List ℕ) → (last s ≡ cr → get_or t 0 0 ≡ lf → ⊥) → unfolded (s ++ t) ≡ unfolded s ++ unfolded t
@@ -104,11 +104,11 @@ unfolded_before s t h = unfolded_append s t (λ _. h)
 module _ (w d out : List ℕ) (n : ℕ) (c : n ≡ length w) (o : out ≡ onto w d) where
   pub value_within : n ≤ length out
   unfolding onto
-  value_within = rw (o, c, length_append) (omega arith)
+  value_within = rw (o, c, length-append) (omega arith)
 
   pub value_there : take n out ≡ w
   unfolding onto
   value_there = rw (o, c) (take-append_seam w (drop (length w) d))
 
   pub value_there_from : take (n - 0) (drop 0 out) ≡ w
-  value_there_from = rw sub_zero value_there
+  value_there_from = rw sub-zero value_there

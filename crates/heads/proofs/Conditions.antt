@@ -6,7 +6,7 @@ use Prim.Native.Nat.{ℕ, ◌≤◌}
 use mathlib.Core.Path.{◌≡◌, refl, sym}
 use mathlib.Core.Bool.{Bool, true, false, not, ◌&&◌, ◌||◌, false≢true}
 use native.Mathlib.Omega.{arith}
-use borrow.Author.Tests.{leb-true, eqb_true}
+use borrow.Author.Tests.{leb-true, eqb-true}
 use lib.Dec.{leb, eqb}
 use Rattle.octets.specs.Tests.{one_to}
 use Rattle.octets.proofs.Tests.{and_left, and_right, by_test}
@@ -53,7 +53,7 @@ module _ (n : Head) where
       let c = all_three (leb n.last_seen time_limit) (n.seen || eqb n.last_seen 0) (not n.direct || n.seen) h in
       record {
         in_range = leb-true n.last_seen time_limit c.0;
-        absent = λ e. eqb_true n.last_seen 0 (otherwise n.seen (eqb n.last_seen 0) c.1 e);
+        absent = λ e. eqb-true n.last_seen 0 (otherwise n.seen (eqb n.last_seen 0) c.1 e);
         beside_key = λ e. implied n.direct n.seen c.2 e;
       }
 
@@ -84,10 +84,10 @@ module _ (n : Head) where
       direct_facts =
           record {
             in_range =
-                always_in n.direct n.timestamp (λ e. leb-true n.timestamp time_limit (here e).1) (λ e. eqb_true n.timestamp 0 (gone e).0);
+                always_in n.direct n.timestamp (λ e. leb-true n.timestamp time_limit (here e).1) (λ e. eqb-true n.timestamp 0 (gone e).0);
             key_length = λ e. in_one_to limit n.direct_length (here e).0;
             not_above = λ e. leb-true n.timestamp n.last_seen (here e).2;
-            absent = λ e. (eqb_true n.timestamp 0 (gone e).0, eqb_true n.direct_length 0 (gone e).1);
+            absent = λ e. (eqb-true n.timestamp 0 (gone e).0, eqb-true n.direct_length 0 (gone e).1);
             no_mutual = λ e. denied n.«mutual» (gone e).2;
           }
 
@@ -100,8 +100,8 @@ module _ (n : Head) where
       unheard : n.gossip ≡ false → (n.gossip_timestamp ≡ 0) × (n.gossip_length ≡ 0)
       unheard e =
           let t : gossip_gone ≡ true = where_gone n.gossip gossip_there gossip_gone h e in (
-            eqb_true n.gossip_timestamp 0 (and_left (eqb n.gossip_timestamp 0) (eqb n.gossip_length 0) t),
-            eqb_true n.gossip_length 0 (and_right (eqb n.gossip_timestamp 0) (eqb n.gossip_length 0) t),
+            eqb-true n.gossip_timestamp 0 (and_left (eqb n.gossip_timestamp 0) (eqb n.gossip_length 0) t),
+            eqb-true n.gossip_length 0 (and_right (eqb n.gossip_timestamp 0) (eqb n.gossip_length 0) t),
           )
 
       pub gossip_facts : SoundGossip limit n

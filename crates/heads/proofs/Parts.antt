@@ -20,17 +20,17 @@ use Prim.Native.Nat.{ℕ, suc, zero, ◌+◌, ◌-◌, ◌<◌, ◌≤◌, min}
 use mathlib.Core.Path.{◌≡◌, refl, sym, ap, ◌∙◌}
 use mathlib.Core.Logic.{⊎_elim}
 use mathlib.Core.List.{List, [], ◌∷◌, ◌++◌, append_assoc, append-nil}
-use native.Mathlib.Nat.{min-eq_left, min-eq_right, sub_self, zero_add}
+use native.Mathlib.Nat.{min-eq_left, min-eq_right, sub_self, zero-add}
 use native.Mathlib.Omega.{arith}
-use lib.ListN.{length, take, drop, replicate, length_append, length-take, length-drop, drop_of_length-le, take-append-drop}
-use lib.Seq.{take_all, take_take, take-add, drop-drop, take_at, drop_at, take-append-le, drop-append-le, take-append-add, drop-append-add, length_take_le, take-nil}
+use lib.ListN.{length, take, drop, replicate, length-append, length-take, length-drop, drop_of_length-le, take-append-drop}
+use lib.Seq.{take_all, take-take, take-add, drop-drop, take_at, drop_at, take-append-le, drop-append-le, take-append-add, drop-append-add, length-take-le, take-nil}
 use Rattle.octets.specs.Written.{put_at}
 use Rattle.octets.proofs.Lists.{lt_or_le}
 
 pub take_min : (n room : ℕ) (s : List ℕ) → take (min n room) s ≡ take n (take room s)
 take_min n room s =
     ⊎_elim
-    (λ (h : n < room). rw (min-eq_left {n = n} {m = room} (omega arith)) (sym (take_take n room s (omega arith))))
+    (λ (h : n < room). rw (min-eq_left {n = n} {m = room} (omega arith)) (sym (take-take n room s (omega arith))))
     (λ (h : room ≤ n). rw (min-eq_right {n = room} {m = n} h) (sym (take_all n (take room s) (simp length-take (omega arith)))))
     (lt_or_le n room)
 
@@ -68,11 +68,11 @@ drop_past x y n at e = rw (← e) (drop-append-add x y at)
 
 pub put_first : (d w : List ℕ) → put_at d 0 w ≡ w ++ drop (length w) d
 unfolding put_at
-put_first d w = rw zero_add
+put_first d w = rw zero-add
 
 pub put_front : (x y w : List ℕ) → length x ≡ length w → put_at (x ++ y) 0 w ≡ w ++ y
 unfolding put_at
-put_front x y w e = rw (zero_add, ← e) (ap (λ (l : List ℕ). w ++ l) (drop_at x y (length x) refl))
+put_front x y w e = rw (zero-add, ← e) (ap (λ (l : List ℕ). w ++ l) (drop_at x y (length x) refl))
 
 pub put_over : (x w : List ℕ) → length x ≡ length w → put_at x 0 w ≡ w
 put_over x w e = put_first x w ∙ rw (drop_of_length-le x {i = length w} (omega arith)) (append-nil w)
@@ -85,19 +85,19 @@ put_behind x y w n at e =
 
 pub put_length : (d w : List ℕ) (at : ℕ) → at + length w ≤ length d → length (put_at d at w) ≡ length d
 unfolding put_at
-put_length d w at h = simp (length_append, length-drop, length_take_le at d (omega arith)) (omega arith)
+put_length d w at h = simp (length-append, length-drop, length-take-le at d (omega arith)) (omega arith)
 
 pub put_more : (d x y : List ℕ) (at n : ℕ) → length x ≡ n → at + n ≤ length d → put_at (put_at d at x) (at + n) y ≡ put_at d at (x ++ y)
 unfolding put_at
 put_more d x y at n e h =
-    let t : length (take at d) ≡ at = length_take_le at d (omega arith) in
-    let front : length (take at d ++ x) ≡ at + n = simp length_append (omega arith) in
+    let t : length (take at d) ≡ at = length-take-le at d (omega arith) in
+    let front : length (take at d ++ x) ≡ at + n = simp length-append (omega arith) in
     let whole : take at d ++ (x ++ drop (at + length x) d) ≡ (take at d ++ x) ++ drop (at + length x) d =
     sym (append_assoc (take at d) x (drop (at + length x) d)) in
     let ahead : take (at + n) (take at d ++ (x ++ drop (at + length x) d)) ≡ take at d ++ x =
     rw whole (take_at (take at d ++ x) (drop (at + length x) d) (at + n) front) in
     let rest : drop (at + n + length y) (take at d ++ (x ++ drop (at + length x) d)) ≡ drop (at + length (x ++ y)) d =
-    let a : at + length x + length y ≡ at + length (x ++ y) = simp length_append (omega arith) in
+    let a : at + length x + length y ≡ at + length (x ++ y) = simp length-append (omega arith) in
     rw (whole, ← front, drop-append-add (take at d ++ x) (drop (at + length x) d) (length y), drop-drop, a) in
     rw (ahead, rest) (append_assoc (take at d) x (y ++ drop (at + length (x ++ y)) d) ∙ ap (λ (l : List ℕ). take at d ++ l) (sym (append_assoc x y (drop (at + length (x ++ y)) d))))
 
@@ -110,7 +110,7 @@ put_within d x m at h =
     rw (drop_take j m d)
     (ap (λ (t : List ℕ). take (m - j) (drop j d) ++ t) (sym (drop-drop (m - j) j d ∙ ap (λ (q : ℕ). drop q d) k))
     ∙ take-append-drop (m - j) (drop j d)) in
-    rw (take_take at m d (omega arith))
+    rw (take-take at m d (omega arith))
     (append_assoc (take at d) (x ++ drop j (take m d)) (drop m d)
     ∙ ap (λ (t : List ℕ). take at d ++ t) (append_assoc x (drop j (take m d)) (drop m d) ∙ ap (λ (t : List ℕ). x ++ t) rest))
 
@@ -129,15 +129,15 @@ put_three d x y z at n m ex ey h =
 pub part_before : (d w : List ℕ) (at p n : ℕ) → p + n ≤ at → at ≤ length d → take n (drop p (put_at d at w)) ≡ take n (drop p d)
 unfolding put_at
 part_before d w at p n h l =
-    let k : length (take at d) ≡ at = length_take_le at d l in
+    let k : length (take at d) ≡ at = length-take-le at d l in
     rw (drop-append-le p (take at d) (w ++ drop (at + length w) d) (omega arith), drop_take p at d)
     (take-append-le n (take (at - p) (drop p d)) (w ++ drop (at + length w) d) (simp (length-take, length-drop) (omega arith))
-    ∙ take_take n (at - p) (drop p d) (omega arith))
+    ∙ take-take n (at - p) (drop p d) (omega arith))
 
 pub part_behind : (d w : List ℕ) (at p n : ℕ) → at + length w ≤ p → at ≤ length d → take n (drop p (put_at d at w)) ≡ take n (drop p d)
 unfolding put_at
 part_behind d w at p n h l =
-    let k : length (take at d) ≡ at = length_take_le at d l in
+    let k : length (take at d) ≡ at = length-take-le at d l in
     let a : p ≡ length (take at d) + (length w + (p - at - length w)) = omega arith in
     let b : at + length w + (p - at - length w) ≡ p = omega arith in
     ap (take n)
@@ -150,7 +150,7 @@ part_behind d w at p n h l =
 pub put_again : (d x y : List ℕ) (at : ℕ) → length x ≡ length y → at + length x ≤ length d → put_at (put_at d at x) at y ≡ put_at d at y
 unfolding put_at
 put_again d x y at e h =
-    let k : length (take at d) ≡ at = length_take_le at d (omega arith) in
+    let k : length (take at d) ≡ at = length-take-le at d (omega arith) in
     rw (
       take_at (take at d) (x ++ drop (at + length x) d) at k,
       drop_past (take at d) (x ++ drop (at + length x) d) at (length y) k,

@@ -12,7 +12,7 @@ use native.Mathlib.Omega.{arith}
 use borrow.Author.Rules.{rules}
 use lib.Dec.{ltb}
 use lib.ListN.{get_or, take, drop}
-use lib.Seq.{take_take, get_or-take}
+use lib.Seq.{take-take, get_or-take}
 use Rattle.octets.specs.Octets.{all_zero}
 use Rattle.heads.specs.declared.Head.{Head}
 use Rattle.heads.specs.Head.{part, address_length, has_last_seen, has_direct, has_gossip, is_mutual, last_seen, timestamp, gossip_timestamp, direct_length, gossip_length, head_of, clear, head_seen, bits_of}
@@ -44,7 +44,7 @@ module _ (s : List ℕ) where
 
   -- a part within the first 40 octets
   part_first : (at n : ℕ) → at + n ≤ 40 → take n (drop at (take 40 s)) ≡ take n (drop at s)
-  part_first at n h = rw (drop_take at 40 s) (take_take n (40 - at) (drop at s) (omega arith))
+  part_first at n h = rw (drop_take at 40 s) (take-take n (40 - at) (drop at s) (omega arith))
 
   bits_first : get_or (take 40 s) 4 0 ≡ get_or s 4 0
   bits_first = get_or-take 40 s 4 0 (omega arith)

@@ -12,7 +12,7 @@ use mathlib.Core.Path.{◌≡◌, refl, sym, ap, ◌∙◌}
 use mathlib.Core.Bool.{Bool, true, false, cond, ◌&&◌}
 use mathlib.Core.List.{List, ◌∷◌, ◌++◌}
 use native.Mathlib.Omega.{arith}
-use borrow.Author.Tests.{eqb_true, eqb-false, eq_eqb, lt_ltb}
+use borrow.Author.Tests.{eqb-true, eqb-false, eq-eqb, lt-ltb}
 use lib.Dec.{eqb}
 use lib.ListN.{length, take, drop, replicate}
 use Rattle.octets.specs.Octets.{AllOctets, all_zero}
@@ -36,7 +36,7 @@ pub record Fit (n : Head) : Type 0 where
 
 -- a bit of the sum of the four
 bit_is : (a : Bool) (x : ℕ) → x ≡ cond a 1 0 → eqb x 1 ≡ a
-bit_is true x e = eq_eqb x 1 e
+bit_is true x e = eq-eqb x 1 e
 bit_is false x e = rw e
 
 worth_of : (a : Bool) (w : ℕ) → cond a w 0 ≡ cond a 1 0 * w
@@ -128,7 +128,7 @@ module _ (n : Head) where
 
     pub clear_kept : clear (a ∷ b ∷ (head_octets n ++ r)) ≡ true
     unfolding clear
-    clear_kept = rw (at_bits, at_clear, at_clear_too, lt_ltb (bits_of n) 16 bits_low) no_content
+    clear_kept = rw (at_bits, at_clear, at_clear_too, lt-ltb (bits_of n) 16 bits_low) no_content
 
   times_octets : AllOctets (times n)
   unfolding times
@@ -154,7 +154,7 @@ worth : (w n : ℕ) → cond (odd n) w 0 ≡ (n % 2) * w
 worth w n =
     by_test (odd n)
     (λ t.
-    let e : n % 2 ≡ 1 = eqb_true (n % 2) 1 t in
+    let e : n % 2 ≡ 1 = eqb-true (n % 2) 1 t in
     rw (t, e) (omega arith))
     (λ f.
     let e : n % 2 ≡ 0 = omega (arith, eqb-false (n % 2) 1 f) in

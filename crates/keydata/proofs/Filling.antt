@@ -8,11 +8,11 @@ use Prim.Native.Nat.{ℕ, ◌+◌, ◌-◌, ◌<◌, ◌≤◌}
 use mathlib.Core.Path.{◌≡◌, refl, sym, ap, ◌∙◌}
 use mathlib.Core.List.{List, [], ◌∷◌, ◌++◌, append_assoc, append-nil}
 use mathlib.Core.Option.{Option, some, none}
-use native.Mathlib.Nat.{zero_add}
+use native.Mathlib.Nat.{zero-add}
 use native.Mathlib.Omega.{arith}
 use borrow.Author.Rules.{rules}
 use borrow.Author.Tests.{le-leb, lt-leb}
-use lib.ListN.{length, drop, set, length_append, length-set}
+use lib.ListN.{length, drop, set, length-append, length-set}
 use Rattle.octets.specs.Written.{put_at, onto}
 use Rattle.octets.proofs.Lists.{drop_done}
 use Rattle.octets.specs.Octets.{blank, without_blanks}
@@ -83,8 +83,8 @@ module _ (s : List ℕ) (at : ℕ) (d : List ℕ) (to : ℕ) (out : List ℕ) (i
       record {
         octets = h.octets ++ k.octets;
         reads = h.reads ∙ rw k.reads (before_all _ _ _);
-        writes = k.writes ∙ rw (h.writes, h.counts) (put_both d to h.octets k.octets (simp length_append m));
-        counts = simp length_append (omega (arith, h.counts, k.counts));
+        writes = k.writes ∙ rw (h.writes, h.counts) (put_both d to h.octets k.octets (simp length-append m));
+        counts = simp length-append (omega (arith, h.counts, k.counts));
         upto = k.upto;
         room = omega (arith, k.room, run_long);
         onward = omega (arith, h.onward, k.onward);
@@ -116,7 +116,7 @@ last_octets s at v e = rw (e, drop_done s (length s) (omega arith), without_none
 -- octets that go on with v, where not even v has room
 too_long : (v : List ℕ) (o : Option (List ℕ)) (room : ℕ) → room < length v → NoneFit (before v o) room
 too_long v o room l = record {
-  over = λ w q. let r = behind_three v w o q in omega (arith, ap length r.1, length_append v (octets_in o));
+  over = λ w q. let r = behind_three v w o q in omega (arith, ap length r.1, length-append v (octets_in o));
 }
 
 pub nothing_fits : (room : ℕ) → NoneFit none room
@@ -214,11 +214,11 @@ module _ (s d out : List ℕ) (i o : ℕ) (h : Run s 0 d 0 out i o) (out₁ : Li
 
     pub decoded : Octets n ≡ decoded_of (decode (without_blanks s)) (length d)
     unfolding decoded_of
-    decoded = rw (all_octets, le-leb _ _ all_there) (ap Octets (all_run.counts ∙ zero_add _))
+    decoded = rw (all_octets, le-leb _ _ all_there) (ap Octets (all_run.counts ∙ zero-add _))
 
     pub decodes : Decodes (decode (without_blanks s)) d out₂ (Octets n)
     unfolding Decodes octets_in onto put_at
-    decodes = rw all_octets (all_run.writes ∙ rw zero_add)
+    decodes = rw all_octets (all_run.writes ∙ rw zero-add)
 
   pub refused : g ≡ TRefused → Refused ≡ decoded_of (decode (without_blanks s)) (length d)
   unfolding TurnedTo
@@ -228,7 +228,7 @@ module _ (s d out : List ℕ) (i o : ℕ) (h : Run s 0 d 0 out i o) (out₁ : Li
       record {
         over = λ w u.
             let f = behind_three both.octets w _ (sym both.reads ∙ u) in
-            omega (arith, z.over _ f.0, ap length f.1, length_append both.octets (octets_in (decode (without_blanks (drop j s)))), both.counts, run_long s 0 d 0 out₁ j p both);
+            omega (arith, z.over _ f.0, ap length f.1, length-append both.octets (octets_in (decode (without_blanks (drop j s)))), both.counts, run_long s 0 d 0 out₁ j p both);
       }
 
 pub refused_holds : (o : Option (List ℕ)) (d out : List ℕ) → Decodes o d out Refused

@@ -13,7 +13,7 @@ use mathlib.Core.Logic.{⊎_elim}
 use mathlib.Core.List.{List, [], ◌∷◌}
 use mathlib.Core.Option.{Option, some, none}
 use native.Mathlib.Omega.{arith}
-use borrow.Author.Tests.{leb-true, le-leb, lt_ltb, ltb_true}
+use borrow.Author.Tests.{leb-true, le-leb, lt-ltb, ltb-true}
 use lib.Dec.{leb, ltb}
 use lib.ListN.{length, get_or, get_or-eq_default}
 use Rattle.octets.specs.Octets.{AllOctets, without_blanks}
@@ -107,13 +107,13 @@ is_octet x = ltb x 256
 all_octets : (s : List ℕ) → AllOctets s → every is_octet s ≡ true
 unfolding every is_octet
 all_octets [] h = refl
-all_octets (x ∷ s) h = rw (lt_ltb x 256 (h 0)) (all_octets s (λ i. h (suc i)))
+all_octets (x ∷ s) h = rw (lt-ltb x 256 (h 0)) (all_octets s (λ i. h (suc i)))
 
 octets_all : (s : List ℕ) → every is_octet s ≡ true → AllOctets s
 unfolding is_octet
 octets_all s e i =
     ⊎_elim
-    (λ (l : i < length s). ltb_true (get_or s i 0) 256 (every_at is_octet s e i l))
+    (λ (l : i < length s). ltb-true (get_or s i 0) 256 (every_at is_octet s e i l))
     (λ (l : length s ≤ i). rw (get_or-eq_default s 0 {n = i} l) (omega arith))
     (lt_or_le i (length s))
 

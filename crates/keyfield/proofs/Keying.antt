@@ -9,11 +9,11 @@ use mathlib.Core.Bool.{and-false}
 use mathlib.Core.List.{List, ◌++◌, append_assoc}
 use mathlib.Core.Option.{Option, some, none}
 use native.Mathlib.Omega.{arith}
-use native.Mathlib.Nat.{sub_zero}
+use native.Mathlib.Nat.{sub-zero}
 use borrow.Author.Rules.{rules}
 use borrow.Author.Tests.{lt-leb}
-use lib.ListN.{length, take, drop, length_append}
-use lib.Seq.{length_take_le, take_at}
+use lib.ListN.{length, take, drop, length-append}
+use lib.Seq.{length-take-le, take_at}
 use Rattle.octets.specs.Written.{onto}
 use Rattle.octets.specs.Octets.{without_blanks}
 use Rattle.letters.specs.Base64.{decode, octets_in}
@@ -41,7 +41,7 @@ module _ (text : List ℕ) (limit : ℕ) (d : List ℕ) (l : limit ≤ length d)
   room = take (limit - 0) (drop 0 d)
 
   room_is : length room ≡ limit
-  room_is = rw sub_zero (length_take_le limit d l)
+  room_is = rw sub-zero (length-take-le limit d l)
 
   module _ (g : Decoded) (e : g ≡ decoded_of (decode (without_blanks text)) (length (take (limit - 0) (drop 0 d)))) where
     told : g ≡ decoded_of (decode (without_blanks text)) limit
@@ -74,7 +74,7 @@ module _ (text : List ℕ) (limit : ℕ) (d : List ℕ) (l : limit ≤ length d)
 
         long : (rest : List ℕ) → n ≤ length (out ++ rest)
         unfolding onto
-        long rest = rw (octets_held _ room out g n p k) (simp length_append (omega (arith, answered.1)))
+        long rest = rw (octets_held _ room out g n p k) (simp length-append (omega (arith, answered.1)))
 
         pub key_found : KeyAs limit text (take 0 d ++ (out ++ drop (limit - 0) (drop 0 d))) (Length n)
         unfolding KeyAs

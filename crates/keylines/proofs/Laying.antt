@@ -13,8 +13,8 @@ use mathlib.Core.Path.{◌≡◌, refl, sym, ap, ◌∙◌}
 use mathlib.Core.List.{List, [], ◌∷◌, ◌++◌, append_assoc}
 use native.Mathlib.Omega.{arith}
 use borrow.Author.Rules.{rules}
-use lib.ListN.{length, get_or, take, drop, set, length_append, length-drop, length-set}
-use lib.Seq.{length_take_le, drop-drop}
+use lib.ListN.{length, get_or, take, drop, set, length-append, length-drop, length-set}
+use lib.Seq.{length-take-le, drop-drop}
 use Rattle.octets.specs.Written.{put_at}
 use Rattle.octets.proofs.Lists.{drop_one, drop_done}
 use Rattle.octets.proofs.Writing.{Wrote, begin_at, kept, counted, puts, done_at}
@@ -122,11 +122,11 @@ module _ (s d : List ℕ) (i at k : ℕ) (f : Four) (e : encode (drop i s) ≡ c
   piece_room = rw piece_is at h
 
   pub room_break : at + length (line_break k) ≤ length d
-  room_break = omega (arith, simp length_append at piece_room)
+  room_break = omega (arith, simp length-append at piece_room)
 
   module _ (o : ℕ) (p : o ≡ at + length (line_break k)) where
     pub group_place : o + 4 ≡ at + length (piece s i k)
-    group_place = rw (piece_is, length_append) (omega arith)
+    group_place = rw (piece_is, length-append) (omega arith)
 
     module _ (d₁ : List ℕ) (q : d₁ ≡ put_at d at (line_break k)) where
       pub room_four : o + 4 ≤ length d₁
@@ -177,7 +177,7 @@ module _ (s d out : List ℕ) (at i o k : ℕ) (h : Laid s d out at i o k) where
     to_lay = rw (laid_piece k s i l) at h.going
 
     pub room_group : o + length (piece s i k) ≤ length out
-    room_group = omega (arith, simp length_append at (has_room _ d out o _ to_lay))
+    room_group = omega (arith, simp length-append at (has_room _ d out o _ to_lay))
 
     pub laid_more : (o₁ : ℕ) → o₁ ≡ o + length (piece s i k) → (out₁ : List ℕ) → out₁ ≡ put_at out o (piece s i k)
         → (k₁ : ℕ) → k₁ ≡ after k → Laid s d out₁ at (i + 3) o₁ k₁
@@ -203,7 +203,7 @@ module _ (s d out : List ℕ) (at i o k : ℕ) (h : Laid s d out at i o k) where
     all_laid = done_at _ d _ at (o + 2) h.fits (put_two _ d out o 13 10 [] to_end)
 
     pub place_behind : o + 2 ≡ at + length (laid 76 (encode s))
-    place_behind = omega (arith, counted _ d out o _ to_end, length_append (take at d) (laid 76 (encode s)), length_take_le at d (omega (arith, h.fits)))
+    place_behind = omega (arith, counted _ d out o _ to_end, length-append (take at d) (laid 76 (encode s)), length-take-le at d (omega (arith, h.fits)))
 
 pub ruleset laying = (laid_none, kept_long, room_group, laid_more, end_first, end_second, all_laid, place_behind, rules)
 

@@ -10,7 +10,7 @@ use mathlib.Core.Bool.{Bool, true, false}
 use mathlib.Core.List.{List}
 use mathlib.Core.Option.{Option, some, none}
 use native.Mathlib.Omega.{arith}
-use native.Mathlib.Nat.{sub_zero}
+use native.Mathlib.Nat.{sub-zero}
 use borrow.Author.Rules.{rules}
 use lib.ListN.{length, take, drop}
 use Rattle.octets.specs.Written.{onto}
@@ -96,7 +96,7 @@ module _ (limit : ℕ) (s key : List ℕ) (r : Read) (a : ReadAs limit s key r) 
 
         -- as it is looked for among the recipients
         pub accept_canonical : is_canonical (take (n - 0) (drop 0 address)) ≡ true
-        accept_canonical = rw (sub_zero, accept_named.there) (plain_is_canonical (take (to - from) (drop from s)) accept_plain)
+        accept_canonical = rw (sub-zero, accept_named.there) (plain_is_canonical (take (to - from) (drop from s)) accept_plain)
 
 -- by the test first, then by the places of the address
 module _ (limit : ℕ) (recipients : List (List ℕ)) (s address key : List ℕ) (n : ℕ) (b : Bool) where
@@ -105,7 +105,7 @@ module _ (limit : ℕ) (recipients : List (List ℕ)) (s address key : List ℕ)
     field = record { address = canonical (take (to - from) (drop from s)); is_mutual = m; key = take l key }
 
     tested : b ≡ among field.address recipients
-    tested = e ∙ ap (λ (x : List ℕ). among x recipients) (rw sub_zero o.there)
+    tested = e ∙ ap (λ (x : List ℕ). among x recipients) (rw sub-zero o.there)
 
     by_field : accepted_for limit recipients s ≡ accepted_by recipients (some field)
     unfolding accepted_for

@@ -8,7 +8,7 @@ use mathlib.Core.Path.{◌≡◌, ap}
 use mathlib.Core.Bool.{true}
 use mathlib.Core.List.{List, []}
 use native.Mathlib.Omega.{arith}
-use native.Mathlib.Nat.{sub_zero}
+use native.Mathlib.Nat.{sub-zero}
 use borrow.Author.Rules.{rules}
 use lib.ListN.{length, take, drop}
 use Rattle.header.specs.Header.{readable}
@@ -59,7 +59,7 @@ module _ (limit : ℕ) (recipients : List (List ℕ)) (s : List ℕ) (at : ℕ) 
     module _ (n e : ℕ) (q : r ≡ Value n e) (address key : List ℕ) (o : Accepted)
         (a : AcceptedAs limit (accepted_for limit recipients (take (n - 0) (drop 0 text))) address key o) where
       answered : AcceptedAs limit (accepted_for limit recipients (take n text)) address key o
-      answered = rw sub_zero at a
+      answered = rw sub-zero at a
 
       pub hear_next : o ≡ NotAccepted → Past (accepted_for limit recipients) AutocryptGossip s at e
       hear_next y =

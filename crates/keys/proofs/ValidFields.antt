@@ -6,7 +6,7 @@ use Prim.Native.Nat.{ℕ, ◌-◌}
 use mathlib.Core.Path.{◌≡◌}
 use mathlib.Core.Bool.{Bool}
 use mathlib.Core.List.{List, []}
-use native.Mathlib.Nat.{sub_zero}
+use native.Mathlib.Nat.{sub-zero}
 use native.Mathlib.Omega.{arith}
 use borrow.Author.Rules.{rules}
 use lib.ListN.{length, take, drop}
@@ -38,7 +38,7 @@ module _ (limit : ℕ) (sender s : List ℕ) (at : ℕ) where
 
     module _ (n e : ℕ) (q : r ≡ Value n e) (key : List ℕ) (o : Own) (a : OwnAs limit sender (valid_for limit sender (take (n - 0) (drop 0 text))) key o) where
       answered : OwnAs limit sender (valid_for limit sender (take n text)) key o
-      answered = rw sub_zero at a
+      answered = rw sub-zero at a
 
       pub try_next : o ≡ NoKey → Past (valid_for limit sender) Autocrypt s at e
       try_next y =

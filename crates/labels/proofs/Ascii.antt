@@ -9,7 +9,7 @@ use mathlib.Core.Path.{◌≡◌, refl, sym, ◌∙◌}
 use mathlib.Core.Bool.{Bool, true, false, ◌&&◌, false≢true, or-false}
 use mathlib.Core.List.{List, [], ◌∷◌}
 use mathlib.Core.Logic.{⊎_elim}
-use borrow.Author.Tests.{ltb_true, le-leb, lt-leb, lt_ltb}
+use borrow.Author.Tests.{ltb-true, le-leb, lt-leb, lt-ltb}
 use lib.Dec.{leb, ltb}
 use lib.ListN.{length}
 use Rattle.octets.specs.Octets.{lowered}
@@ -45,7 +45,7 @@ octets_ascii : (s : List ℕ) → all_ascii s ≡ true → every label_octet s �
 unfolding every label_octet
 octets_ascii [] a = refl
 octets_ascii (x ∷ s) a =
-    rw (lt-leb 128 x (ltb_true x 128 (and_left (ltb x 128) (all_ascii s) a)), or-false (belongs Label x), octets_ascii s (and_right (ltb x 128) (all_ascii s) a))
+    rw (lt-leb 128 x (ltb-true x 128 (and_left (ltb x 128) (all_ascii s) a)), or-false (belongs Label x), octets_ascii s (and_right (ltb x 128) (all_ascii s) a))
 
 pub label_ascii : (s : List ℕ) → all_ascii s ≡ true → label s ≡ ascii_label s
 unfolding label fits ascii_label
@@ -70,7 +70,7 @@ module _ (s : List ℕ) (h : ascii_label s ≡ true) where
     where
       low : (x : ℕ) → belongs Label x ≡ true → ltb x 0x80 ≡ true
       low x e =
-          ⊎_elim (λ (l : x < 128). lt_ltb x 128 l) (λ (l : 128 ≤ x). absurd (false≢true (sym (high_label x l) ∙ e))) (lt_or_le x 128)
+          ⊎_elim (λ (l : x < 128). lt-ltb x 128 l) (λ (l : 128 ≤ x). absurd (false≢true (sym (high_label x l) ∙ e))) (lt_or_le x 128)
 
   pub ascii_label_lem : label s ≡ true
   ascii_label_lem = label_ascii s ascii_text ∙ h

@@ -6,7 +6,7 @@ use Prim.Native.Nat.{ℕ}
 use mathlib.Core.Path.{◌≡◌, refl}
 use mathlib.Core.Bool.{Bool, true, false, ◌&&◌, ◌||◌, or-true, or-false}
 use mathlib.Core.List.{List}
-use borrow.Author.Tests.{eqb_true}
+use borrow.Author.Tests.{eqb-true}
 use lib.Dec.{leb, eqb}
 use lib.ListN.{length}
 use Rattle.octets.specs.Tests.{every}
@@ -40,5 +40,5 @@ label_atom x e =
     (λ h. rw h (or-true (letter x || digit x || among signs x)))
     (λ h.
     by_test (eqb x 45)
-    (λ k. rw (eqb_true x 45 k))
+    (λ k. rw (eqb-true x 45 k))
     (λ k. let t : (letter x || digit x) ≡ true = rw (h, k, or-false, or-false) at e in rw t))

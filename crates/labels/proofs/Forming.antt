@@ -16,7 +16,7 @@ use mathlib.Core.List.{List, [], ◌∷◌, ◌++◌}
 use mathlib.Core.Option.{some, none}
 use mathlib.Core.Logic.{⊎_elim}
 use native.Mathlib.Omega.{arith}
-use borrow.Author.Tests.{leb-true, eqb_true, ltb_true, le-leb, lt-leb, lt_ltb, ne_eqb}
+use borrow.Author.Tests.{leb-true, eqb-true, ltb-true, le-leb, lt-leb, lt-ltb, ne_eqb}
 use lib.Dec.{leb, ltb, eqb}
 use lib.ListN.{length, get_or}
 use Rattle.octets.specs.Octets.{octet, lower, lowered}
@@ -68,7 +68,7 @@ form_low x e =
 
 form_small : (x : ℕ) → form_octet x ≡ true → lower x ≡ x
 unfolding form_octet lower
-form_small x e = eqb_true (lower x) x (at_octets form_octet (λ x. eqb (lower x) x) refl x (form_low x e) e)
+form_small x e = eqb-true (lower x) x (at_octets form_octet (λ x. eqb (lower x) x) refl x (form_low x e) e)
 
 form_label : (x : ℕ) → form_octet x ≡ true → label_octet x ≡ true
 unfolding form_octet label_octet belongs
@@ -101,7 +101,7 @@ lower_hyphen x =
 
 module _ (w : List ℕ) (e : every form_octet w ≡ true) where
   pub forms_ascii : all_ascii w ≡ true
-  forms_ascii = every_weaker form_octet (λ x. ltb x 0x80) (λ x h. lt_ltb x 128 (form_low x h)) w e
+  forms_ascii = every_weaker form_octet (λ x. ltb x 0x80) (λ x h. lt-ltb x 128 (form_low x h)) w e
 
   pub form_free : every (λ x. not (eqb x 46)) w ≡ true
   form_free = every_weaker form_octet (λ x. not (eqb x 46)) form_dot w e
@@ -142,7 +142,7 @@ ascii_octets : (s : List ℕ) → all_ascii s ≡ true → every label_octet s �
 unfolding every lowered
 ascii_octets [] a e = refl
 ascii_octets (x ∷ s) a e =
-    rw (label_lower x (ltb_true x 128 (and_left (ltb x 128) (all_ascii s) a)) (and_left (label_octet x) (every label_octet s) e))
+    rw (label_lower x (ltb-true x 128 (and_left (ltb x 128) (all_ascii s) a)) (and_left (label_octet x) (every label_octet s) e))
     (ascii_octets s (and_right (ltb x 128) (all_ascii s) a) (and_right (label_octet x) (every label_octet s) e))
 
 ascii_ends : (s : List ℕ) → free_ends s ≡ true → free_ends (lowered s) ≡ true
@@ -159,7 +159,7 @@ ascii_ends s e =
 -- a label with other octets: those of its code points that are ASCII, and that there are others
 point_one : (p : ℕ) → p < 128 → encoded_one p ≡ p ∷ []
 unfolding encoded_one
-point_one p l = rw (lt_ltb p 128 l)
+point_one p l = rw (lt-ltb p 128 l)
 
 basics : (ps : List ℕ) → every label_octet (encoded ps) ≡ true → every form_octet (below 128 (lower_points ps)) ≡ true
 unfolding encoded lower_points below every
@@ -181,7 +181,7 @@ fewer (p ∷ ps) e =
     ⊎_elim
     (λ (l : p < 128).
     let k : all_ascii (p ∷ encoded ps) ≡ false = rw (point_one p l) at e in
-    let m : all_ascii (encoded ps) ≡ false = rw (lt_ltb p 128 l) at k in
+    let m : all_ascii (encoded ps) ≡ false = rw (lt-ltb p 128 l) at k in
     rw (below_yes 128 (lower_point p) (lower_points ps) (point_low p l)) (omega (arith, fewer ps m)))
     (λ (l : 128 ≤ p). rw (below_no 128 (lower_point p) (lower_points ps) (point_past p l)) (omega (arith, below_at_most 128 (lower_points ps))))
     (lt_or_le p 128)

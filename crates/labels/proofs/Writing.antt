@@ -12,7 +12,7 @@ use mathlib.Core.Path.{◌≡◌, refl, sym, ap, ◌∙◌}
 use mathlib.Core.Bool.{Bool, true, false, not, ◌&&◌, ◌||◌}
 use mathlib.Core.List.{List, [], ◌++◌, append-nil}
 use mathlib.Core.Option.{some, none}
-use native.Mathlib.Nat.{sub_zero}
+use native.Mathlib.Nat.{sub-zero}
 use native.Mathlib.Omega.{arith}
 use borrow.Author.Rules.{rules}
 use borrow.Author.Tests.{le-leb, lt-leb, not-true, not-false}
@@ -20,7 +20,7 @@ use mir.Syntax.{w64}
 use mir.Val.{Fits}
 use lib.Dec.{leb, eqb}
 use lib.ListN.{length, get_or, take}
-use lib.Seq.{length_take_le}
+use lib.Seq.{length-take-le}
 use Rattle.octets.specs.Octets.{lowered}
 use Rattle.octets.specs.Written.{put_at}
 use Rattle.octets.specs.Puts.{Written, TooLong, Puts, Told, Untold, PutsText}
@@ -136,7 +136,7 @@ module _ (d s p₀ p : List ℕ) (l : length p₀ ≡ 59) (o : Read) where
     is_code = ap code_of shown.text
 
     pub code_count : n ≡ length (take n p)
-    code_count = sym (length_take_le n p shown.upto)
+    code_count = sym (length-take-le n p shown.upto)
 
     pub code_points : length d ≤ 59 → Points (length d) (take n p)
     code_points h =
@@ -227,13 +227,13 @@ module _ (s : List ℕ) (a : all_ascii s ≡ false) where
       coded_end = omega (arith, told_long c₀ 0 c n _ told, told.room)
 
       pub coded_count : n ≡ length (take n c)
-      coded_count = sym (length_take_le n c coded_end)
+      coded_count = sym (length-take-le n c coded_end)
 
       pub coded_few : length (take n c) ≤ 59
       coded_few = omega (arith, coded_count, told.room)
 
       pub coded_put : (e : List ℕ) (t : Laid) → Puts d e at (opening ++ take n c) t → PutsText d e at (fitting (label_form s)) t
-      coded_put e t g = put_told d e at _ (opening ++ told.text) fit_form t (rw (sym (rw sub_zero at (told_front c₀ c n _ told))) g)
+      coded_put e t g = put_told d e at _ (opening ++ told.text) fit_form t (rw (sym (rw sub-zero at (told_front c₀ c n _ told))) g)
 
 pub ruleset putting_coded = (coded_none, coded_end, coded_count, coded_few, coded_put, rules)
 

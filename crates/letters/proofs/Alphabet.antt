@@ -13,7 +13,7 @@ use mathlib.Core.List.{List}
 use native.Mathlib.Numerals.{add-one}
 use native.Mathlib.Omega.{arith}
 use borrow.Author.Rules.{rules}
-use borrow.Author.Tests.{eqb_true, leb-true}
+use borrow.Author.Tests.{eqb-true, leb-true}
 use lib.Dec.{leb, eqb}
 use lib.ListN.{get_or, set, replicate}
 use Rattle.octets.specs.Octets.{ascii}
@@ -95,7 +95,7 @@ letter_known v h = all_below_lem (λ v. eqb (code_of (sign_of (letter v))) v) 64
 
 pub sign_of_letter : (v : ℕ) → v < 64 → sign_of (letter v) ≡ Value v
 sign_of_letter v h =
-    let e : code_of (sign_of (letter v)) ≡ v = eqb_true _ v (letter_known v h) in
+    let e : code_of (sign_of (letter v)) ≡ v = eqb-true _ v (letter_known v h) in
     sym (is_value (sign_of (letter v)) (below (letter v)) (omega arith)) ∙ ap Value e
 
 -- the table once the values below n are in it
@@ -108,7 +108,7 @@ unfolding sign_of letter code_of tabled
 table_known x h = all_below_lem (λ x. eqb (get_or (set (tabled 64) 61 64) x 0) (code_of (sign_of x))) 256 refl x h
 
 pub whole : Signs (set (tabled 64) 61 64)
-whole = record { at = λ x h. eqb_true _ _ (table_known x h) }
+whole = record { at = λ x h. eqb-true _ _ (table_known x h) }
 
 -- `letters` and `letter_of`
 abbrev alphabet : List ℕ
@@ -119,7 +119,7 @@ unfolding letter
 alphabet_known v h = all_below_lem (λ v. eqb (get_or alphabet v 0) (letter v)) 64 refl v h
 
 pub all_letters : Letters alphabet
-all_letters = record { at = λ v h. eqb_true _ _ (alphabet_known v h) }
+all_letters = record { at = λ v h. eqb-true _ _ (alphabet_known v h) }
 
 pub ruleset lettering = (all_letters, rules)
 

@@ -9,7 +9,7 @@ use mathlib.Core.Bool.{Bool, true, false, ◌||◌}
 use mathlib.Core.List.{List, [], ◌∷◌}
 use mathlib.Core.Logic.{⊎_elim}
 use native.Mathlib.Omega.{arith}
-use borrow.Author.Tests.{eqb_true, le_ltb, ne_eqb}
+use borrow.Author.Tests.{eqb-true, le-ltb, ne_eqb}
 use lib.Dec.{eqb}
 use Rattle.octets.specs.Octets.{blank}
 use Rattle.octets.proofs.Lists.{lt_or_le}
@@ -28,7 +28,7 @@ letter_in v e = ⊎_elim (λ l. of_value (sign_of_letter v l)) of_slash (lt_or_l
 
     of_slash : 64 ≤ v → ⊥
     of_slash l =
-        let q : letter v ≡ 47 = rw (le_ltb v 26 (omega arith), le_ltb v 52 (omega arith), le_ltb v 62 (omega arith), ne_eqb v 62 (omega arith)) in
+        let q : letter v ≡ 47 = rw (le-ltb v 26 (omega arith), le-ltb v 52 (omega arith), le-ltb v 62 (omega arith), ne_eqb v 62 (omega arith)) in
         let z : ◌≡◌ {A = ℕ} 0 1 = (let r = ap sign_of q in cc) in
         omega arith
 
@@ -58,15 +58,15 @@ module _ (test : ℕ → Bool) (other : (x : ℕ) → test x ≡ true → sign_o
 
 -- one character that stands for nothing, as ";"
 pub one_other : (c : ℕ) → sign_of c ≡ Other → (x : ℕ) → eqb x c ≡ true → sign_of x ≡ Other
-one_other c h x e = rw (eqb_true x c e) h
+one_other c h x e = rw (eqb-true x c e) h
 
 -- two characters that stand for nothing
 pub either_other : (a b : ℕ) → sign_of a ≡ Other → sign_of b ≡ Other → (x : ℕ) → (eqb x a || eqb x b) ≡ true → sign_of x ≡ Other
 either_other a b h k x e = go (eqb x a) refl e
   where
     go : (t : Bool) → eqb x a ≡ t → (t || eqb x b) ≡ true → sign_of x ≡ Other
-    go true q r = rw (eqb_true x a q) h
-    go false q r = rw (eqb_true x b r) k
+    go true q r = rw (eqb-true x a q) h
+    go false q r = rw (eqb-true x b r) k
 
 pub blank_other : (x : ℕ) → blank x ≡ true → sign_of x ≡ Other
 unfolding blank sign_of

@@ -7,7 +7,7 @@
 use Prim.Native.Nat.{ℕ, ◌+◌, ◌*◌, ◌/◌, ◌%◌, ◌<◌}
 use mathlib.Core.Path.{◌≡◌, refl, sym, ◌∙◌}
 use borrow.Author.Rules.{rules}
-use borrow.Author.Tests.{eq_eqb, ne_eqb}
+use borrow.Author.Tests.{eq-eqb, ne_eqb}
 use Rattle.letters.specs.Base64.{sign_of, closed, grouped, group_of}
 use Rattle.letters.specs.Tables.{Low}
 use Rattle.letters.specs.declared.Sign.{Sign}
@@ -25,7 +25,7 @@ module _ (p q : ℕ) where
 
   pub two_is : (r : ℕ) → r % 4 ≡ 0 → Two (p * 4 + q / 16) (q % 16 * 16 + r / 4) ≡ closed p q (Value r) Pad
   unfolding closed
-  two_is r e = rw (eq_eqb (r % 4) 0 e)
+  two_is r e = rw (eq-eqb (r % 4) 0 e)
 
   pub two_not : (r : ℕ) → (r % 4 ≡ 0 → ⊥) → Broken ≡ closed p q (Value r) Pad
   unfolding closed
@@ -33,7 +33,7 @@ module _ (p q : ℕ) where
 
   pub one_is : q % 16 ≡ 0 → One (p * 4 + q / 16) ≡ closed p q Pad Pad
   unfolding closed
-  one_is e = rw (eq_eqb (q % 16) 0 e)
+  one_is e = rw (eq-eqb (q % 16) 0 e)
 
   pub one_not : (q % 16 ≡ 0 → ⊥) → Broken ≡ closed p q Pad Pad
   unfolding closed

@@ -14,7 +14,7 @@ use mathlib.Core.Path.{◌≡◌, refl, sym, ap, ◌∙◌}
 use mathlib.Core.Bool.{Bool, true, false, not, ◌&&◌}
 use mathlib.Core.List.{List}
 use mathlib.Core.Option.{Option, some, none}
-use native.Mathlib.Nat.{sub_zero}
+use native.Mathlib.Nat.{sub-zero}
 use native.Mathlib.Omega.{arith}
 use borrow.Author.Rules.{rules}
 use borrow.Author.Tests.{leb-true, not-true, not-false}
@@ -129,7 +129,7 @@ module _ (outer : List ℕ) (survey : Survey) (payload text₀ : List ℕ) (h : 
       address_within = left_within (sender_in (fields_in outer)) r t out d l n q
 
       is_sender : sender_in (fields_in outer) ≡ some (take (n - 0) (drop 0 out))
-      is_sender = rw sub_zero (left_is (sender_in (fields_in outer)) r t out d l n q)
+      is_sender = rw sub-zero (left_is (sender_in (fields_in outer)) r t out d l n q)
 
       module _ (b : Bool) (p : b ≡ readable payload) where
         pub payload_answered : (list : List ℕ) → not b ≡ true → Refused PayloadBlock ≡ linted_of outer payload (length list)

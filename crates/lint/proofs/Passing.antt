@@ -16,7 +16,7 @@ use mathlib.Core.Option.{none}
 use native.Mathlib.Omega.{arith}
 use borrow.Author.Rules.{rules}
 use borrow.Author.Tests.{le-leb, lt-leb}
-use lib.ListN.{length, length_append}
+use lib.ListN.{length, length-append}
 use Rattle.octets.specs.Written.{onto}
 use Rattle.refusals.specs.Rows.{first_of, answered_by}
 use Rattle.refusals.specs.declared.Refusal.TheVariants.{OutputLength}
@@ -106,7 +106,7 @@ module _ (outer payload sender recipients tags places : List ℕ) where
           let all : numbers_of (missing valid ++ (own ++ carried)) ≡ m ++ (numbers_of own ++ numbers_of carried) =
           numbers_both (missing valid) (own ++ carried) ∙ ap (λ (t : List ℕ). m ++ t) (numbers_both own carried) in
           record {
-            ended = s.ended ∙ rw all (simp length_append (omega (arith, k.ended, front_is)));
+            ended = s.ended ∙ rw all (simp length-append (omega (arith, k.ended, front_is)));
             laid =
                 s.laid
                 ∙ laid_then list₁ list₂ front first.end (numbers_of own) (numbers_of carried) k.laid k.ended
@@ -146,7 +146,7 @@ module _ (outer payload sender recipients : List ℕ) where
         omega (
           arith,
           counted_is,
-          length_append (faults_in Outer sender (unrolled recipients) (fields_in outer)) (faults_in Payload sender (unrolled recipients) (fields_in payload)),
+          length-append (faults_in Outer sender (unrolled recipients) (fields_in outer)) (faults_in Payload sender (unrolled recipients) (fields_in payload)),
           block_few Outer sender (unrolled recipients) outer h.outer_readable,
           block_few Payload sender (unrolled recipients) payload h.payload_readable,
         )
@@ -165,7 +165,7 @@ module _ (outer payload sender recipients : List ℕ) where
             counted_is,
             numbers_long (missing c.valid),
             ap (λ (l : List Fault). length l) mail_is,
-            length_append (missing c.valid) both,
+            length-append (missing c.valid) both,
           )
 
       pub room_short : (list : List ℕ) → length list < n → Refused OutputLength ≡ listed_of mail (length list)

@@ -13,7 +13,7 @@ use mathlib.Core.Bool.{Bool, true, false, not, cond, ◌||◌}
 use mathlib.Core.List.{List, [], ◌∷◌, ◌++◌}
 use mathlib.Core.Option.{Option, some, none}
 use native.Mathlib.Omega.{arith}
-use lib.ListN.{length, take, drop, length_append, length-take}
+use lib.ListN.{length, take, drop, length-append, length-take}
 use Rattle.octets.specs.Octets.{lowered, same_name}
 use Rattle.octets.specs.Finding.{holds}
 use Rattle.octets.specs.Options.{or_else, total}
@@ -65,7 +65,7 @@ bits w =
 
 kinds_next : (w : Flaws) (n : ℕ) → length (kinds_below w (suc n)) ≡ length (kinds_below w n) + bit (has_kind w n)
 unfolding kinds_below only_if
-kinds_next w n = length_append (kinds_below w n) (only_if (has_kind w n) n) ∙ by_test (has_kind w n) (λ e. rw e) (λ e. rw e)
+kinds_next w n = length-append (kinds_below w n) (only_if (has_kind w n) n) ∙ by_test (has_kind w n) (λ e. rw e) (λ e. rw e)
 
 pub kinds_count : {w u : Flaws} → w ≡ u → length (kinds u) ≡ bits w
 unfolding kinds kinds_below has_kind
@@ -124,7 +124,7 @@ weight_at s at n v e p =
     omega (
       arith,
       p,
-      length_append (field_at s at n v e).name (field_at s at n v e).value,
+      length-append (field_at s at n v e).name (field_at s at n v e).value,
       take_short (n - at) (drop at s),
       unfolded_short (take (e - v) (drop v s)),
       take_short (e - v) (drop v s),
@@ -174,7 +174,7 @@ module _ (sender : List ℕ) (recipients : List (List ℕ)) (seen : Bool) (f : F
         own_few sender seen f.value,
         bit_one (occurs Unknown f.value),
         bit_occurs Unknown f.value,
-        length_append f.name f.value,
+        length-append f.name f.value,
         name_long f.name names.autocrypt e,
       )
 
@@ -183,7 +183,7 @@ module _ (sender : List ℕ) (recipients : List (List ℕ)) (seen : Bool) (f : F
   unfolding is_kind
   gossip_weight side e =
       let v : List ℕ = f.value in
-      rw (length_append f.name v, name_long f.name names.gossip e)
+      rw (length-append f.name v, name_long f.name names.gossip e)
       (share_gossip side (length (kinds (gossip_flaws side recipients v))) (bit (occurs Unknown v)) (bit (occurs PreferEncrypt v)) (length v)
       (gossip_few side recipients v) (bit_one (occurs Unknown v)) (bit_one (occurs PreferEncrypt v)) (bit_occurs Unknown v) (bit_occurs PreferEncrypt v))
 
@@ -206,7 +206,7 @@ module _ (side : Side) (sender : List ℕ) (recipients : List (List ℕ)) where
   from_few seen place (f ∷ fs) =
       let ks : List ℕ = kinds (flaws_of side sender recipients seen f) in
       let later : List Fault = faults_from side sender recipients (seen || valid_in side sender f) (place + 1) fs in
-      rw (length_append (faults_at (side_number side) place ks) later, faults_long (side_number side) place ks)
+      rw (length-append (faults_at (side_number side) place ks) later, faults_long (side_number side) place ks)
       (share_sum side (length ks) (length later) (length (text_of f) + 1) (weight fs)
       (field_few sender recipients seen f side) (from_few (seen || valid_in side sender f) (place + 1) fs))
 
@@ -231,8 +231,8 @@ few_faults sender recipients outer payload o p =
     let t : List Fault = faults_from Payload sender recipients false 1 (fields_in payload) in
     omega (
       arith,
-      length_append (missing b) (s ++ t),
-      length_append s t,
+      length-append (missing b) (s ++ t),
+      length-append s t,
       missing_few b,
       from_few Outer sender recipients false 1 (fields_in outer),
       from_few Payload sender recipients false 1 (fields_in payload),

@@ -15,7 +15,7 @@ use mathlib.Core.Bool.{Bool, true, false, ◌||◌, or-false, or_assoc}
 use mathlib.Core.List.{List, [], ◌∷◌, ◌++◌, append_assoc, append-nil}
 use native.Mathlib.Omega.{arith}
 use borrow.Author.Rules.{rules}
-use lib.ListN.{length, take, drop, length_append, length-take, length-drop}
+use lib.ListN.{length, take, drop, length-append, length-take, length-drop}
 use Rattle.octets.specs.Options.{is_some, or_else}
 use Rattle.octets.proofs.Options.{else_front}
 use Rattle.header.specs.Header.{FieldText, limit}
@@ -39,7 +39,7 @@ module _ (at to : ℕ) (d a : List Fault) (e : to ≡ at + length (numbers_of d)
   laid_more list₀ list out l q = q ∙ rw (l, e, numbers_both d a) (laid_both list₀ at (numbers_of d) (numbers_of a))
 
   behind_more : (next : ℕ) → next ≡ to + length (numbers_of a) → next ≡ at + length (numbers_of (d ++ a))
-  behind_more next q = rw (numbers_both d a) (omega (arith, length_append (numbers_of d) (numbers_of a)))
+  behind_more next q = rw (numbers_both d a) (omega (arith, length-append (numbers_of d) (numbers_of a)))
 
 -- the value of a field, which is lent on
 module _ (s : List ℕ) (at n v e : ℕ) (r : Step) (t : r ≡ step_at s at) (q : r ≡ Field n v e) where
@@ -168,7 +168,7 @@ module _ (side : Side) (sender : List ℕ) (recipients : List (List ℕ)) (s d :
         near = h.near;
         few =
             rw (numbers_both h.found more)
-            (omega (arith, length_append (numbers_of h.found) (numbers_of more), h.few, numbers_most j.flaws number place, lies));
+            (omega (arith, length-append (numbers_of h.found) (numbers_of more), h.few, numbers_most j.flaws number place, lies));
         placed = omega (arith, h.placed, lies);
       })
 

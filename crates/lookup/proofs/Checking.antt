@@ -14,7 +14,7 @@ use mathlib.Core.Path.{◌≡◌, sym, ap, ◌∙◌}
 use mathlib.Core.Logic.{⊎_elim}
 use mathlib.Core.Bool.{Bool, true, false, not, ◌&&◌, or-false}
 use mathlib.Core.List.{List}
-use native.Mathlib.Nat.{sub_zero}
+use native.Mathlib.Nat.{sub-zero}
 use native.Mathlib.Omega.{arith}
 use borrow.Author.Tests.{not-true, not-false}
 use borrow.Author.Rules.{rules}
@@ -130,7 +130,7 @@ pub record Judged (how : Spelling) (t : List ℕ) (n i : ℕ) : Type 0 where
 
 pub judge_begin : (how : Spelling) (t : List ℕ) (n : ℕ) (w : Bool) → w ≡ whole t → not w ≡ false → n ≡ slots t → Judged how t n 0
 judge_begin how t n w ew nw en =
-    record { few = omega (arith, whole_few t (sym ew ∙ not-false w nw)); upto = omega arith; so_far = rw (sub_zero n) }
+    record { few = omega (arith, whole_few t (sym ew ∙ not-false w nw)); upto = omega arith; so_far = rw (sub-zero n) }
 
 module _ (how : Spelling) (t : List ℕ) (n i : ℕ) (h : Judged how t n i) where
   pub judge_next : (b : Bool) → i < n → b ≡ right_by how t i → not b ≡ false → Judged how t n (i + 1)

@@ -12,7 +12,7 @@ use mathlib.Core.Path.{◌≡◌, refl, sym, ◌∙◌}
 use mathlib.Core.Bool.{Bool, true, false, not, ◌&&◌, and-false}
 use mathlib.Core.List.{List}
 use native.Mathlib.Omega.{arith}
-use borrow.Author.Tests.{eqb_true, eqb-false, not-true, not-false}
+use borrow.Author.Tests.{eqb-true, eqb-false, not-true, not-false}
 use borrow.Author.Rules.{rules}
 use lib.Dec.{eqb}
 use lib.ListN.{length, get_or, take, drop, length-take}
@@ -109,7 +109,7 @@ module _ (t a : List ℕ) (n i : ℕ) (h : Scan (has_address a) t n i) where
 module _ (s a : List ℕ) where
   pub long_enough : (b : Bool) → b ≡ (marked s && eqb (length (address_of s)) (length a)) → not b ≡ false → Same (address_of s) a 0
   long_enough b p q =
-      same_begin (address_of s) a (eqb_true (length (address_of s)) (length a) (and_right (marked s) (eqb (length (address_of s)) (length a)) (sym p ∙ not-false b q)))
+      same_begin (address_of s) a (eqb-true (length (address_of s)) (length a) (and_right (marked s) (eqb (length (address_of s)) (length a)) (sym p ∙ not-false b q)))
 
   module _ (k : ℕ) (h : Same (address_of s) a k) (l : k < length a) where
     pub within_slot : length s ≡ slot_length → 40 + k < length s

@@ -10,7 +10,7 @@ use mathlib.Core.Bool.{Bool, true, false, not, ◌&&◌, ◌||◌, false≢true}
 use mathlib.Core.Option.{Option, some, none}
 use native.Mathlib.Omega.{arith}
 use native.Mathlib.Nat.{zero-max, max-eq_left, max-eq_right, le-max_left, le-max_right}
-use borrow.Author.Tests.{ltb_true, ltb-false}
+use borrow.Author.Tests.{ltb-true, ltb-false}
 use lib.Dec.{ltb}
 use Rattle.octets.specs.Options.{is_some, or_else, IfSome}
 use Rattle.octets.proofs.Tests.{by_test}
@@ -52,7 +52,7 @@ unfolding later_of or_else
 later_seen none date = ap some (sym (zero-max date))
 later_seen (some t) date =
     by_test (ltb t date)
-    (λ e. rw (later_of, e) (ap some (sym (max-eq_right (omega (arith, ltb_true t date e))))))
+    (λ e. rw (later_of, e) (ap some (sym (max-eq_right (omega (arith, ltb-true t date e))))))
     (λ e. rw (later_of, e) (ap some (sym (max-eq_left (omega (arith, ltb-false t date e))))))
 
 -- last seen of either entry is not above that of both

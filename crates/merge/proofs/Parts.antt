@@ -16,7 +16,7 @@ use mir.Syntax.{w8, w64}
 use mir.Val.{Fits}
 use lib.Dec.{ltb}
 use lib.ListN.{length, get_or, take, drop}
-use lib.Seq.{take_take}
+use lib.Seq.{take-take}
 use Rattle.octets.proofs.Lists.{given_octets}
 use Rattle.heads.specs.declared.Head.{Head}
 use Rattle.heads.specs.Head.{head_of, has_last_seen, has_direct, has_gossip, is_mutual, last_seen, timestamp, gossip_timestamp, direct_length, gossip_length}
@@ -37,7 +37,7 @@ use Rattle.merge.proofs.Later.{later_taken, later_kept, later_none, later_seen, 
 cut_out : (o : List ℕ) (at n count : ℕ) → n ≡ count → count ≤ 2048 → take (at + n - at) (drop at o) ≡ take count (take 2048 (drop at o))
 cut_out o at n count e l =
     let a : at + n - at ≡ count = omega arith in
-    rw a (sym (take_take count 2048 (drop at o) l))
+    rw a (sym (take-take count 2048 (drop at o) l))
 
 -- the halves that stand in a slot, present or not
 abbrev direct_in : List ℕ → Direct

@@ -12,10 +12,10 @@ use mathlib.Core.Bool.{true}
 use mathlib.Core.List.{List, []}
 use mathlib.Core.Option.{none}
 use native.Mathlib.Omega.{arith}
-use native.Mathlib.Nat.{sub_zero}
+use native.Mathlib.Nat.{sub-zero}
 use borrow.Author.Rules.{rules}
 use lib.ListN.{length, take, drop, length-take}
-use lib.Seq.{take_take, take-length}
+use lib.Seq.{take-take, take-length}
 use Rattle.octets.specs.Options.{or_else}
 use Rattle.refusals.specs.Rows.{first_of}
 use Rattle.refusals.specs.declared.Refusal.TheVariants as refusal
@@ -91,7 +91,7 @@ module _ (most receipt : ℕ) (outer : List ℕ) (v : Survey) (text₀ d key₀ 
         record {
           in_time = o.in_time;
           walked = record { surveyed = o.walked.surveyed; room = omega (arith, o.walked.room, l) };
-          sent = rw sub_zero (left_is (sender_in (fields_in outer)) k e sender d w n q);
+          sent = rw sub-zero (left_is (sender_in (fields_in outer)) k e sender d w n q);
           key_room = o.key_room;
           key_most = o.key_most;
         }
@@ -101,7 +101,7 @@ front_brings : (n : ℕ) (sender key : List ℕ) (b : Brought) (gossip : List Go
     → Brings (take n sender) key b gossip m → Brings sender key b gossip m
 front_brings n sender key b gossip m l h =
     let x : b.sender ≤ n = omega (arith, h.within, length-take n sender) in
-    let same : take b.sender (take n sender) ≡ take b.sender sender = rw (take_take b.sender n sender x) in
+    let same : take b.sender (take n sender) ≡ take b.sender sender = rw (take-take b.sender n sender x) in
     record { within = omega (arith, x, l); ready = rw same at h.ready; is = rw same at h.is }
 
 module _ (most receipt : ℕ) (outer payload : List ℕ) (g : Gossip) (sender key : List ℕ) (n : ℕ) (l : n ≤ length sender) where
@@ -119,7 +119,7 @@ module _ (most receipt : ℕ) (outer payload : List ℕ) (g : Gossip) (sender ke
   front_read (Refused r) h = h
 
   pub read_sent : (r : Reading) → ReadAs most receipt outer payload g (take (n - 0) (drop 0 sender)) key r → ReadAs most receipt outer payload g sender key r
-  read_sent r h = front_read r (rw sub_zero at h)
+  read_sent r h = front_read r (rw sub-zero at h)
 
 pub ruleset sending = (sent_within, sent_on, rules)
 

@@ -12,7 +12,7 @@ use mathlib.Core.Path.{◌≡◌, refl, sym, ap, ◌∙◌}
 use mathlib.Core.Bool.{Bool, true, false, ◌&&◌, false≢true}
 use mathlib.Core.List.{List, [], ◌∷◌}
 use native.Mathlib.Omega.{arith}
-use borrow.Author.Tests.{eq_eqb, ne_eqb, eqb_true, eqb-false}
+use borrow.Author.Tests.{eq-eqb, ne_eqb, eqb-true, eqb-false}
 use borrow.Author.Rules.{rules}
 use lib.Dec.{eqb, eqb-suc-zero}
 use lib.ListN.{length, get_or, drop, length-drop}
@@ -24,7 +24,7 @@ use Rattle.octets.proofs.Letters.{get_d_lowered, length_lowered}
 pub same_refl : (s : List ℕ) → same_octets s s ≡ true
 unfolding same_octets
 same_refl [] = refl
-same_refl (x ∷ s) = rw (eq_eqb x x refl) (same_refl s)
+same_refl (x ∷ s) = rw (eq-eqb x x refl) (same_refl s)
 
 pub same_true : (s t : List ℕ) → same_octets s t ≡ true → s ≡ t
 unfolding same_octets
@@ -34,7 +34,7 @@ same_true (x ∷ s) [] e = absurd (false≢true e)
 same_true (x ∷ s) (y ∷ t) e = go (λ q. same_true s t q) (eqb x y) refl
   where
     go : (same_octets s t ≡ true → s ≡ t) → (b : Bool) → eqb x y ≡ b → x ∷ s ≡ y ∷ t
-    go tails true p = let q : same_octets s t ≡ true = rw p at e in cc (eqb_true x y p, tails q)
+    go tails true p = let q : same_octets s t ≡ true = rw p at e in cc (eqb-true x y p, tails q)
     go tails false p = absurd (false≢true (rw p at e))
 
 pub record Same (s t : List ℕ) (i : ℕ) : Type 0 where
@@ -67,7 +67,7 @@ module _ (s t : List ℕ) (i : ℕ) (h : Same s t i) where
       record {
         long = h.long;
         upto = omega arith;
-        so_far = h.so_far ∙ goes_on s t i l (omega arith) ∙ rw (eq_eqb (get_or s i 0) (get_or t i 0) e);
+        so_far = h.so_far ∙ goes_on s t i l (omega arith) ∙ rw (eq-eqb (get_or s i 0) (get_or t i 0) e);
       }
 
   pub same_stop : i < length s → (get_or s i 0 ≡ get_or t i 0 → ⊥) → false ≡ same_octets s t
@@ -84,7 +84,7 @@ module _ (s t : List ℕ) (i : ℕ) (b : Bool) (h : Same (lowered s) (lowered t)
   pub name_next : b ≡ true → Same (lowered s) (lowered t) (i + 1)
   name_next e =
       same_next (lowered s) (lowered t) i h (rw length_lowered l)
-      (get_d_lowered s i ∙ eqb_true (lower (get_or s i 0)) (lower (get_or t i 0)) (sym p ∙ e) ∙ sym (get_d_lowered t i))
+      (get_d_lowered s i ∙ eqb-true (lower (get_or s i 0)) (lower (get_or t i 0)) (sym p ∙ e) ∙ sym (get_d_lowered t i))
 
   pub name_stop : b ≡ false → false ≡ same_name s t
   unfolding same_name
@@ -159,7 +159,7 @@ module _ (s t : List ℕ) (at : ℕ) where
         record {
           fits = h.fits;
           upto = omega arith;
-          so_far = h.so_far ∙ opens_on t (drop at s) i l (omega arith) ∙ rw (eq_eqb (get_or t i 0) (get_or (drop at s) i 0) (e ∙ sym (get_or-drop at s i 0)));
+          so_far = h.so_far ∙ opens_on t (drop at s) i l (omega arith) ∙ rw (eq-eqb (get_or t i 0) (get_or (drop at s) i 0) (e ∙ sym (get_or-drop at s i 0)));
         }
 
     pub opens_stop : i < length t → (get_or t i 0 ≡ get_or s (at + i) 0 → ⊥) → false ≡ starts_with t (drop at s)

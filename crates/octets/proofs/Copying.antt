@@ -8,7 +8,7 @@
 use Prim.Native.Nat.{ℕ, suc, zero, ◌+◌, ◌-◌, ◌<◌, ◌≤◌, ◌/◌, ◌%◌}
 use mathlib.Core.Path.{◌≡◌, refl, sym, ap, ◌∙◌}
 use mathlib.Core.List.{List, ◌∷◌, ◌++◌, append-nil}
-use native.Mathlib.Nat.{add-zero, add_assoc, sub_zero}
+use native.Mathlib.Nat.{add-zero, add_assoc, sub-zero}
 use native.Mathlib.Omega.{arith}
 use borrow.Author.Rules.{rules}
 use borrow.Author.Fill.{fill_more}
@@ -85,7 +85,7 @@ pub record Numbered (width n : ℕ) (d out : List ℕ) (at rest k : ℕ) : Type 
   pub left : drop k (digits width n) ≡ digits (width - k) rest
 
 pub digit_begin : (width n at : ℕ) (d : List ℕ) → at + width ≤ length d → Numbered width n d d at n 0
-digit_begin width n at d h = record { copied = copy_begin (digits width n) d at (rw length_digits h); left = simp sub_zero }
+digit_begin width n at d h = record { copied = copy_begin (digits width n) d at (rw length_digits h); left = simp sub-zero }
 
 module _ (width n at rest k : ℕ) (d out : List ℕ) (h : Numbered width n d out at rest k) where
   pub digit_kept : length out ≡ length d

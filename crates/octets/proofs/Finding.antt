@@ -11,10 +11,10 @@ use Prim.Native.Nat.{ℕ, zero, suc, ◌+◌, ◌-◌, ◌<◌, ◌≤◌, zero-
 use mathlib.Core.Path.{◌≡◌, refl, sym, ◌∙◌}
 use mathlib.Core.Bool.{Bool, true, false, ◌||◌, false≢true, true≢false, or_assoc, or-false}
 use mathlib.Core.List.{List, [], ◌∷◌}
-use native.Mathlib.Nat.{zero_add}
+use native.Mathlib.Nat.{zero-add}
 use native.Mathlib.Omega.{arith}
 use borrow.Author.Rules.{rules}
-use borrow.Author.Tests.{eqb_true, eqb-false, eq_eqb}
+use borrow.Author.Tests.{eqb-true, eqb-false, eq-eqb}
 use lib.Dec.{eqb}
 use lib.ListN.{length, get_or, take, drop, length-drop}
 use lib.Seq.{drop-drop}
@@ -31,7 +31,7 @@ by d [] = none
 by d (x ∷ s) = go (by d s) (eqb x d) refl
   where
     go : By d s → (b : Bool) → eqb x d ≡ b → By d (x ∷ s)
-    go v true e = rw (eqb_true x d e) (one v)
+    go v true e = rw (eqb-true x d e) (one v)
     go v false e = other e v
 
 module _ (d : ℕ) where
@@ -41,7 +41,7 @@ module _ (d : ℕ) where
 
   pub before_here : (s : List ℕ) → length_before d (d ∷ s) ≡ 0
   unfolding length_before
-  before_here s = rw (length_before, eq_eqb d d refl)
+  before_here s = rw (length_before, eq-eqb d d refl)
 
 module _ {d : ℕ} where
   pub before_short : {s : List ℕ} → By d s → length_before d s ≤ length s
@@ -58,9 +58,9 @@ module _ {d : ℕ} where
 
   piece_without : (w : ℕ) {s : List ℕ} → By d s → w ≤ length s → holds d (take w s) ≡ false → length_before d s ≡ w + length_before d (drop w s)
   unfolding holds
-  piece_without zero {s} v h e = sym (zero_add (length_before d s))
+  piece_without zero {s} v h e = sym (zero-add (length_before d s))
   piece_without (suc w) none h e = absurd (omega arith)
-  piece_without (suc w) (one v) h e = absurd (true≢false (rw (eq_eqb d d refl) at e))
+  piece_without (suc w) (one v) h e = absurd (true≢false (rw (eq-eqb d d refl) at e))
   piece_without (suc w) (other {x} {s} o v) h e = rw (before_on d x s o) (omega (arith, piece_without w v (omega arith) (rw o at e)))
 
   piece_with : (w : ℕ) {s : List ℕ} → By d s → holds d (take w s) ≡ true → length_before d s < w

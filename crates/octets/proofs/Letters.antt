@@ -12,7 +12,7 @@ use mathlib.Core.List.{List, [], ◌∷◌}
 use native.Mathlib.Omega.{arith}
 use borrow.Author.Tests.{le-leb, lt-leb}
 use borrow.Author.Rules.{rules}
-use lib.ListN.{length, get_or, length_map, get_or-map}
+use lib.ListN.{length, get_or, length-map, get_or-map}
 use Rattle.octets.specs.Octets.{AllOctets, lower, lowered}
 use Rattle.octets.proofs.Lists.{lt_or_le}
 
@@ -56,7 +56,7 @@ lowered_twice (x ∷ s) = rw (lower_twice x, lowered_twice s)
 
 pub length_lowered : (s : List ℕ) → length (lowered s) ≡ length s
 unfolding lowered
-length_lowered s = length_map s lower
+length_lowered s = length-map s lower
 
 pub get_d_lowered : (s : List ℕ) (i : ℕ) → get_or (lowered s) i 0 ≡ lower (get_or s i 0)
 unfolding lower lowered

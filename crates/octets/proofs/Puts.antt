@@ -14,9 +14,9 @@ use Prim.Native.Nat.{ℕ, ◌+◌, ◌-◌, ◌<◌, ◌≤◌}
 use mathlib.Core.Path.{◌≡◌, refl, sym, ap, ◌∙◌}
 use mathlib.Core.List.{List, [], ◌∷◌, ◌++◌, append_assoc, append-nil}
 use mathlib.Core.Option.{Option, some, none}
-use native.Mathlib.Nat.{zero_add, sub_zero}
+use native.Mathlib.Nat.{zero-add, sub-zero}
 use native.Mathlib.Omega.{arith}
-use lib.ListN.{length, take, drop, set, length_append}
+use lib.ListN.{length, take, drop, set, length-append}
 use lib.Seq.{take_at}
 use Rattle.octets.specs.Written.{put_at}
 use Rattle.octets.specs.Puts.{Written, TooLong, Puts, Told, Untold, PutsText}
@@ -37,15 +37,15 @@ module _ (d : List ℕ) (at : ℕ) (e : List ℕ) (i : ℕ) (w rest : List ℕ) 
       record {
         octets = h.octets ++ k.octets;
         splits = h.splits ∙ rw k.splits (sym (append_assoc h.octets k.octets rest₁));
-        writes = k.writes ∙ rw (h.writes, h.counts) (put_both d at h.octets k.octets (simp length_append m));
-        counts = simp length_append (omega (arith, h.counts, k.counts));
+        writes = k.writes ∙ rw (h.writes, h.counts) (put_both d at h.octets k.octets (simp length-append m));
+        counts = simp length-append (omega (arith, h.counts, k.counts));
         room = omega (arith, k.room, wrote_long);
       }
 
   pub full_then : (f : List ℕ) → TooLong e i f rest → TooLong d at f w
   full_then f k =
       record {
-        long = rw h.splits (simp length_append (omega (arith, h.counts, k.long, wrote_long)));
+        long = rw h.splits (simp length-append (omega (arith, h.counts, k.long, wrote_long)));
         same = k.same ∙ wrote_long;
       }
 
@@ -66,7 +66,7 @@ wrote_before d at e i w rest h =
     record { octets = h.octets; splits = ap (λ (z : List ℕ). z ++ rest) (h.splits ∙ append-nil h.octets); writes = h.writes; counts = h.counts; room = h.room }
 
 pub full_before : (d : List ℕ) (at : ℕ) (e : List ℕ) (w rest : List ℕ) → TooLong d at e w → TooLong d at e (w ++ rest)
-full_before d at e w rest h = record { long = simp length_append (omega (arith, h.long)); same = h.same }
+full_before d at e w rest h = record { long = simp length-append (omega (arith, h.long)); same = h.same }
 
 -- and where all of it is written, its length tells the place
 pub wrote_counts : (d : List ℕ) (at : ℕ) (e : List ℕ) (i : ℕ) (w : List ℕ) → Written d at e i w [] → i ≡ at + length w
@@ -78,7 +78,7 @@ told_long d at e m o h = ap length h.writes ∙ put_long d at h.text (omega (ari
 pub told_front : (d e : List ℕ) (m : ℕ) (o : Option (List ℕ)) (h : Told d 0 e m o) → take (m - 0) e ≡ h.text
 unfolding put_at
 told_front d e m o h =
-    rw (sub_zero, h.writes) (take_at h.text (drop (0 + length h.text) d) m (sym (h.counts ∙ zero_add _)))
+    rw (sub-zero, h.writes) (take_at h.text (drop (0 + length h.text) d) m (sym (h.counts ∙ zero-add _)))
 
 module _ (d : List ℕ) (at : ℕ) (e : List ℕ) (o : Option (List ℕ)) where
   pub untold_none : o ≡ none → length e ≡ length d → Untold d at e o

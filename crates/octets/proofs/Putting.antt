@@ -12,7 +12,7 @@ use mathlib.Core.List.{List, [], ◌∷◌, ◌++◌, append-nil}
 use native.Mathlib.Nat.{add-zero}
 use native.Mathlib.Omega.{arith}
 use borrow.Author.Rules.{rules}
-use lib.ListN.{length, take, set, take-append-drop, length_append, length-take, length-drop}
+use lib.ListN.{length, take, set, take-append-drop, length-append, length-take, length-drop}
 use Rattle.octets.specs.Written.{put_at}
 use Rattle.octets.proofs.Writing.{Wrote, begin_at, kept, counted, put, puts, done_at}
 
@@ -45,7 +45,7 @@ module _ (d : List ℕ) (at : ℕ) where
 
   pub put_long : (w : List ℕ) → at + length w ≤ length d → length (put_at d at w) ≡ length d
   unfolding put_at
-  put_long w h = simp (length_append, length-take, length-drop) (omega arith)
+  put_long w h = simp (length-append, length-take, length-drop) (omega arith)
 
   pub put_then : (x : ℕ) (w : List ℕ) → at + length (x ∷ w) ≤ length d → put_at (set d at x) (at + 1) w ≡ put_at d at (x ∷ w)
   put_then x w h =

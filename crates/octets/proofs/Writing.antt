@@ -10,8 +10,8 @@ use mathlib.Core.Path.{◌≡◌, refl, sym, ap, ◌∙◌}
 use mathlib.Core.List.{List, [], ◌∷◌, ◌++◌, append_assoc}
 use native.Mathlib.Numerals.{add-one}
 use native.Mathlib.Omega.{arith}
-use lib.ListN.{length, take, drop, set, length_append, length-take, length-drop, take-append-drop}
-use lib.Seq.{take_at, drop_at, drop-drop, set_split, length_take_le, take-length, take-add}
+use lib.ListN.{length, take, drop, set, length-append, length-take, length-drop, take-append-drop}
+use lib.Seq.{take_at, drop_at, drop-drop, set_split, length-take-le, take-length, take-add}
 use Rattle.octets.specs.Written.{put_at, onto}
 
 pub record Wrote (w d out : List ℕ) (o : ℕ) (rest : List ℕ) : Type 0 where
@@ -25,17 +25,17 @@ begin w d h = record { text = refl; left = refl; upto = omega arith; room = h }
 
 pub begin_at : (w d : List ℕ) (at : ℕ) → at + length w ≤ length d → Wrote (take at d ++ w) d d at w
 begin_at w d at h =
-    let k : length (take at d) ≡ at = length_take_le at d (omega arith) in
+    let k : length (take at d) ≡ at = length-take-le at d (omega arith) in
     record {
       text = rw (take_at (take at d) w at k) (sym (take-append-drop at d));
       left = drop_at (take at d) w at k;
-      upto = simp length_append (omega (arith, k));
-      room = simp length_append (omega (arith, k));
+      upto = simp length-append (omega (arith, k));
+      room = simp length-append (omega (arith, k));
     }
 
 module _ (w d out : List ℕ) (o : ℕ) where
   pub kept : (rest : List ℕ) → Wrote w d out o rest → length out ≡ length d
-  kept rest h = ap length h.text ∙ simp (length_append, length-take, length-drop) (omega (arith, h.upto, h.room))
+  kept rest h = ap length h.text ∙ simp (length-append, length-take, length-drop) (omega (arith, h.upto, h.room))
 
   pub counted : (rest : List ℕ) → Wrote w d out o rest → o + length rest ≡ length w
   counted rest h = omega (arith, length-drop o w, ap length h.left)
@@ -45,16 +45,16 @@ module _ (w d out : List ℕ) (o : ℕ) where
 
   -- the part that is done, and what the buffer holds from there on
   done_part : (rest : List ℕ) → Wrote w d out o rest → take o out ≡ take o w
-  done_part rest h = rw h.text (take_at (take o w) (drop o d) o (length_take_le o w h.upto))
+  done_part rest h = rw h.text (take_at (take o w) (drop o d) o (length-take-le o w h.upto))
 
   behind : (rest : List ℕ) (n : ℕ) → Wrote w d out o rest → drop (o + n) out ≡ drop (o + n) d
   behind rest n h =
-      rw (← drop-drop n o out, ← drop-drop n o d, h.text) (ap (drop n) (drop_at (take o w) (drop o d) o (length_take_le o w h.upto)))
+      rw (← drop-drop n o out, ← drop-drop n o d, h.text) (ap (drop n) (drop_at (take o w) (drop o d) o (length-take-le o w h.upto)))
 
   pub puts : (vs rest : List ℕ) → Wrote w d out o (vs ++ rest) → Wrote w d (put_at out o vs) (o + length vs) rest
   unfolding put_at
   puts vs rest h =
-      let n : o + (length vs + length rest) ≡ length w = simp length_append at (counted (vs ++ rest) h) in
+      let n : o + (length vs + length rest) ≡ length w = simp length-append at (counted (vs ++ rest) h) in
       let t : take (o + length vs) w ≡ take o w ++ vs =
       take-add o (length vs) w ∙ rw h.left (ap (λ (l : List ℕ). take o w ++ l) (take_at vs rest (length vs) refl)) in
       record {
@@ -79,5 +79,5 @@ module _ (w d out : List ℕ) (o : ℕ) where
 pub done_at : (w d out : List ℕ) (at o : ℕ) → at + length w ≤ length d → Wrote (take at d ++ w) d out o [] → out ≡ put_at d at w
 unfolding put_at onto
 done_at w d out at o h p =
-    let n : length (take at d ++ w) ≡ at + length w = simp length_append (omega (arith, length_take_le at d (omega arith))) in
+    let n : length (take at d ++ w) ≡ at + length w = simp length-append (omega (arith, length-take-le at d (omega arith))) in
     done (take at d ++ w) d out o p ∙ rw (n, append_assoc)

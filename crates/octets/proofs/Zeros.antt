@@ -9,7 +9,7 @@ use mathlib.Core.Bool.{Bool, true, false, ◌&&◌, false≢true, and_assoc, and
 use mathlib.Core.List.{List, [], ◌∷◌}
 use native.Mathlib.Nat.{max-zero, le-max_right}
 use native.Mathlib.Omega.{arith}
-use borrow.Author.Tests.{ne_eqb, eqb_true, eqb-false}
+use borrow.Author.Tests.{ne_eqb, eqb-true, eqb-false}
 use borrow.Author.Rules.{rules}
 use lib.Dec.{eqb}
 use lib.ListN.{length, get_or, drop, replicate}
@@ -22,7 +22,7 @@ zero_true [] e = refl
 zero_true (x ∷ s) e = go (λ q. zero_true s q) (eqb x 0) refl
   where
     go : (all_zero s ≡ true → s ≡ replicate (length s) 0) → (b : Bool) → eqb x 0 ≡ b → x ∷ s ≡ 0 ∷ replicate (length s) 0
-    go tails true p = cc (eqb_true x 0 p, tails (rw p at e))
+    go tails true p = cc (eqb-true x 0 p, tails (rw p at e))
     go tails false p = absurd (false≢true (rw p at e))
 
 pub zero_replicate : (n : ℕ) → all_zero (replicate n 0) ≡ true
@@ -35,7 +35,7 @@ larger_zero : (a b : ℕ) → eqb (max a b) 0 ≡ (eqb a 0 && eqb b 0)
 larger_zero a b = go (eqb b 0) refl
   where
     go : (t : Bool) → eqb b 0 ≡ t → eqb (max a b) 0 ≡ (eqb a 0 && t)
-    go true p = rw (eqb_true b 0 p, max-zero a) (sym (and-true (eqb a 0)))
+    go true p = rw (eqb-true b 0 p, max-zero a) (sym (and-true (eqb a 0)))
     go false p =
         ne_eqb (max a b) 0 (λ q. eqb-false b 0 p (omega (arith, le-max_right a b)))
         ∙ sym (and-false (eqb a 0))

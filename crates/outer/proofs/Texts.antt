@@ -5,14 +5,14 @@ use Prim.Native.Nat.{ℕ, ◌-◌, ◌≤◌}
 use mathlib.Core.Path.{◌≡◌}
 use mathlib.Core.List.{List}
 use native.Mathlib.Omega.{arith}
-use lib.ListN.{length, take, drop, length_append, length-drop}
+use lib.ListN.{length, take, drop, length-append, length-drop}
 use lib.Seq.{take-append-le, drop-append-le}
 use Rattle.octets.specs.Written.{onto}
 
 module _ (w d out : List ℕ) (o : out ≡ onto w d) (from to : ℕ) (l : from ≤ to) (u : to ≤ length w) where
   pub part_within : to ≤ length out
   unfolding onto
-  part_within = rw (o, length_append) (omega arith)
+  part_within = rw (o, length-append) (omega arith)
 
   pub part_there : take (to - from) (drop from out) ≡ take (to - from) (drop from w)
   unfolding onto

@@ -10,7 +10,7 @@ use Prim.Native.Nat.{ℕ}
 use mathlib.Core.Path.{◌≡◌, refl, sym, ◌∙◌}
 use mathlib.Core.Bool.{Bool, true, false, ◌&&◌, ◌||◌, and-true, and-false}
 use mathlib.Core.List.{List, [], ◌∷◌, ◌++◌, append-nil}
-use borrow.Author.Tests.{eq_eqb, ne_eqb, eqb_true, eqb-false}
+use borrow.Author.Tests.{eq-eqb, ne_eqb, eqb-true, eqb-false}
 use lib.Dec.{eqb}
 use Rattle.octets.specs.Tests.{every}
 use Rattle.octets.proofs.Tests.{and_right, by_test}
@@ -34,7 +34,7 @@ module _ {q : ℕ → Bool} {d : ℕ} {test shape : List ℕ → Bool} (c : Cut 
 
   pub all_on : (a b : List ℕ) → every q a ≡ true → every test (pieces d (a ++ d ∷ b)) ≡ (shape a && every test (pieces d b))
   unfolding every before others
-  all_on a b e = rw (pieces_into q d c.out a (d ∷ b) e, before, others, eq_eqb d d refl, append-nil, well a e)
+  all_on a b e = rw (pieces_into q d c.out a (d ∷ b) e, before, others, eq-eqb d d refl, append-nil, well a e)
 
   pub all_bad : (a b : List ℕ) (x : ℕ) → every q a ≡ true → (x ≡ d → ⊥) → q x ≡ false → every test (pieces d (a ++ x ∷ b)) ≡ false
   unfolding every before others
@@ -45,7 +45,7 @@ module _ {q : ℕ → Bool} {d : ℕ} {test shape : List ℕ → Bool} (c : Cut 
   all_shapeless a [] e z f = rw append-nil (all_end a e ∙ f)
   all_shapeless a (x ∷ b) e z f =
       by_test (eqb x d)
-      (λ h. rw (eqb_true x d h) (all_on a b e ∙ rw f))
+      (λ h. rw (eqb-true x d h) (all_on a b e ∙ rw f))
       (λ h. all_bad a b x e (eqb-false x d h) (run_zero q x b z))
 
   pub cut_octets : (s : List ℕ) → every test (pieces d s) ≡ true → every (λ x. q x || eqb x d) s ≡ true

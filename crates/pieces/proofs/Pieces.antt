@@ -19,7 +19,7 @@ use mathlib.Core.Bool.{Bool, true, false, not, ◌&&◌, ◌||◌, false≢true,
 use mathlib.Core.List.{List, [], ◌∷◌, ◌++◌, map, append-nil}
 use native.Mathlib.Omega.{arith}
 use native.Mathlib.Numerals.{add-one}
-use borrow.Author.Tests.{eq_eqb, ne_eqb, eqb_true}
+use borrow.Author.Tests.{eq-eqb, ne_eqb, eqb-true}
 use lib.Dec.{eqb}
 use lib.ListN.{length, take, drop}
 use Rattle.octets.specs.Finding.{length_before}
@@ -62,7 +62,7 @@ unfolding before behind
 sides_join d [] l = absurd (omega arith)
 sides_join d (x ∷ s) l =
     by_test (eqb x d)
-    (λ e. rw (before, behind, e, eqb_true x d e))
+    (λ e. rw (before, behind, e, eqb-true x d e))
     (λ e. rw (before, behind, e) (let k : suc (length (before d s)) < suc (length s) = rw (before, e) at l in ap (◌∷◌ x) (sides_join d s (omega arith))))
 
 others_none : (d : ℕ) (s : List ℕ) → length s ≤ length (before d s) → others d s ≡ []
@@ -193,7 +193,7 @@ module _ (q : ℕ → Bool) (d : ℕ) (out : q d ≡ false) where
   following_before : (ps : List (List ℕ)) → before d (following d ps) ≡ []
   unfolding following before
   following_before [] = refl
-  following_before (p ∷ ps) = rw (before, eq_eqb d d refl)
+  following_before (p ∷ ps) = rw (before, eq-eqb d d refl)
 
   module _ (p : List ℕ) (ps : List (List ℕ)) (e : every q p ≡ true) where
     one_joined : others d (following d ps) ≡ ps → pieces d (p ++ following d ps) ≡ p ∷ ps
@@ -203,7 +203,7 @@ module _ (q : ℕ → Bool) (d : ℕ) (out : q d ≡ false) where
   unfolding following others every
   others_following [] e = refl
   others_following (p ∷ ps) e =
-      rw (others, eq_eqb d d refl)
+      rw (others, eq-eqb d d refl)
       (one_joined p ps (and_left (every q p) _ e) (others_following ps (and_right (every q p) _ e)))
 
   pub pieces_joined : (p : List ℕ) (ps : List (List ℕ)) → every (every q) (p ∷ ps) ≡ true → pieces d (joined d (p ∷ ps)) ≡ p ∷ ps
@@ -223,7 +223,7 @@ unfolding before others following
 joined_all d [] = refl
 joined_all d (x ∷ s) =
     by_test (eqb x d)
-    (λ e. rw (before, others, e, pieces_first d s, eqb_true x d e) (ap (◌∷◌ d) (joined_all d s)))
+    (λ e. rw (before, others, e, pieces_first d s, eqb-true x d e) (ap (◌∷◌ d) (joined_all d s)))
     (λ e. rw (before, others, e) (ap (◌∷◌ x) (joined_all d s)))
 
 pub joined_pieces : (d : ℕ) (s : List ℕ) → joined d (pieces d s) ≡ s

@@ -11,11 +11,11 @@ use mathlib.Core.Path.{◌≡◌, refl, sym, ◌∙◌}
 use mathlib.Core.Bool.{Bool, true, false, not}
 use mathlib.Core.Option.{Option, some, none, map}
 use mathlib.Core.List.{List, [], ◌++◌, append_assoc}
-use native.Mathlib.Nat.{sub_zero}
+use native.Mathlib.Nat.{sub-zero}
 use native.Mathlib.Omega.{arith}
 use borrow.Author.Rules.{rules}
 use borrow.Author.Tests.{not-true, not-false}
-use lib.ListN.{length, length_append}
+use lib.ListN.{length, length-append}
 use Rattle.octets.specs.Options.{or_else, is_some}
 use Rattle.octets.proofs.Lists.{left_one}
 use Rattle.octets.proofs.Writing.{Wrote, begin_at, kept, counted, puts, done_at}
@@ -108,7 +108,7 @@ pub record Lined (t d out : List ℕ) (n o i : ℕ) : Type 0 where
 pub lines_begin : (t d : List ℕ) (n : ℕ) → (checked t ≡ Sound) × Room d 0 (lines_from t 0 (slots t)) → n ≡ slots t
     → Lined t d d n 0 0
 lines_begin t d n c e =
-    record { whole = e; upto = omega arith; going = rw (sub_zero n) (begin_at (lines_from t 0 n) d 0 (rw e c.1.fits)) }
+    record { whole = e; upto = omega arith; going = rw (sub-zero n) (begin_at (lines_from t 0 n) d 0 (rw e c.1.fits)) }
 
 module _ (t d out : List ℕ) (n o i : ℕ) (h : Lined t d out n o i) where
   pub lines_kept : length out ≡ length d
@@ -126,7 +126,7 @@ module _ (t d out : List ℕ) (n o i : ℕ) (h : Lined t d out n o i) where
     lines_room =
         let all : length (slot_text (slot_at t i) ++ lines_from t (i + 1) (n - (i + 1)))
         ≡ length (slot_text (slot_at t i)) + length (lines_from t (i + 1) (n - (i + 1))) =
-        length_append (slot_text (slot_at t i)) (lines_from t (i + 1) (n - (i + 1))) in
+        length-append (slot_text (slot_at t i)) (lines_from t (i + 1) (n - (i + 1))) in
         record { fits = omega (arith, all, lines_kept, goes_on.room, counted _ d out o _ goes_on) }
 
     pub lines_next : (out₁ : List ℕ) (o₁ : ℕ) → Put out out₁ o (slot_text (slot_at t i)) o₁ → Lined t d out₁ n o₁ (i + 1)

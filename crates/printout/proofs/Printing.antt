@@ -7,7 +7,7 @@
 use Prim.Native.Nat.{ℕ, ◌<◌, ◌≤◌}
 use mathlib.Core.Path.{◌≡◌, sym, ◌∙◌}
 use mathlib.Core.List.{List}
-use native.Mathlib.Nat.{zero_add}
+use native.Mathlib.Nat.{zero-add}
 use native.Mathlib.Omega.{arith}
 use borrow.Author.Rules.{rules}
 use borrow.Author.Tests.{le-leb, lt-leb}
@@ -55,11 +55,11 @@ module _ (s : List ℕ) where
 -- the text was written to the front of the buffer
 module _ (s w d out : List ℕ) (o : ℕ) (p : Put d out 0 w o) (e : printed s ≡ w) where
   pub print_length : o ≡ length (printed s)
-  print_length = rw e (rw zero_add at p.place)
+  print_length = rw e (rw zero-add at p.place)
 
   pub print_left : out ≡ onto (printed s) d
   unfolding put_at onto
-  print_left = rw e (rw zero_add at p.text)
+  print_left = rw e (rw zero-add at p.text)
 
 pub refusal_room : (d : List ℕ) (x : ℕ) → length d ≡ 5166 → Room d 0 (ended (ascii "refused 1") x)
 unfolding ended

@@ -9,7 +9,7 @@ use mathlib.Core.Path.{◌≡◌, refl, ap}
 use mathlib.Core.Bool.{Bool, true, false}
 use mathlib.Core.List.{List, ◌++◌}
 use native.Mathlib.Omega.{arith}
-use lib.ListN.{length, length_append}
+use lib.ListN.{length, length-append}
 use Rattle.octets.proofs.Tests.{by_test}
 use Rattle.heads.specs.declared.Head.{Head}
 use Rattle.heads.specs.Head.{head_of}
@@ -49,7 +49,7 @@ numbers_most : (n : Head) → Small n.last_seen → Small n.timestamp → Small 
     → Small n.gossip_length → length (numbers_part n) ≤ 112
 unfolding numbers_part direct_part gossip_part
 numbers_most n s t g d k =
-    simp (length_append, ended_long)
+    simp (length-append, ended_long)
     (omega (
       arith,
       time_most n.seen n.last_seen s,
@@ -78,7 +78,7 @@ module _ (t : List ℕ) (c : checked t ≡ Sound) where
       by_test (marked (slot_at t i))
       (λ m.
       let p : SoundSlot (slot_at t i) = sound_parts (slot_at t i) (used_sound t (table_sound t c) i l m).0 in
-      rw (slot_parts t i c l m, length_append, ended_long)
+      rw (slot_parts t i c l m, length-append, ended_long)
       (omega (arith, used_most i l m, spelled_most Canonical (address_of (slot_at t i)) p.address)))
       (λ m. rw (slot_free t i m) (omega arith))
 
@@ -89,7 +89,7 @@ module _ (t : List ℕ) (c : checked t ≡ Sound) where
   lines_most : (i k : ℕ) → i + k ≤ slots t → length (lines_from t i k) ≤ k * line_room
   unfolding lines_from
   lines_most i zero h = omega arith
-  lines_most i (suc k) h = rw (lines_on, length_append) (omega (arith, slot_most i (omega arith), lines_most (i + 1) k (omega arith)))
+  lines_most i (suc k) h = rw (lines_on, length-append) (omega (arith, slot_most i (omega arith), lines_most (i + 1) k (omega arith)))
 
   pub lines_fit : length t ≤ most_listed * slot_length → length (lines_from t 0 (slots t)) ≤ room
   unfolding slots

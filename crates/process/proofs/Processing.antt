@@ -14,7 +14,7 @@ use mathlib.Core.Bool.{Bool, true, not, ◌&&◌, ◌||◌}
 use mathlib.Core.List.{List, []}
 use mathlib.Core.Option.{Option, some, none}
 use native.Mathlib.Omega.{arith}
-use native.Mathlib.Nat.{sub_zero}
+use native.Mathlib.Nat.{sub-zero}
 use borrow.Author.Rules.{rules}
 use borrow.Author.Tests.{leb-true}
 use lib.Dec.{leb}
@@ -117,13 +117,13 @@ module _ (t tags : List ℕ) (receipt : ℕ) (outer payload : List ℕ) (g : Gos
     answered : (a : Answer) → a ≡ answer_of (first_of (room_rows t (mail_of (take (b.sender - 0) (drop 0 sender)) key b gs)))
         → a ≡ answer_of (refused_processing t receipt outer payload g)
     answered a w =
-        (rw (sub_zero, m.is) at w) ∙ ap (λ (o : Option Refusal). answer_of o) (sym (room_first t receipt outer payload g y.opened.sound e))
+        (rw (sub-zero, m.is) at w) ∙ ap (λ (o : Option Refusal). answer_of o) (sym (room_first t receipt outer payload g y.opened.sound e))
 
     left : (u : List ℕ) → u ≡ delivered t (mail_of (take (b.sender - 0) (drop 0 sender)) key b gs) → u ≡ left_by_processing t receipt outer payload g
-    left u w = (rw (sub_zero, m.is) at w) ∙ room_left t receipt outer payload g y.opened.sound e
+    left u w = (rw (sub-zero, m.is) at w) ∙ room_left t receipt outer payload g y.opened.sound e
 
     sends : Sends t tags (take (b.sender - 0) (drop 0 sender)) key b
-    sends = record { opened = y.opened; ready = rw sub_zero m.ready }
+    sends = record { opened = y.opened; ready = rw sub-zero m.ready }
 
   module _ (b : Brought) (q : r ≡ Alone b) where
     brought : AloneAs 2048 receipt outer payload g sender key b

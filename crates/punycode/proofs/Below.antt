@@ -12,7 +12,7 @@ use mathlib.Core.List.{List, [], ◌∷◌}
 use mathlib.Core.Option.{Option, some, none}
 use mathlib.Core.Logic.{⊎_elim}
 use native.Mathlib.Omega.{arith}
-use borrow.Author.Tests.{ltb_true, ltb-false, lt_ltb, le_ltb}
+use borrow.Author.Tests.{ltb-true, ltb-false, lt-ltb, le-ltb}
 use lib.Dec.{ltb}
 use lib.ListN.{length}
 use Rattle.octets.specs.Tests.{every}
@@ -22,11 +22,11 @@ use Rattle.punycode.specs.Punycode.{below, smaller, least, all_basic}
 
 pub below_yes : (n c : ℕ) (s : List ℕ) → c < n → below n (c ∷ s) ≡ c ∷ below n s
 unfolding below
-below_yes n c s h = rw (below, lt_ltb c n h)
+below_yes n c s h = rw (below, lt-ltb c n h)
 
 pub below_no : (n c : ℕ) (s : List ℕ) → n ≤ c → below n (c ∷ s) ≡ below n s
 unfolding below
-below_no n c s h = rw (below, le_ltb c n h)
+below_no n c s h = rw (below, le-ltb c n h)
 
 pub below_at_most : (n : ℕ) (s : List ℕ) → length (below n s) ≤ length s
 unfolding below
@@ -51,7 +51,7 @@ unfolding below every
 below_basic [] = refl
 below_basic (c ∷ s) =
     ⊎_elim
-    (λ (l : c < 128). rw (below_yes 128 c s l) (rw (lt_ltb c 128 l) (below_basic s)))
+    (λ (l : c < 128). rw (below_yes 128 c s l) (rw (lt-ltb c 128 l) (below_basic s)))
     (λ (l : 128 ≤ c). rw (below_no 128 c s l) (below_basic s))
     (lt_or_le c 128)
 
@@ -137,7 +137,7 @@ least_from n c s l (next {m = m} e) = by_test (ltb c m) front back
   where
     front : ltb c m ≡ true → Least n (c ∷ s) (smaller c (some m))
     front q =
-        let k : length (below c s) ≤ length (below m s) = below_grows c m (omega (arith, ltb_true c m q)) s in
+        let k : length (below c s) ≤ length (below m s) = below_grows c m (omega (arith, ltb-true c m q)) s in
         rw q (next (here n c s l (rw e.none_between at k)))
 
     back : ltb c m ≡ false → Least n (c ∷ s) (smaller c (some m))
@@ -148,5 +148,5 @@ unfolding least below
 least_finds n [] = nothing refl
 least_finds n (c ∷ s) =
     by_test (ltb c n)
-    (λ q. rw (least, q) (least_below n c s (ltb_true c n q) (least_finds n s)))
+    (λ q. rw (least, q) (least_below n c s (ltb-true c n q) (least_finds n s)))
     (λ q. rw (least, q) (least_from n c s (ltb-false c n q) (least_finds n s)))

@@ -10,7 +10,7 @@ use mathlib.Core.List.{List, [], ◌∷◌, ◌++◌, append_assoc}
 use mathlib.Core.Option.{Option, some, none}
 use native.Mathlib.Omega.{arith}
 use lib.Dec.{eqb}
-use lib.ListN.{length, get_or, length_append}
+use lib.ListN.{length, get_or, length-append}
 use lib.Seq.{get_or-append-add}
 use Rattle.octets.specs.Tests.{every}
 use Rattle.octets.proofs.Tests.{and_left, and_right}
@@ -72,7 +72,7 @@ module _ (test : ℕ → Bool) (good : (v : ℕ) → v < 36 → test (digit v) �
   -- the last octet, of a text that may stand behind another
   every_last : (a t w : List ℕ) → 1 ≤ length t → every test t ≡ true → w ≡ a ++ t → test (get_or w (length w - 1) 0) ≡ true
   every_last a t w k e q =
-      let n : length (a ++ t) - 1 ≡ length a + (length t - 1) = simp length_append (omega arith) in
+      let n : length (a ++ t) - 1 ≡ length a + (length t - 1) = simp length-append (omega arith) in
       rw (q, n, get_or-append-add a t (length t - 1) 0) (every_at test t e (length t - 1) (omega arith))
 
   pub encode_ends : (ps x : List ℕ) → length (below 128 ps) < length ps → test (get_or (x ++ encode ps) (length (x ++ encode ps) - 1) 0) ≡ true

@@ -17,7 +17,7 @@ use mathlib.Core.Option.{some, none}
 use mathlib.Core.Logic.{⊎_elim}
 use native.Mathlib.Nat.{div-add-mod', div-le_self, mod-lt, mul_comm, mul_assoc, add-mul, add_assoc}
 use native.Mathlib.Omega.{arith}
-use borrow.Author.Tests.{leb-true, leb-false, lt_ltb, le_ltb, le-leb, lt-leb}
+use borrow.Author.Tests.{leb-true, leb-false, lt-ltb, le-ltb, le-leb, lt-leb}
 use lib.Dec.{leb}
 use lib.ListN.{length}
 use Rattle.octets.proofs.Lists.{lt_or_le}
@@ -32,12 +32,12 @@ value_digit v h = ⊎_elim small large (lt_or_le v 26)
     small : v < 26 → value (digit v) ≡ some v
     small l =
         let e : 97 + v - 97 ≡ v = omega arith in
-        rw (lt_ltb v 26 l, le-leb 97 (97 + v) (omega arith), le-leb (97 + v) 122 (omega arith), e)
+        rw (lt-ltb v 26 l, le-leb 97 (97 + v) (omega arith), le-leb (97 + v) 122 (omega arith), e)
 
     large : 26 ≤ v → value (digit v) ≡ some v
     large l =
         let e : 48 + (v - 26) - 48 + 26 ≡ v = omega arith in
-        rw (le_ltb v 26 l, lt-leb 97 (48 + (v - 26)) (omega arith), lt-leb 65 (48 + (v - 26)) (omega arith), le-leb 48 (48 + (v - 26)) (omega arith), le-leb (48 + (v - 26)) 57 (omega arith), e)
+        rw (le-ltb v 26 l, lt-leb 97 (48 + (v - 26)) (omega arith), lt-leb 65 (48 + (v - 26)) (omega arith), le-leb 48 (48 + (v - 26)) (omega arith), le-leb (48 + (v - 26)) 57 (omega arith), e)
 
 pub some_same : (x y : ℕ) → some x ≡ some y → x ≡ y
 some_same x y p = cc
@@ -90,12 +90,12 @@ left_over t q = (q - t) / (36 - t)
 pub integer_last : (f bias k q : ℕ) → q < threshold k bias → integer f bias k q ≡ digit q ∷ []
 unfolding integer
 integer_last zero bias k q h = refl
-integer_last (suc f) bias k q h = rw (integer, lt_ltb q (threshold k bias) h)
+integer_last (suc f) bias k q h = rw (integer, lt-ltb q (threshold k bias) h)
 
 pub integer_more : (f bias k q : ℕ) → threshold k bias ≤ q
     → integer (suc f) bias k q ≡ first_digit (threshold k bias) q ∷ integer f bias (k + 36) (left_over (threshold k bias) q)
 unfolding integer
-integer_more f bias k q h = rw (integer, le_ltb q (threshold k bias) h)
+integer_more f bias k q h = rw (integer, le-ltb q (threshold k bias) h)
 
 -- what a law on numbers has to show, for a count of turns that is enough
 module _ (P : ℕ → ℕ → ℕ → Type 0) (bias : ℕ)
@@ -146,11 +146,11 @@ integer_some (suc f) bias k q =
 module _ (c d : ℕ) (s : List ℕ) (n old bias : ℕ) (out : List ℕ) (i w k : ℕ) (v : value c ≡ some d) where
   pub run_more : threshold k bias ≤ d → run (c ∷ s) n old bias out i w k ≡ run s n old bias out (i + d * w) (w * (36 - threshold k bias)) (k + 36)
   unfolding run
-  run_more h = rw (run, v, le_ltb d (threshold k bias) h)
+  run_more h = rw (run, v, le-ltb d (threshold k bias) h)
 
   pub run_last : d < threshold k bias → run (c ∷ s) n old bias out i w k ≡ landed (run s) n old out (i + d * w)
   unfolding run
-  run_last h = rw (run, v, lt_ltb d (threshold k bias) h)
+  run_last h = rw (run, v, lt-ltb d (threshold k bias) h)
 
 -- q = t + r + m * u, with r < u
 weighed : (q t r m u w : ℕ) → m * u + r ≡ q - t → t ≤ q → (t + r) * w + m * (w * u) ≡ q * w

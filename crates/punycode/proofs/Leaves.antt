@@ -10,18 +10,18 @@ use mathlib.Core.Path.{◌≡◌, ap}
 use mathlib.Core.Bool.{Bool, true, false}
 use native.Mathlib.Omega.{arith}
 use borrow.Author.Rules.{rules}
-use borrow.Author.Tests.{lt_ltb, le_ltb, le-leb, lt-leb}
+use borrow.Author.Tests.{lt-ltb, le-ltb, le-leb, lt-leb}
 use Rattle.punycode.specs.Punycode.{digit, value, threshold}
 use Rattle.punycode.specs.Steps.{value_of, Threshold, Halved}
 use Rattle.punycode.specs.declared.Value.TheVariants.{Digit, Other}
 
 pub digit_small : (v : ℕ) → v < 26 → 97 + v ≡ digit v
 unfolding digit
-digit_small v h = rw (lt_ltb v 26 h)
+digit_small v h = rw (lt-ltb v 26 h)
 
 pub digit_large : (v : ℕ) → 26 ≤ v → 48 + (v - 26) ≡ digit v
 unfolding digit
-digit_large v h = rw (le_ltb v 26 h)
+digit_large v h = rw (le-ltb v 26 h)
 
 pub ruleset digits = (digit_small, digit_large, rules)
 

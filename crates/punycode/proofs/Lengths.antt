@@ -8,7 +8,7 @@ use mathlib.Core.List.{List, [], ◌∷◌}
 use mathlib.Core.Option.{Option, some, none}
 use native.Mathlib.Omega.{arith}
 use lib.Dec.{eqb}
-use lib.ListN.{length, length_append}
+use lib.ListN.{length, length-append}
 use Rattle.punycode.specs.Punycode.{adapt, below, delimited, least, pass, passes, encode}
 use Rattle.punycode.proofs.Integers.{integer_some}
 use Rattle.punycode.proofs.Below.{below_yes, below_no, below_at_most, Least, nothing, next, least_finds}
@@ -30,7 +30,7 @@ module _ (after : ℕ → ℕ → ℕ → List ℕ) (b n k : ℕ) (later : (delt
           rw (pass_below after b n c s delta bias h l, below_yes n c s l, below_yes (n + 1) c s (omega arith)) (omega (arith, rest (delta + 1) bias h))
       go rest (equal e) =
           rw (pass_here after b n c s delta bias h e, below_no n c s (omega arith), below_yes (n + 1) c s (omega arith))
-          (simp length_append (omega (arith, rest 0 (adapt delta (h + 1) (eqb h b)) (h + 1), integer_some delta bias 36 delta)))
+          (simp length-append (omega (arith, rest 0 (adapt delta (h + 1) (eqb h b)) (h + 1), integer_some delta bias 36 delta)))
       go rest (over l) =
           rw (pass_above after b n c s delta bias h l, below_no n c s (omega arith), below_no (n + 1) c s (omega arith)) (rest delta bias h)
 
@@ -54,10 +54,10 @@ module _ (ps : List ℕ) (b : ℕ) where
 delimited_most : (x : List ℕ) → length x ≤ length (delimited x)
 unfolding delimited
 delimited_most [] = zero-le
-delimited_most (c ∷ x) = omega (arith, length_append x (45 ∷ []))
+delimited_most (c ∷ x) = omega (arith, length-append x (45 ∷ []))
 
 pub encode_most : (ps : List ℕ) → length ps ≤ length (encode ps)
 unfolding encode
 encode_most ps =
     let b = length (below 128 ps) in
-    simp length_append (omega (arith, delimited_most (below 128 ps), passes_most ps b (length ps) 128 0 72 b (omega arith)))
+    simp length-append (omega (arith, delimited_most (below 128 ps), passes_most ps b (length ps) 128 0 72 b (omega arith)))

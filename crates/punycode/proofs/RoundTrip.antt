@@ -13,9 +13,9 @@ use mathlib.Core.List.{List, [], ◌∷◌, ◌++◌, append_assoc, append-nil}
 use mathlib.Core.Option.{Option, some, none}
 use native.Mathlib.Nat.{mul-add-div_right, mul-add-mod_self_right, mod-eq_of_lt, div-eq_of_lt, add-mul, add-zero, mul-one}
 use native.Mathlib.Omega.{arith}
-use borrow.Author.Tests.{eq_eqb, ne_eqb, not-true}
+use borrow.Author.Tests.{eq-eqb, ne_eqb, not-true}
 use lib.Dec.{eqb}
-use lib.ListN.{length, drop, length_append}
+use lib.ListN.{length, drop, length-append}
 use lib.Seq.{take_at, drop_at}
 use Rattle.octets.specs.Finding.{holds}
 use Rattle.octets.specs.Tests.{every}
@@ -68,7 +68,7 @@ module _ (b n : ℕ) (all done : List ℕ) (c : ℕ) (suf : List ℕ) (delta h n
   snoc t = append_assoc done (c ∷ []) t
 
   one_more : length (done ++ (c ∷ [])) ≡ length done + 1
-  one_more = length_append done (c ∷ [])
+  one_more = length-append done (c ∷ [])
 
   text_below : c < n → done ++ below n (c ∷ suf) ≡ (done ++ (c ∷ [])) ++ below n suf
   text_below l = rw (below_yes n c suf l) (sym (snoc (below n suf)))
@@ -102,7 +102,7 @@ module _ (b n : ℕ) (all done : List ℕ) (c : ℕ) (suf : List ℕ) (delta h n
   link_here e =
       record {
         whole = snoc _ ∙ rw (← below_yes (n + 1) c suf (omega arith)) k.whole;
-        count = ap (λ (z : ℕ). z + 1) (k.count ∙ ap length (text_above (omega arith))) ∙ simp length_append (omega arith);
+        count = ap (λ (z : ℕ). z + 1) (k.count ∙ ap length (text_above (omega arith))) ∙ simp length-append (omega arith);
         place = omega (arith, one_more);
         first = ne_eqb (length done + 1) 0 (omega arith) ∙ sym (ne_eqb (h + 1) b (omega (arith, k.least)));
         least = omega (arith, k.least);
@@ -116,7 +116,7 @@ module _ (b n : ℕ) (all done : List ℕ) (c : ℕ) (suf : List ℕ) (delta h n
   land_here e v s =
       let t : done ++ below n (c ∷ suf) ≡ done ++ below n suf = text_above (omega arith) in
       let o : length (done ++ below n suf) ≡ h = sym (k.count ∙ ap length t) in
-      let p : length done ≤ h = omega (arith, o, length_append done (below n suf)) in
+      let p : length done ≤ h = omega (arith, o, length-append done (below n suf)) in
       let a : nd + (i + delta) / (length (done ++ below n suf) + 1) ≡ n = rw o (reached_point n nd i delta h (length done) k.place k.rise p) in
       let q : (i + delta) % (length (done ++ below n suf) + 1) ≡ length done = rw o (reached_place n nd i delta h (length done) k.place k.rise p) in
       let d : i + delta - i ≡ delta = omega arith in
@@ -215,7 +215,7 @@ module _ (d : ℕ) where
 
   held_behind : (s t : List ℕ) → holds d (s ++ (d ∷ t)) ≡ true
   unfolding holds
-  held_behind [] t = rw (eq_eqb d d refl)
+  held_behind [] t = rw (eq-eqb d d refl)
   held_behind (x ∷ s) t = rw (held_behind s t) (or-true (eqb x d))
 
 passes_free : (f : ℕ) (ps : List ℕ) (b n delta bias h : ℕ) → holds 45 (passes f ps b n delta bias h) ≡ false
@@ -255,4 +255,4 @@ decode_encode ps v =
     let b = length (below 128 ps) in
     decode_parts (below 128 ps) (numbers ps b) (below_basic ps) (passes_free (length ps) ps b 128 0 72 b)
     ∙ passes_back b ps v (length ps) 128 0 72 b 128 0
-    (record { whole = refl; count = refl; place = omega arith; first = sym (eq_eqb b b refl); least = omega arith; rise = omega arith }) (omega arith)
+    (record { whole = refl; count = refl; place = omega arith; first = sym (eq-eqb b b refl); least = omega arith; rise = omega arith }) (omega arith)

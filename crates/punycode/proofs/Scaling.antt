@@ -9,7 +9,7 @@ use mathlib.Core.Logic.{⊎_elim}
 use native.Mathlib.Nat.{div-le_self}
 use native.Mathlib.Omega.{arith}
 use borrow.Author.Rules.{rules}
-use borrow.Author.Tests.{lt_ltb, le_ltb}
+use borrow.Author.Tests.{lt-ltb, le-ltb}
 use mir.Syntax.{w64}
 use mir.Val.{Fits}
 use Rattle.octets.proofs.Lists.{lt_or_le}
@@ -19,11 +19,11 @@ use Rattle.punycode.specs.Steps.{Halved}
 scaled_done : (f d k : ℕ) → d ≤ 455 → scaled f d k ≡ k + 36 * d / (d + 38)
 unfolding scaled
 scaled_done zero d k h = refl
-scaled_done (suc f) d k h = rw (scaled, le_ltb 455 d h)
+scaled_done (suc f) d k h = rw (scaled, le-ltb 455 d h)
 
 scaled_turn : (f d k : ℕ) → 455 < d → scaled (suc f) d k ≡ scaled f (d / 35) (k + 36)
 unfolding scaled
-scaled_turn f d k h = rw (scaled, lt_ltb 455 d h)
+scaled_turn f d k h = rw (scaled, lt-ltb 455 d h)
 
 -- what bounds the turns does not matter, where it is enough
 scaled_any : (f g d k : ℕ) → d ≤ f → d ≤ g → scaled f d k ≡ scaled g d k

@@ -8,9 +8,9 @@ use mathlib.Core.Bool.{true, ◌&&◌}
 use mathlib.Core.List.{List, [], ◌∷◌}
 use mathlib.Core.Option.{Option, some, none}
 use native.Mathlib.Omega.{arith}
-use borrow.Author.Tests.{ltb_true, lt_ltb}
+use borrow.Author.Tests.{ltb-true, lt-ltb}
 use lib.Dec.{eqb, ltb}
-use lib.ListN.{length, take, drop, length_append, length-drop, take-append-drop}
+use lib.ListN.{length, take, drop, length-append, length-drop, take-append-drop}
 use Rattle.octets.specs.Finding.{holds}
 use Rattle.octets.specs.Options.{IfSome}
 use Rattle.octets.specs.Tests.{every}
@@ -29,10 +29,10 @@ inserted_sound : (m x i : ℕ) (out : List ℕ) → scalar x ≡ true → Sound 
 unfolding inserted every
 inserted_sound m x i out v h =
     let e : (every scalar (take i out) && every scalar (drop i out)) ≡ true = sym (every_append scalar (take i out) (drop i out)) ∙ rw (take-append-drop i out) h.good in
-    let l : length (take i out) + length (drop i out) ≡ length out = sym (length_append (take i out) (drop i out)) ∙ ap length (take-append-drop i out) in
+    let l : length (take i out) + length (drop i out) ≡ length out = sym (length-append (take i out) (drop i out)) ∙ ap length (take-append-drop i out) in
     record {
       good = rw (every_append scalar (take i out) (x ∷ drop i out), v, and_left (every scalar (take i out)) _ e, and_right (every scalar (take i out)) _ e);
-      most = simp length_append (omega (arith, l, h.most));
+      most = simp length-append (omega (arith, l, h.most));
     }
 
 -- each octet that is left is at most one code point more
@@ -76,7 +76,7 @@ consumed_left (c ∷ x) t h = simp length-drop (omega arith)
 
 basic_scalars : (s : List ℕ) → all_basic s ≡ true → every scalar s ≡ true
 unfolding scalar
-basic_scalars s e = every_weaker (λ c. ltb c 128) scalar (λ c q. rw (lt_ltb c 0xD800 (omega (arith, ltb_true c 128 q)))) s e
+basic_scalars s e = every_weaker (λ c. ltb c 128) scalar (λ c q. rw (lt-ltb c 0xD800 (omega (arith, ltb-true c 128 q)))) s e
 
 decode_sound : (t : List ℕ) → IfSome (Sound (length t)) (decode t)
 unfolding decode

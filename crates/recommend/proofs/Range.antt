@@ -12,7 +12,7 @@ use mathlib.Core.Option.{Option, some, none}
 use native.Mathlib.Omega.{arith}
 use borrow.Author.Tests.{leb-true}
 use lib.Dec.{leb}
-use lib.ListN.{length, length_map}
+use lib.ListN.{length, length-map}
 use Rattle.octets.specs.Options.{or_else}
 use Rattle.octets.proofs.Tests.{and_left, and_right}
 use Rattle.refusals.specs.declared.Refusal.{Refusal}
@@ -46,7 +46,7 @@ module _ (t s : List ℕ) (m reply : Bool) where
   unfolding advised
   admitted_range o =
       let some = in_range (addresses s) (admitted_recipients t s o) in
-      let long : length all ≡ length (or_else [] (addresses s)) = length_map (or_else [] (addresses s)) (advice_in t m reply) in
+      let long : length all ≡ length (or_else [] (addresses s)) = length-map (or_else [] (addresses s)) (advice_in t m reply) in
       rw (counted o)
       (first_least all (rw long some.0), omega (arith, first_most all, long, some.1))
 
@@ -72,7 +72,7 @@ module _ (t s : List ℕ) (m reply : Bool) where
   unfolding advised
   counted_all a e d =
       let none = place_of_none all (λ q. d (done_advised t s m reply a e ∙ q)) in
-      (counted (done_admitted t s m reply a e) ∙ none.0 ∙ length_map (or_else [] (addresses s)) (advice_in t m reply), none.1)
+      (counted (done_admitted t s m reply a e) ∙ none.0 ∙ length-map (or_else [] (addresses s)) (advice_in t m reply), none.1)
 
   -- A12: both claims of the contract say what the whole answer is
   pub quick_whole : (r : Quick) → r.answer ≡ recommended_of t s m reply → r.looked_up ≡ looked_up_of t s m reply → r ≡ quick_of t s m reply

@@ -13,7 +13,7 @@ use native.Mathlib.Omega.{arith}
 use native.Mathlib.Numerals.{add-one}
 use borrow.Author.Rules.{rules}
 use borrow.Author.Tests.{not-true, not-false, lt-leb, le-leb}
-use lib.ListN.{length, length_append, length_map}
+use lib.ListN.{length, length-append, length-map}
 use mir.Syntax.{w64}
 use mir.Val.{Fits}
 use Rattle.octets.specs.Options.{or_else, in_front}
@@ -52,7 +52,7 @@ follows_one front a (some rest) = ap some (sym (append_assoc front (a ∷ []) re
 too_many : (front : List (List ℕ)) (o : Option (List (List ℕ))) → most_recipients + 1 ≤ length front → recipient_list (follows front o) ≡ false
 unfolding follows recipient_list
 too_many front none h = refl
-too_many front (some rest) h = rw (lt-leb (length (front ++ rest)) most_recipients (simp length_append (omega arith)), and-false)
+too_many front (some rest) h = rw (lt-leb (length (front ++ rest)) most_recipients (simp length-append (omega arith)), and-false)
 
 -- The loop: these addresses were handed out, and this is what they come to.
 pub record Surveying (t s : List ℕ) (m reply : Bool) (least : Advice) (count looked : ℕ) (here : ListCursor) : Type 0 where
@@ -97,7 +97,7 @@ module _ (t s : List ℕ) (m reply : Bool) where
       given = h.behind ∙ ap (follows h.front) (hand_gives s here k p from to next q) ∙ follows_one h.front (between s from to) (left s next)
 
       longer : count + 1 ≡ length one_more
-      longer = simp length_append (omega (arith, h.many))
+      longer = simp length-append (omega (arith, h.many))
 
       -- R10: a 101st address
       pub survey_many : count ≡ most_recipients → Unfit ≡ survey_of t m reply (addresses s)
@@ -135,7 +135,7 @@ module _ (t s : List ℕ) (m reply : Bool) where
           unfolding advised
           survey_looked n one low e g =
               let longer_found : count + 1 ≡ suc (length found) =
-              ap (λ (n : ℕ). n + 1) (h.many ∙ sym (length_map h.front (advice_in t m reply))) ∙ add-one (length found) in
+              ap (λ (n : ℕ). n + 1) (h.many ∙ sym (length-map h.front (advice_in t m reply))) ∙ add-one (length found) in
               let nobody : any_disable found ≡ false =
               by_test (any_disable found)
               (λ y. absurd (false≢true (sym (not-true b n) ∙ f ∙ rw (h.so_far ∙ any_overall found y))))

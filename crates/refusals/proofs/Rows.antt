@@ -23,7 +23,7 @@ use mathlib.Core.List.{List, [], ◌∷◌, ◌++◌}
 use mathlib.Core.Option.{Option, some, none}
 use native.Mathlib.Omega.{arith}
 use borrow.Author.Rules.{rules}
-use borrow.Author.Tests.{eq_eqb, not-true, not-false}
+use borrow.Author.Tests.{eq-eqb, not-true, not-false}
 use lib.Dec.{eqb}
 use Rattle.refusals.specs.Refusals.{number_of}
 use Rattle.refusals.specs.Rows.{Row, ◌when◌, ◌unless◌, first_of, answered_by, answer_of, number_in, Gives, nothing, here, behind, some_holds}
@@ -81,7 +81,7 @@ unfolding first_of some_holds
 never_given [] r m e = let z : ◌≡◌ {A = ℕ} 0 1 = cc in omega arith
 never_given ((q when true) ∷ rows) r m e =
     let same : q ≡ r = cc in
-    let z : true ≡ false = rw (same, eq_eqb (number_of r) (number_of r) refl) at m in
+    let z : true ≡ false = rw (same, eq-eqb (number_of r) (number_of r) refl) at m in
     false≢true (sym z)
 never_given ((q when false) ∷ rows) r m e = never_given rows r (or_right (eqb (number_of q) (number_of r) && false) (some_holds (number_of r) rows) m) e
   where

@@ -10,12 +10,12 @@ use mathlib.Core.Path.{◌≡◌, refl, sym, ap, ◌∙◌}
 use mathlib.Core.Bool.{true, false≢true}
 use mathlib.Core.List.{List, [], ◌∷◌, ◌++◌, append-nil, append_assoc}
 use mathlib.Core.Option.{Option}
-use native.Mathlib.Nat.{zero_add}
+use native.Mathlib.Nat.{zero-add}
 use native.Mathlib.Numerals.{add-one}
 use native.Mathlib.Omega.{arith}
 use borrow.Author.Rules.{rules}
-use lib.ListN.{length, take, drop, set, length_append, length-take, length-drop}
-use lib.Seq.{length_take_le, take_at, take_suc_set}
+use lib.ListN.{length, take, drop, set, length-append, length-take, length-drop}
+use lib.Seq.{length-take-le, take_at, take-suc-set}
 use Rattle.octets.specs.Written.{put_at}
 use Rattle.octets.specs.Options.{in_front, or_else, is_some}
 use Rattle.octets.specs.Tests.{every}
@@ -56,7 +56,7 @@ unfolding put_at
 grows roll out w at r h e o =
     rw (e, o, ← append_assoc (take at roll) w (drop (at + length w) roll))
     (take_at (take at roll ++ w) (drop (at + length w) roll) (at + length w)
-    (simp length_append (omega (arith, length_take_le at roll h))))
+    (simp length-append (omega (arith, length-take-le at roll h))))
 
 module _ (roll tags places : List ℕ) (at : Rolled) (a : List ℕ) (h : Adds roll tags places at (a ∷ [])) where
   pub add_plain : plain a ≡ true
@@ -91,15 +91,15 @@ module _ (roll tags places : List ℕ) (at : Rolled) (a : List ℕ) (h : Adds ro
   add_place = omega (arith, add_most, h.roomy.short)
 
   pub add_number : at.many < length tags
-  add_number = omega (arith, h.kept.count, h.roomy.numbers, length_append (in_roll at roll) (a ∷ []))
+  add_number = omega (arith, h.kept.count, h.roomy.numbers, length-append (in_roll at roll) (a ∷ []))
 
   pub add_spot : at.many < length places
-  add_spot = omega (arith, h.kept.count, h.roomy.spots, length_append (in_roll at roll) (a ∷ []))
+  add_spot = omega (arith, h.kept.count, h.roomy.spots, length-append (in_roll at roll) (a ∷ []))
 
   module _ (out : List ℕ) (o : out ≡ put_at roll at.end a) where
     pub add_kept_length : length out ≡ length roll
     unfolding put_at
-    add_kept_length = ap length o ∙ simp (length_append, length-take, length-drop) (omega (arith, add_most))
+    add_kept_length = ap length o ∙ simp (length-append, length-take, length-drop) (omega (arith, add_most))
 
     pub add_ender : at.end + length a < length out
     add_ender = omega (arith, add_kept_length, add_most)
@@ -154,13 +154,13 @@ module _ (roll tags places : List ℕ) (at : Rolled) (a : List ℕ) (h : Adds ro
                 ap length (rolled_alone a),
                 entry_length a,
               ));
-          count = rw listed (omega (arith, h.kept.count, length_append (in_roll at roll) (a ∷ [])));
+          count = rw listed (omega (arith, h.kept.count, length-append (in_roll at roll) (a ∷ [])));
           tagged =
               rw (listed, tags_add (in_roll at roll) a, ← h.kept.tagged, ← e, add-one)
-              (take_suc_set tags at.many t add_number);
+              (take-suc-set tags at.many t add_number);
           placed =
-              rw (listed, places_add 0 (in_roll at roll) a, ← h.kept.placed, ← h.kept.long, zero_add, add-one)
-              (take_suc_set places at.many at.end add_spot);
+              rw (listed, places_add 0 (in_roll at roll) a, ← h.kept.placed, ← h.kept.long, zero-add, add-one)
+              (take-suc-set places at.many at.end add_spot);
           plainly = rw listed all_plain;
         }
 

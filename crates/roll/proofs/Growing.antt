@@ -10,8 +10,8 @@ use mathlib.Core.Path.{◌≡◌, sym, ap, ◌∙◌}
 use mathlib.Core.Bool.{true}
 use mathlib.Core.List.{List, [], ◌∷◌, append-nil}
 use native.Mathlib.Omega.{arith}
-use native.Mathlib.Nat.{sub_zero}
-use lib.ListN.{length, take, drop, length_append, length-take}
+use native.Mathlib.Nat.{sub-zero}
+use lib.ListN.{length, take, drop, length-append, length-take}
 use Rattle.octets.specs.Tests.{every}
 use Rattle.address.specs.Address.{is_canonical}
 use Rattle.address.proofs.Spelling.{canonical_plain, own_most}
@@ -49,10 +49,10 @@ module _ (roll tags places : List ℕ) (at : Rolled) (h : Kept roll tags places 
   kept_places = omega (arith, h.count, ap length h.placed, places_length 0 (in_roll at roll), length-take at.many places)
 
   pub kept_list : unrolled (take (at.end - 0) (drop 0 roll)) ≡ in_roll at roll
-  kept_list = rw sub_zero
+  kept_list = rw sub-zero
 
   pub kept_index : Indexed (take (at.end - 0) (drop 0 roll)) (take (at.many - 0) (drop 0 tags)) (take (at.many - 0) (drop 0 places))
-  kept_index = record { tagged = simp sub_zero h.tagged; placed = simp sub_zero h.placed }
+  kept_index = record { tagged = simp sub-zero h.tagged; placed = simp sub-zero h.placed }
 
   -- there is room for another of as many canonical addresses as there can be slots
   pub adds_one :
@@ -77,8 +77,8 @@ module _ (roll tags places : List ℕ) (at : Rolled) (h : Kept roll tags places 
                     own_most a c,
                   );
               short = omega arith;
-              numbers = omega (arith, h.count, length_append (in_roll at roll) (a ∷ []));
-              spots = omega (arith, h.count, length_append (in_roll at roll) (a ∷ []));
+              numbers = omega (arith, h.count, length-append (in_roll at roll) (a ∷ []));
+              spots = omega (arith, h.count, length-append (in_roll at roll) (a ∷ []));
             };
       }
 

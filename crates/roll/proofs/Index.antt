@@ -13,7 +13,7 @@ use native.Mathlib.Numerals.{add-one}
 use native.Mathlib.Omega.{arith}
 use borrow.Author.Tests.{eqb-false}
 use lib.Dec.{eqb}
-use lib.ListN.{length, get_or, drop, length_append}
+use lib.ListN.{length, get_or, drop, length-append}
 use lib.Seq.{drop-drop}
 use Rattle.octets.specs.Octets.{same_octets}
 use Rattle.octets.specs.Finding.{length_before}
@@ -54,7 +54,7 @@ unfolding places_from rolled
 places_add at [] a = rw add-zero
 places_add at (b ∷ rest) a =
     let n : at + length (entry b) + length (rolled rest) ≡ at + length (entry b ++ rolled rest) =
-    omega (arith, length_append (entry b) (rolled rest)) in
+    omega (arith, length-append (entry b) (rolled rest)) in
     rw (places_add (at + length (entry b)) rest a, n)
 
 -- the list is what stands in the roll s from the place `at` on

@@ -13,7 +13,7 @@ use native.Mathlib.Omega.{arith}
 use borrow.Author.Rules.{rules}
 use lib.Dec.{eqb}
 use lib.ListN.{length, get_or, take, drop, length-drop, length-take, drop_of_length-le}
-use lib.Seq.{drop-cons, drop-drop, length_take_le}
+use lib.Seq.{drop-cons, drop-drop, length-take-le}
 use Rattle.octets.specs.Octets.{same_octets}
 use Rattle.octets.specs.Finding.{holds, length_before, Skipped}
 use Rattle.octets.proofs.Lists.{drop_done}
@@ -41,7 +41,7 @@ first_whole x s n e = sym (first_part x s n (omega arith) ∙ rw (drop_done s n 
 
 module _ (tag : ℕ) (tags : List ℕ) (at width i : ℕ) (h : Skipping tag tags at i) (b : Bool) where
   part_whole : width ≤ length tags - i → length (take (i + width - i) (drop i tags)) ≡ width
-  part_whole l = length_take_le (i + width - i) (drop i tags) (omega (arith, length-drop i tags)) ∙ omega arith
+  part_whole l = length-take-le (i + width - i) (drop i tags) (omega (arith, length-drop i tags)) ∙ omega arith
 
   in_piece :
       b ≡ in_first tag (take (i + width - i) (drop i tags)) width → width ≤ length tags - i

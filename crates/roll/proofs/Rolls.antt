@@ -14,9 +14,9 @@ use mathlib.Core.Bool.{true, false, false≢true}
 use mathlib.Core.List.{List, [], ◌∷◌, ◌++◌, append_assoc, append-nil}
 use mathlib.Core.Option.{Option, some, none}
 use native.Mathlib.Omega.{arith}
-use borrow.Author.Tests.{eqb_true, ne_eqb}
+use borrow.Author.Tests.{eqb-true, ne_eqb}
 use lib.Dec.{eqb}
-use lib.ListN.{length, get_or, take, drop, length_append}
+use lib.ListN.{length, get_or, take, drop, length-append}
 use Rattle.octets.specs.Options.{or_else}
 use Rattle.octets.specs.Tests.{every}
 use Rattle.octets.specs.Finding.{length_before}
@@ -30,7 +30,7 @@ use Rattle.roll.specs.Roll.{entry, rolled, lengthened, unrolled, listed_in}
 
 pub entry_length : (a : List ℕ) → length (entry a) ≡ length a + 1
 unfolding entry
-entry_length a = length_append a (0 ∷ [])
+entry_length a = length-append a (0 ∷ [])
 
 pub rolled_none : rolled [] ≡ []
 unfolding rolled
@@ -45,7 +45,7 @@ unfolding rolled
 rolled_alone a = append-nil (entry a)
 
 pub rolled_length : (a : List ℕ) (rest : List (List ℕ)) → length (rolled (a ∷ rest)) ≡ length a + 1 + length (rolled rest)
-rolled_length a rest = rw (rolled_one a rest, length_append, entry_length a)
+rolled_length a rest = rw (rolled_one a rest, length-append, entry_length a)
 
 pub rolled_append : (xs ys : List (List ℕ)) → rolled (xs ++ ys) ≡ rolled xs ++ rolled ys
 unfolding rolled
@@ -53,7 +53,7 @@ rolled_append [] ys = refl
 rolled_append (a ∷ xs) ys = rw (rolled_append xs ys) (sym (append_assoc (entry a) (rolled xs) (rolled ys)))
 
 pub rolled_append_length : (xs ys : List (List ℕ)) → length (rolled (xs ++ ys)) ≡ length (rolled xs) + length (rolled ys)
-rolled_append_length xs ys = rw (rolled_append xs ys, length_append)
+rolled_append_length xs ys = rw (rolled_append xs ys, length-append)
 
 pub rolled_add : (xs : List (List ℕ)) (a : List ℕ) → rolled (xs ++ (a ∷ [])) ≡ rolled xs ++ entry a
 rolled_add xs a = rw (rolled_append xs (a ∷ []), rolled_alone a)
@@ -117,7 +117,7 @@ unfolding unrolled lengthened
 opens [] a rest e = let z : ◌≡◌ {A = ℕ} 0 1 = cc in absurd (omega arith)
 opens (x ∷ s) a rest e =
     by_test (eqb x 0)
-    (λ p. opens_here x s a rest (eqb_true x 0 p) (rw (unrolled, p) at e))
+    (λ p. opens_here x s a rest (eqb-true x 0 p) (rw (unrolled, p) at e))
     (λ p. go p (λ b r q. opens s b r q) (unrolled s) refl)
   where
     go : eqb x 0 ≡ false → ((b : List ℕ) (r : List (List ℕ)) → unrolled s ≡ b ∷ r → Opens s b r) → (l : List (List ℕ)) → unrolled s ≡ l → Opens (x ∷ s) a rest

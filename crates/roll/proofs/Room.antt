@@ -11,7 +11,7 @@ use mathlib.Core.Bool.{true}
 use mathlib.Core.List.{List, [], ◌∷◌, ◌++◌}
 use mathlib.Core.Option.{Option, some, none}
 use native.Mathlib.Omega.{arith}
-use lib.ListN.{length, length_append}
+use lib.ListN.{length, length-append}
 use Rattle.octets.specs.Options.{total}
 use Rattle.octets.specs.Tests.{every}
 use Rattle.octets.proofs.Tests.{and_left, and_right}
@@ -73,6 +73,6 @@ roomy_front xs ys roll tags places rolls numbers spots h l t p =
     record {
       octets = omega (arith, h.octets, rolled_append_length xs ys);
       short = omega (arith, h.short);
-      numbers = omega (arith, h.numbers, length_append xs ys);
-      spots = omega (arith, h.spots, length_append xs ys);
+      numbers = omega (arith, h.numbers, length-append xs ys);
+      spots = omega (arith, h.spots, length-append xs ys);
     }

@@ -12,7 +12,7 @@ use mathlib.Core.Bool.{true, false, ◌||◌}
 use mathlib.Core.List.{List, [], ◌∷◌, ◌++◌}
 use native.Mathlib.Omega.{arith}
 use borrow.Author.Tests.{le-leb, lt-leb, not-true, not-false}
-use lib.ListN.{length, length_append}
+use lib.ListN.{length, length-append}
 use Rattle.octets.proofs.Tests.{by_test}
 use Rattle.addresslist.specs.List.{among}
 use Rattle.table.specs.Table.{found, is_at, free_count}
@@ -39,7 +39,7 @@ module _ (t : List ℕ) (known : List (List ℕ)) where
       one = newcomer_one t known a rest (not-true (is_at (found t a) || among a known) e)
 
       longer : length known + length (newcomers t known (a ∷ rest)) ≡ length (known ++ (a ∷ [])) + length behind
-      longer = rw one (omega (arith, length_append known (a ∷ [])))
+      longer = rw one (omega (arith, length-append known (a ∷ [])))
 
       pub beside_new : room_beside t known (a ∷ rest) ≡ room_beside t (known ++ (a ∷ [])) rest
       unfolding room_beside behind
@@ -49,7 +49,7 @@ module _ (t : List ℕ) (known : List (List ℕ)) where
       unfolding room_beside
       beside_full f =
           lt-leb (length known + length (newcomers t known (a ∷ rest))) (free_count t)
-          (omega (arith, longer, length_append known (a ∷ []), f))
+          (omega (arith, longer, length-append known (a ∷ []), f))
 
     pub beside_one : room_beside t known (a ∷ rest) ≡ room_beside t (with_new t known a) rest
     unfolding with_new

@@ -10,7 +10,7 @@ use mathlib.Core.Bool.{Bool, true, false, not}
 use mathlib.Core.List.{List, [], ◌∷◌}
 use native.Mathlib.Omega.{arith}
 use borrow.Author.Tests.{not-true, not-false}
-use lib.ListN.{length, take, drop, length_append}
+use lib.ListN.{length, take, drop, length-append}
 use Rattle.octets.specs.Tests.{every}
 use Rattle.octets.proofs.Every.{every_append}
 use Rattle.address.specs.Address.{is_canonical}
@@ -101,7 +101,7 @@ module _ (t tags : List ℕ) (free : ℕ) (known numbers spots : List ℕ) (at :
                 one_more,
                 k.count,
                 ap length w.grown,
-                length_append (in_roll at known) (a ∷ []),
+                length-append (in_roll at known) (a ∷ []),
                 m.rolls.kept.count,
               );
           few = m.rolls.few;

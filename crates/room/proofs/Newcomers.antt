@@ -8,7 +8,7 @@ use mathlib.Core.Path.{◌≡◌, refl, sym, ap, ◌∙◌}
 use mathlib.Core.Bool.{Bool, true, false}
 use mathlib.Core.List.{List, [], ◌∷◌}
 use native.Mathlib.Omega.{arith}
-use native.Mathlib.Nat.{sub_zero}
+use native.Mathlib.Nat.{sub-zero}
 use borrow.Author.Rules.{rules}
 use lib.Dec.{ltb}
 use lib.ListN.{length, take, drop}
@@ -80,7 +80,7 @@ module _ (t tags : List ℕ) (free limit : ℕ) (payload recipients listed place
         record {
           tagged = k.tagged;
           rolls = h.rolls;
-          canonical = rw sub_zero (heard_at limit (unrolled recipients) payload place address key r p end n o q).canonical;
+          canonical = rw sub-zero (heard_at limit (unrolled recipients) payload place address key r p end n o q).canonical;
         }
 
 module _ (t : List ℕ) (free limit : ℕ) (recipients payload : List ℕ) (old : List (List ℕ)) (known numbers spots : List ℕ) (at : Rolled) (place : ℕ)
@@ -116,7 +116,7 @@ module _ (t : List ℕ) (free limit : ℕ) (recipients payload : List ℕ) (old 
     stands =
         h.so_far
         ∙ ap (λ (gs : List Gossiped). room_beside t (in_roll at known) (gossip_addresses gs)) heard.first
-        ∙ rw sub_zero
+        ∙ rw sub-zero
 
     module _ (out : List ℕ) (m : Met) (met : MetAs t (in_roll at known) (take (n - 0) (drop 0 address)) out m) where
       pub count_full : m ≡ Full → false ≡ room_beside t old (gossiped_in limit recipients payload)

@@ -15,7 +15,7 @@ use native.Mathlib.Omega.{arith}
 use borrow.Author.Rules.{rules}
 use borrow.Author.Tests.{not-true, not-false}
 use lib.ListN.{length, get_or, drop, take, length-drop, take-append-drop}
-use lib.Seq.{drop-drop, length_take_le}
+use lib.Seq.{drop-drop, length-take-le}
 use Rattle.octets.specs.Tests.{every}
 use Rattle.octets.proofs.Lists.{drop_one, drop_done}
 use Rattle.octets.proofs.Tests.{by_test}
@@ -69,7 +69,7 @@ ran q s i e h r =
     record {
       from = omega arith;
       upto = omega (arith, run_short q (drop i s), length-drop i s);
-      counts = rw n (length_take_le (run q (drop i s)) (drop i s) (run_short q (drop i s)));
+      counts = rw n (length-take-le (run q (drop i s)) (drop i s) (run_short q (drop i s)));
       all = rw n (run_all q (drop i s));
       split = rw (n, b) (sym (take-append-drop (run q (drop i s)) (drop i s)));
       stop = rw b (run_stop q (drop i s));

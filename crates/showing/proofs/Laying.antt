@@ -12,13 +12,13 @@ use mathlib.Core.Path.{◌≡◌, refl, sym, ap, ◌∙◌}
 use mathlib.Core.Bool.{true}
 use mathlib.Core.List.{List, [], ◌∷◌, ◌++◌, append-nil, append_assoc}
 use mathlib.Core.Logic.{⊎_elim}
-use native.Mathlib.Nat.{zero_add, sub_zero}
+use native.Mathlib.Nat.{zero-add, sub-zero}
 use native.Mathlib.Omega.{arith}
 use borrow.Author.Rules.{rules}
 use mir.Syntax.{w64}
 use mir.Val.{Fits}
-use lib.ListN.{length, take, drop, set, length_append, length-drop, length-set}
-use lib.Seq.{drop-drop, take_at, length_take_le}
+use lib.ListN.{length, take, drop, set, length-append, length-drop, length-set}
+use lib.Seq.{drop-drop, take_at, length-take-le}
 use Rattle.octets.specs.Finding.{length_before}
 use Rattle.octets.specs.Written.{put_at, onto}
 use Rattle.octets.specs.Puts.{Written, TooLong, Puts}
@@ -141,7 +141,7 @@ pub ruleset laying = (lay_begin, lay_from, lay_upto, lay_room, lay_none, lay_lon
 -- an address in canonical form: n is the place of its `@`
 module _ (s : List ℕ) (l : length (before 64 s) < length s) (n : ℕ) (r : n ≡ 0 + length_before 64 (drop 0 s)) where
   place : n ≡ length (before 64 s)
-  place = r ∙ zero_add _ ∙ sym (before_long 64 s)
+  place = r ∙ zero-add _ ∙ sym (before_long 64 s)
 
   pub head_end : n + 1 ≤ length s
   head_end = omega (arith, place)
@@ -150,12 +150,12 @@ module _ (s : List ℕ) (l : length (before 64 s) < length s) (n : ℕ) (r : n �
   head_sum m = omega (arith, place)
 
   pub head_count : n + 1 ≡ length (take (n + 1) s)
-  head_count = sym (length_take_le (n + 1) s head_end)
+  head_count = sym (length-take-le (n + 1) s head_end)
 
   head : take (n + 1) s ≡ before 64 s ++ 64 ∷ []
   head =
       ap (take (n + 1)) (sides_join 64 s l ∙ sym (append_assoc (before 64 s) (64 ∷ []) (behind 64 s)))
-      ∙ take_at (before 64 s ++ 64 ∷ []) (behind 64 s) (n + 1) (rw length_append (omega (arith, place)))
+      ∙ take_at (before 64 s ++ 64 ∷ []) (behind 64 s) (n + 1) (rw length-append (omega (arith, place)))
 
   whole : shown_form s ≡ take (n + 1) s ++ shown_labels (drop (n + 1) s)
   unfolding shown_form
@@ -199,7 +199,7 @@ module _ (t d : List ℕ) where
 
     pub front_kept : (out : List ℕ) → out ≡ put_at d 0 t → out ≡ onto_if_fits t d
     unfolding put_at onto
-    front_kept out e = e ∙ rw zero_add (sym (onto_fits t d l))
+    front_kept out e = e ∙ rw zero-add (sym (onto_fits t d l))
 
 pub ruleset putting_front = (front_none, front_same, front_written, front_kept, rules)
 
@@ -223,13 +223,13 @@ module _ (s x₀ x d : List ℕ) (most : length (shown_form s) ≤ 1016) (l : le
     made_end = omega (arith, made.room, wrote_long x₀ 0 x n _ _ made)
 
     pub made_count : n ≡ length (take n x)
-    made_count = sym (length_take_le n x made_end)
+    made_count = sym (length-take-le n x made_end)
 
     made_is : take n x ≡ shown_form s
     unfolding put_at
     made_is =
         ap (take n) made.writes
-        ∙ take_at made.octets (drop (0 + length made.octets) x₀) n (sym (made.counts ∙ zero_add _))
+        ∙ take_at made.octets (drop (0 + length made.octets) x₀) n (sym (made.counts ∙ zero-add _))
         ∙ sym (made.splits ∙ append-nil made.octets)
 
     pub made_written : (g : Fitted) → g ≡ written_of (take n x) (length d) → g ≡ written_of (shown_form s) (length d)
@@ -254,7 +254,7 @@ module _ (s f₀ f d : List ℕ) (p : plain s ≡ true) (l : length f₀ ≡ 254
 
   module _ (n : ℕ) (q : g ≡ Length n) (o : f ≡ onto_if_fits (canonical s) f₀) where
     its : take n f ≡ canonical s
-    its = rw sub_zero at (form_there s p (length f₀) (omega arith) g w n q f₀ f o refl)
+    its = rw sub-zero at (form_there s p (length f₀) (omega arith) g w n q f₀ f o refl)
 
     is_displayed : shown_form (take n f) ≡ displayed s
     unfolding shown_form shown_labels displayed
@@ -264,7 +264,7 @@ module _ (s f₀ f d : List ℕ) (p : plain s ≡ true) (l : length f₀ ≡ 254
     its_end = form_end s p (length f₀) (omega arith) g w n q f₀ f o refl
 
     pub its_count : n ≡ length (take n f)
-    its_count = sym (length_take_le n f its_end)
+    its_count = sym (length-take-le n f its_end)
 
     pub its_sides : length (before 64 (take n f)) < length (take n f)
     its_sides = rw its (omega (arith, counted (canonical s) (right (canonical s) (plain_canonical s p))))

@@ -12,11 +12,11 @@ use mathlib.Core.Bool.{Bool, true, false, ◌&&◌, false≢true}
 use mathlib.Core.List.{List, [], append-nil}
 use mathlib.Core.Option.{Option, some, none}
 use mathlib.Core.Logic.{⊎_elim}
-use native.Mathlib.Nat.{sub_zero}
+use native.Mathlib.Nat.{sub-zero}
 use native.Mathlib.Omega.{arith}
 use borrow.Author.Rules.{rules}
 use lib.ListN.{length, take, drop, length-drop}
-use lib.Seq.{length_take_le, take_all}
+use lib.Seq.{length-take-le, take_all}
 use Rattle.octets.specs.Octets.{same_octets, starts_with}
 use Rattle.octets.specs.Written.{put_at}
 use Rattle.octets.specs.Puts.{Written, Puts, Told, Untold, PutsText}
@@ -71,11 +71,11 @@ module _ (t w f₀ f : List ℕ) (l : length f₀ ≡ 63) (r : Laid) (h : PutsTe
     own_end = omega (arith, told_long f₀ 0 f n _ own, own.room)
 
     pub own_count : n ≡ length (take n f)
-    own_count = sym (length_take_le n f own_end)
+    own_count = sym (length-take-le n f own_end)
 
     pub own_same : (b : Bool) → b ≡ same_octets (take n f) w → b ≡ (label t && same_form w (label_form t))
     unfolding same_form
-    own_same b e = e ∙ rw (rw sub_zero at (told_front f₀ f n _ own), is_label, is_form)
+    own_same b e = e ∙ rw (rw sub-zero at (told_front f₀ f n _ own), is_label, is_form)
 
 pub ruleset having_form = (own_none, own_end, own_count, own_same, rules)
 
@@ -95,7 +95,7 @@ module _ (c d p₀ p : List ℕ) (o : Decoded) where
     decoded_end = read.upto
 
     pub decoded_count : n ≡ length (take n p)
-    decoded_count = sym (length_take_le n p read.upto)
+    decoded_count = sym (length-take-le n p read.upto)
 
     pub decoded_points : scalars (take n p) ≡ true
     decoded_points = decode_scalars c (take n p) read.text
@@ -154,13 +154,13 @@ module _ (w : List ℕ) (few : 4 ≤ length w) (most : length w ≤ 63) where
     opened_end = omega (arith, told_long x₀ 0 x n _ told, told.room)
 
     pub opened_count : n ≡ length (take n x)
-    opened_count = sym (length_take_le n x opened_end)
+    opened_count = sym (length-take-le n x opened_end)
 
     either_is : shown_by w (decode (drop 4 w)) ≡ either_of w (take n x)
     either_is =
         ap (λ c. shown_by w (decode c)) (sym code_is)
         ∙ by_text w (decode code) told.text told.is
-        ∙ ap (either_of w) (sym (rw sub_zero at (told_front x₀ x n _ told)))
+        ∙ ap (either_of w) (sym (rw sub-zero at (told_front x₀ x n _ told)))
 
     pub opened_put : (d e : List ℕ) (at : ℕ) (r : Laid) → Puts d e at (either_of w (take n x)) r → Puts d e at (shown_by w (decode (drop 4 w))) r
     opened_put d e at r p = rw either_is p

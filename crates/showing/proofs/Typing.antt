@@ -13,7 +13,7 @@ use mathlib.Core.Bool.{true, false, not, ◌&&◌, false≢true}
 use mathlib.Core.List.{List, ◌∷◌, ◌++◌, map, append-nil}
 use mathlib.Core.Option.{Option, some, none}
 use native.Mathlib.Omega.{arith}
-use borrow.Author.Tests.{le-leb, eqb_true}
+use borrow.Author.Tests.{le-leb, eqb-true}
 use lib.Dec.{eqb}
 use lib.ListN.{length, drop}
 use Rattle.octets.specs.Octets.{starts_with}
@@ -77,7 +77,7 @@ label_free d out s h =
     every_weaker label_octet (λ x. not (eqb x d))
     (λ x e.
     by_test (eqb x d)
-    (λ q. absurd (false≢true (sym out ∙ ap label_octet (sym (eqb_true x d q)) ∙ e)))
+    (λ q. absurd (false≢true (sym out ∙ ap label_octet (sym (eqb-true x d q)) ∙ e)))
     (λ q. rw q))
     s (all_label s h)
 

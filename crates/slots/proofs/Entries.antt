@@ -13,7 +13,7 @@ use borrow.Author.Rules.{rules}
 use mir.Syntax.{w8}
 use mir.Val.{Fits}
 use lib.ListN.{length, get_or, take, drop, replicate, length-take, length-drop, take-append-drop}
-use lib.Seq.{length_take_le, take_all}
+use lib.Seq.{length-take-le, take_all}
 use Rattle.octets.specs.Octets.{AllOctets, all_zero}
 use Rattle.octets.specs.Written.{put_at}
 use Rattle.octets.specs.Options.{or_else}
@@ -41,7 +41,7 @@ use Rattle.slots.proofs.Sounds.{sound_parts}
 padded_back : (room n : ℕ) (a : List ℕ) → length a ≡ room → n ≤ room → all_zero (drop n a) ≡ true → padded room (take n a) ≡ a
 unfolding padded
 padded_back room n a e l z =
-    let k : length (take n a) ≡ n = length_take_le n a (omega arith) in
+    let k : length (take n a) ≡ n = length-take-le n a (omega arith) in
     let c : length (drop n a) ≡ room - n = length-drop n a ∙ rw e in
     let t : drop n a ≡ replicate (room - n) 0 = zero_true (drop n a) z ∙ rw c in
     rw (k, ← t) (take-append-drop n a)
@@ -59,7 +59,7 @@ module _ {how : Spelling} (s : List ℕ) (l : length s ≡ slot_length) (p : Sou
       let m : length (take (address_length s) (address_area s)) ≤ 254 = spelled_most how (take (address_length s) (address_area s)) p.address in
       let k : length (address_area s) ≡ 256 = part_length 40 256 s (omega arith) in
       let t : min (address_length s) (length (address_area s)) ≤ 254 = rw length-take at m in
-      length_take_le (address_length s) (address_area s) (omega arith)
+      length-take-le (address_length s) (address_area s) (omega arith)
 
   pub address_fits : address_length s ≤ address_room
   address_fits = omega (arith, address_long, spelled_most how (address_of s) p.address)
@@ -72,11 +72,11 @@ module _ {how : Spelling} (s : List ℕ) (l : length s ≡ slot_length) (p : Sou
 
   pub direct_long : length (direct_key_of s) ≡ direct_length s
   unfolding direct_key_of
-  direct_long = length_take_le (direct_length s) (direct_area s) (rw (part_length 296 2048 s (omega arith)) direct_fits)
+  direct_long = length-take-le (direct_length s) (direct_area s) (rw (part_length 296 2048 s (omega arith)) direct_fits)
 
   pub gossip_long : length (gossip_key_of s) ≡ gossip_length s
   unfolding gossip_key_of
-  gossip_long = length_take_le (gossip_length s) (gossip_area s) (rw (part_length 2344 2048 s (omega arith)) gossip_fits)
+  gossip_long = length-take-le (gossip_length s) (gossip_area s) (rw (part_length 2344 2048 s (omega arith)) gossip_fits)
 
   -- the halves of the entry, and what stands in the slot
   direct_in : {B : Type 0} (f : Direct → B) → (has_direct s ≡ false → f no_direct ≡ f (record { timestamp = timestamp s; key = direct_key_of s; «mutual» = is_mutual s }))

@@ -9,7 +9,7 @@ use mathlib.Core.Path.{◌≡◌, refl, ap, ◌∙◌}
 use mathlib.Core.Bool.{true}
 use mathlib.Core.List.{List, ◌∷◌, ◌++◌}
 use native.Mathlib.Omega.{arith}
-use lib.ListN.{length, take, drop, replicate, length_append}
+use lib.ListN.{length, take, drop, replicate, length-append}
 use lib.Seq.{take_at, drop_at, take_all}
 use Rattle.octets.specs.Octets.{AllOctets, all_zero}
 use Rattle.octets.specs.Options.{or_else}
@@ -98,7 +98,7 @@ module _ (e : Entry) (g : Good e) where
 
   pub slot_long : length (slot_of e) ≡ slot_length
   unfolding slot_of areas
-  slot_long = simp length_append (omega (arith, length_head (head_for e), address_long, direct_long, gossip_long))
+  slot_long = simp length-append (omega (arith, length_head (head_for e), address_long, direct_long, gossip_long))
 
   pub address_kept : address_of (slot_of e) ≡ e.address
   unfolding address_of

@@ -9,7 +9,7 @@ use mathlib.Core.Path.{◌≡◌}
 use mathlib.Core.Bool.{Bool, true, false, ◌&&◌}
 use mathlib.Core.List.{List, [], ◌∷◌}
 use native.Mathlib.Omega.{arith}
-use borrow.Author.Tests.{ltb_true}
+use borrow.Author.Tests.{ltb-true}
 use lib.Dec.{ltb}
 use lib.ListN.{drop}
 use Rattle.octets.specs.Octets.{all_zero}
@@ -52,7 +52,7 @@ sound_parts {how} s h =
     record {
       opens = same_true (part 0 1 s) mark t.0.0;
       address = t.0.1;
-      low = ltb_true (bits s) 16 c.0;
+      low = ltb-true (bits s) 16 c.0;
       zeros = c.1;
       zeros_too = c.2;
       seen_range = seen.in_range;

@@ -8,10 +8,10 @@
 use Prim.Native.Nat.{ℕ, suc, ◌+◌, ◌-◌, ◌≤◌}
 use mathlib.Core.Path.{◌≡◌, refl, sym, ap, ◌∙◌}
 use mathlib.Core.List.{List, [], ◌++◌, append_assoc}
-use native.Mathlib.Nat.{add-zero, sub_zero}
+use native.Mathlib.Nat.{add-zero, sub-zero}
 use native.Mathlib.Omega.{arith}
 use borrow.Author.Rules.{rules}
-use lib.ListN.{length, take, drop, replicate, length_append, length-replicate, length-take, length-drop, replicate-append-replicate}
+use lib.ListN.{length, take, drop, replicate, length-append, length-replicate, length-take, length-drop, replicate-append-replicate}
 use Rattle.octets.specs.Written.{put_at}
 use Rattle.octets.specs.Options.{is_some, or_else}
 use Rattle.heads.specs.declared.Head.{Head}
@@ -30,7 +30,7 @@ head_lent n s w l e = rw e (put_within s (head_octets n) 40 2 (omega (arith, len
 
 pub length_padded : (room : ℕ) (t : List ℕ) → length t ≤ room → length (padded room t) ≡ room
 unfolding padded
-length_padded room t h = simp (length_append, length-replicate) (omega arith)
+length_padded room t h = simp (length-append, length-replicate) (omega arith)
 
 -- an area: its text, then a part that is filled with zeros
 pub padded_put : (d t o w : List ℕ) (at room : ℕ) → (at + room ≤ length d) × (length t ≤ room) → o ≡ put_at d at t
@@ -49,7 +49,7 @@ padded_put d t o w at room h eo ew =
 -- an area that is empty
 pub padded_none : (room : ℕ) → padded room [] ≡ replicate room 0
 unfolding padded
-padded_none room = simp sub_zero
+padded_none room = simp sub-zero
 
 -- a front and a text, written over zeros
 over_zeros : (h a : List ℕ) (p r k g m : ℕ) → length h ≡ p → length a ≤ r → m ≡ p + (r + (k + g))

@@ -13,7 +13,7 @@ use mathlib.Core.Logic.{⊎_elim}
 use mathlib.Core.Bool.{Bool, true, false, not, ◌&&◌, ◌||◌, and-false, false≢true}
 use mathlib.Core.List.{List}
 use native.Mathlib.Omega.{arith}
-use borrow.Author.Tests.{eqb_true, eqb-false}
+use borrow.Author.Tests.{eqb-true, eqb-false}
 use lib.Dec.{eqb}
 use lib.ListN.{length}
 use Rattle.octets.specs.Octets.{same_octets}
@@ -180,7 +180,7 @@ module _ (t : List ℕ) (s : SoundTable t) (e : Entry) (g : Good e) (i : ℕ) (l
       (λ o b.
       rw (there j d)
       (by_test (eqb o i)
-      (λ h. let q : o ≡ i = eqb_true o i h in rw (q, here) (new_not j k d m))
+      (λ h. let q : o ≡ i = eqb-true o i h in rw (q, here) (new_not j k d m))
       (λ h. rw (there o (eqb-false o i h)) (lower_not t j f o b))))
 
   right_there : (j : ℕ) → j < slots t → (j ≡ i → ⊥) → right (with_slot t i (slot_of e)) j ≡ true
@@ -204,7 +204,7 @@ module _ (t : List ℕ) (s : SoundTable t) (e : Entry) (g : Good e) (i : ℕ) (l
         whole_slots = whole_kept;
         each = λ j k.
             let c : j < slots t = rw (slots_kept t (slot_of e) i l long) at k in
-            by_test (eqb j i) (λ h. let q : j ≡ i = eqb_true j i h in rw q right_here) (λ h. right_there j c (eqb-false j i h));
+            by_test (eqb j i) (λ h. let q : j ≡ i = eqb-true j i h in rw q right_here) (λ h. right_there j c (eqb-false j i h));
       })
 
 module _ (t : List ℕ) (s : SoundTable t) (e : Entry) (g : Good e) (i : ℕ) where

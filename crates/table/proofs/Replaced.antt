@@ -11,7 +11,7 @@ use mathlib.Core.Bool.{true, false, false≢true}
 use mathlib.Core.Option.{some}
 use mathlib.Core.List.{List}
 use native.Mathlib.Omega.{arith}
-use borrow.Author.Tests.{eqb_true, eqb-false}
+use borrow.Author.Tests.{eqb-true, eqb-false}
 use lib.Dec.{eqb}
 use lib.ListN.{length}
 use Rattle.octets.specs.Octets.{AllOctets, same_octets}
@@ -92,7 +92,7 @@ module _ (t : List ℕ) (i : ℕ) (l : i < slots t) (e : Entry) (g : Good e) whe
         (lowest_same (has_address b) t (with_slot t i (slot_of e)) 0 (slots t)
         (λ m a c.
         by_test (eqb m i)
-        (λ h. let q : m ≡ i = eqb_true m i h in rw (q, here, f) (made_has_not e g b n))
+        (λ h. let q : m ≡ i = eqb-true m i h in rw (q, here, f) (made_has_not e g b n))
         (λ h. rw (there m (eqb-false m i h)))))
 
     pub entry_kept : entry_in (with_slot t i (slot_of e)) b ≡ entry_in t b
@@ -118,4 +118,4 @@ module _ (t : List ℕ) (i : ℕ) (l : i < slots t) (e : Entry) (g : Good e) whe
   free_same m =
       rw kept
       (many_alike unused t (with_slot t i (slot_of e)) 0 (slots t)
-      (λ j a b. by_test (eqb j i) (λ h. let q : j ≡ i = eqb_true j i h in rw (q, m) used_now) (λ h. rw (there j (eqb-false j i h)))))
+      (λ j a b. by_test (eqb j i) (λ h. let q : j ≡ i = eqb-true j i h in rw (q, m) used_now) (λ h. rw (there j (eqb-false j i h)))))

@@ -9,7 +9,7 @@ use Prim.Native.Nat.{ℕ, suc, ◌+◌, ◌-◌, ◌<◌, ◌≤◌}
 use mathlib.Core.Path.{◌≡◌, sym, ◌∙◌}
 use mathlib.Core.Bool.{Bool, true, false}
 use mathlib.Core.List.{List}
-use native.Mathlib.Nat.{sub_zero}
+use native.Mathlib.Nat.{sub-zero}
 use native.Mathlib.Omega.{arith}
 use borrow.Author.Rules.{rules}
 use Rattle.octets.proofs.Lists.{left_one}
@@ -40,7 +40,7 @@ pub record Scan (test : List ℕ → Bool) (t : List ℕ) (n i : ℕ) : Type 0 w
 
 module _ (test : List ℕ → Bool) (t : List ℕ) (n : ℕ) where
   pub scan_begin : Scan test t n 0
-  scan_begin = record { upto = omega arith; so_far = rw (sub_zero n) }
+  scan_begin = record { upto = omega arith; so_far = rw (sub-zero n) }
 
   module _ (i : ℕ) (h : Scan test t n i) where
     pub scan_no : i < n → test (slot_at t i) ≡ false → Scan test t n (i + 1)
@@ -83,7 +83,7 @@ pub record Tally (t : List ℕ) (n many i : ℕ) : Type 0 where
   pub so_far : how_many unused t 0 n ≡ many + how_many unused t i (n - i)
 
 pub tally_begin : (t : List ℕ) (n : ℕ) → Tally t n 0 0
-tally_begin t n = record { upto = omega arith; few = omega arith; so_far = rw (sub_zero n) (omega arith) }
+tally_begin t n = record { upto = omega arith; few = omega arith; so_far = rw (sub-zero n) (omega arith) }
 
 module _ (t : List ℕ) (n many i : ℕ) (h : Tally t n many i) where
   module _ (b : Bool) (l : i < n) (p : b ≡ unused (slot_at t i)) where

@@ -19,7 +19,7 @@ use borrow.Author.Rules.{rules}
 use mir.Syntax.{w64}
 use mir.Val.{Fits}
 use lib.ListN.{length, take, drop, replicate, length-take, length-drop}
-use lib.Seq.{take_at, drop_at, take_take, drop-drop, length_take_le}
+use lib.Seq.{take_at, drop_at, take-take, drop-drop, length-take-le}
 use Rattle.octets.specs.Octets.{AllOctets}
 use Rattle.octets.specs.Written.{put_at}
 use Rattle.octets.proofs.Lists.{take_octets, drop_octets, lt_or_le}
@@ -74,9 +74,9 @@ pub area_octets : (t : List ℕ) (i at long n : ℕ) → at + long ≤ 4392 → 
 unfolding slot_at
 area_octets t i at long n l m =
     rw (
-      take_take n long (drop at (take 4392 (drop (i * 4392) t))) m,
+      take-take n long (drop at (take 4392 (drop (i * 4392) t))) m,
       drop_take at 4392 (drop (i * 4392) t),
-      take_take n (4392 - at) (drop at (drop (i * 4392) t)) (omega arith),
+      take-take n (4392 - at) (drop at (drop (i * 4392) t)) (omega arith),
       drop-drop at (i * 4392) t,
     )
 
@@ -95,7 +95,7 @@ module _ (t s : List ℕ) (i : ℕ) (h : i < slots t) (l : length s ≡ slot_len
 
   -- the table in three parts
   before_long : length (take (i * 4392) t) ≡ i * 4392
-  before_long = length_take_le (i * 4392) t (omega (arith, room t i h))
+  before_long = length-take-le (i * 4392) t (omega (arith, room t i h))
 
   pub slot_same : slot_at (with_slot t i s) i ≡ s
   unfolding slot_at with_slot put_at

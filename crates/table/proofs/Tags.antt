@@ -11,7 +11,7 @@ use mathlib.Core.Path.{◌≡◌, sym, ◌∙◌}
 use mathlib.Core.Bool.{true}
 use mathlib.Core.List.{List, ◌++◌}
 use native.Mathlib.Omega.{arith}
-use borrow.Author.Tests.{eqb_true, eqb-false}
+use borrow.Author.Tests.{eqb-true, eqb-false}
 use mir.Syntax.{w8}
 use mir.Val.{Fits}
 use lib.Dec.{eqb}
@@ -51,7 +51,7 @@ module _ (t tags : List ℕ) (h : Tagged t tags) (i : ℕ) (l : i < slots t) (e 
         each = λ k b.
             by_test (eqb k i)
             (λ q.
-            let p : k ≡ i = eqb_true k i q in
+            let p : k ≡ i = eqb-true k i q in
             rw p (get_or-set_same tags i (tag_of e.address) 0 (omega (arith, h.room, h.few)) ∙ sym tag_here))
             (λ q.
             get_or-set_other tags i k (tag_of e.address) 0 (eqb-false k i q)
@@ -71,7 +71,7 @@ module _ (t tags : List ℕ) (h : Tagged t tags) (i : ℕ) (l : i < slots t) (e 
           room = h.room;
           each = λ k b.
               by_test (eqb k i)
-              (λ q. let p : k ≡ i = eqb_true k i q in rw p (h.each i l ∙ tag_before ∙ sym tag_here))
+              (λ q. let p : k ≡ i = eqb-true k i q in rw p (h.each i l ∙ tag_before ∙ sym tag_here))
               (λ q. h.each k (rw same_count at b) ∙ sym (tag_there k (eqb-false k i q)));
         }
 

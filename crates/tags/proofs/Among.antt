@@ -4,7 +4,7 @@
 --     first_not                    one that is not among them stands at no place
 --     looking                      what `is_among` asks
 -- Assumes nothing.
-use Rattle.std.proofs.Common.{◌≡◌, ℕ, zero, suc, ◌+◌, ◌<◌, ◌≤◌, Bool, true, false, ◌||◌, eqb, List, get_or, sym, refl, ◌∙◌, ⊎_elim, add-one, arith, rules, eq_eqb}
+use Rattle.std.proofs.Common.{◌≡◌, ℕ, zero, suc, ◌+◌, ◌<◌, ◌≤◌, Bool, true, false, ◌||◌, eqb, List, get_or, sym, refl, ◌∙◌, ⊎_elim, add-one, arith, rules, eq-eqb}
 use mathlib.Core.Bool.{or-true, false≢true}
 use Rattle.octets.proofs.Lists.{lt_or_le}
 use Rattle.tags.specs.Tags.{in_first}
@@ -26,7 +26,7 @@ module _ (x : ℕ) (tags : List ℕ) where
   first_at zero k l e = absurd (omega arith)
   first_at (suc n) k l e =
       ⊎_elim (λ (m : k < n). rw (first_at n k m e))
-      (λ (m : n ≤ k). let q : k ≡ n = omega arith in rw (eq_eqb (get_or tags n 0) x (rw q at e)) (or-true (in_first x tags n)))
+      (λ (m : n ≤ k). let q : k ≡ n = omega arith in rw (eq-eqb (get_or tags n 0) x (rw q at e)) (or-true (in_first x tags n)))
       (lt_or_le k n)
 
   pub first_not : (n k : ℕ) → in_first x tags n ≡ false → k < n → get_or tags k 0 ≡ x → ⊥

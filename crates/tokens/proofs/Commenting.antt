@@ -15,7 +15,7 @@ use mathlib.Core.Option.{none}
 use native.Mathlib.Omega.{arith}
 use native.Mathlib.Numerals.{add-one}
 use borrow.Author.Rules.{rules}
-use borrow.Author.Tests.{ne_eqb, lt_ltb}
+use borrow.Author.Tests.{ne_eqb, lt-ltb}
 use lib.ListN.{length, get_or, drop}
 use Rattle.octets.proofs.Lists.{drop_one, drop_done}
 use Rattle.octets.specs.Octets.{blank}
@@ -35,7 +35,7 @@ module _ (s : List ℕ) (i : ℕ) (h : i < length s) where
   past_opens : (n : ℕ) → get_or s i 0 ≡ 40 → n < 16 → past n false (drop i s) ≡ past (suc n) false (drop (i + 1) s)
   unfolding past blank
   past_opens zero q l = rw (drop_one s i h, past, q, q)
-  past_opens (suc n) q l = rw (drop_one s i h, past, q, lt_ltb (suc n) 16 l)
+  past_opens (suc n) q l = rw (drop_one s i h, past, q, lt-ltb (suc n) 16 l)
 
   past_too_deep : get_or s i 0 ≡ 40 → past 16 false (drop i s) ≡ none
   unfolding past

@@ -12,7 +12,7 @@ use mathlib.Core.Bool.{Bool, true, false}
 use mathlib.Core.List.{List, [], ◌∷◌}
 use mathlib.Core.Option.{some, none}
 use native.Mathlib.Omega.{arith}
-use native.Mathlib.Nat.{sub_zero}
+use native.Mathlib.Nat.{sub-zero}
 use borrow.Author.Rules.{rules}
 use borrow.Author.Tests.{ne_eqb}
 use lib.Dec.{eqb, ltb}
@@ -41,7 +41,7 @@ skipping_begin s at = record { same = refl }
 module _ (s : List ℕ) (at i : ℕ) (h : Skipping s at i) where
   pub skipping_end : length s ≤ i → To (length s) ≡ reached s (skipped (drop at s))
   unfolding past reached
-  skipping_end l = rw (h.same, drop_done s i l, sub_zero)
+  skipping_end l = rw (h.same, drop_done s i l, sub-zero)
 
   -- a comment, which the reader of comments has passed or found unreadable
   module _ (r : Reached) (p : Passed s i (opened depth) (opened depth) r) where

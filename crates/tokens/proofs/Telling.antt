@@ -7,7 +7,7 @@ use mathlib.Core.Path.{◌≡◌, sym, ◌∙◌}
 use mathlib.Core.Bool.{Bool, true, false, not}
 use mathlib.Core.List.{List}
 use borrow.Author.Rules.{rules}
-use borrow.Author.Tests.{eq_eqb, ne_eqb}
+use borrow.Author.Tests.{eq-eqb, ne_eqb}
 use lib.ListN.{length, get_or, drop}
 use Rattle.octets.proofs.Lists.{drop_one, drop_done}
 use Rattle.tokens.specs.Tokens.{control, kind_of}
@@ -17,12 +17,12 @@ use Rattle.tokens.specs.declared.OctetKind.TheVariants.{Closes, Escapes, Control
 module _ (closing x : ℕ) where
   pub kind_closes : x ≡ closing → Closes ≡ kind_of closing x
   unfolding kind_of
-  kind_closes e = rw (eq_eqb x closing e)
+  kind_closes e = rw (eq-eqb x closing e)
 
   module _ (apart : x ≡ closing → ⊥) where
     pub kind_escapes : x ≡ 92 → Escapes ≡ kind_of closing x
     unfolding kind_of
-    kind_escapes e = rw (ne_eqb x closing apart, eq_eqb x 92 e)
+    kind_escapes e = rw (ne_eqb x closing apart, eq-eqb x 92 e)
 
     module _ (bare : x ≡ 92 → ⊥) (r : Bool) (told : r ≡ control x) where
       pub kind_control : r ≡ true → Control ≡ kind_of closing x

@@ -11,7 +11,7 @@ use mathlib.Core.Bool.{false}
 use mathlib.Core.Option.{Option, some, none}
 use mathlib.Core.List.{List}
 use native.Mathlib.Omega.{arith}
-use borrow.Author.Tests.{le_ltb}
+use borrow.Author.Tests.{le-ltb}
 use Rattle.octets.proofs.Tests.{by_test}
 use Rattle.heads.specs.Entry.{Direct, Gossip, Entry, seen_by, with_direct, with_gossip}
 use Rattle.update.specs.Update.{Order, stays, Half, with_half, taking, above, the_direct, younger, updated, the_gossip, younger_gossip, heard}
@@ -46,7 +46,7 @@ module _ (date : ℕ) (e : Entry) where
 -- an equal date replaces, whichever half it is
 equal_stays_not : {A : Type 0} (half : Half A) (x : A) → stays (above half) (some x) (half.timestamp x) none ≡ false
 unfolding stays above
-equal_stays_not half x = le_ltb (half.timestamp x) (half.timestamp x) (omega arith)
+equal_stays_not half x = le-ltb (half.timestamp x) (half.timestamp x) (omega arith)
 
 pub equal_replaces : (d : Direct) → younger d.timestamp (some d) ≡ false
 unfolding younger

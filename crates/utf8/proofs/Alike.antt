@@ -12,7 +12,7 @@ use mathlib.Core.Bool.{Bool, true, false, cond, not, ◌&&◌, ◌||◌}
 use mathlib.Core.List.{List, [], ◌∷◌, ◌++◌}
 use mathlib.Core.Logic.{⊎_elim}
 use native.Mathlib.Omega.{arith}
-use borrow.Author.Tests.{leb-true, ne_eqb, lt_ltb, le_ltb}
+use borrow.Author.Tests.{leb-true, ne_eqb, lt-ltb, le-ltb}
 use lib.Dec.{leb, ltb, eqb}
 use lib.ListN.{length, get_or}
 use Rattle.octets.specs.Octets.{lower, lowered}
@@ -120,8 +120,8 @@ near_sign d l (high {x} {y} h k m) = ne_eqb y d (λ e. omega arith) ∙ sym (ne_
 
 near_ascii : (x y : ℕ) → Near x y → ltb y 128 ≡ ltb x 128
 near_ascii x y equal = refl
-near_ascii x y (letters h k) = lt_ltb (x + 32) 128 (omega arith) ∙ sym (lt_ltb x 128 (omega arith))
-near_ascii x y (high h k l) = le_ltb y 128 k ∙ sym (le_ltb x 128 h)
+near_ascii x y (letters h k) = lt-ltb (x + 32) 128 (omega arith) ∙ sym (lt-ltb x 128 (omega arith))
+near_ascii x y (high h k l) = le-ltb y 128 k ∙ sym (le-ltb x 128 h)
 
 -- of two such texts both are ASCII or none
 pub alike_ascii : {s t : List ℕ} → Alike s t → all_ascii t ≡ all_ascii s

@@ -7,7 +7,7 @@ use mathlib.Core.Bool.{Bool, true, ◌&&◌, false≢true}
 use mathlib.Core.List.{List, [], ◌∷◌, ◌++◌}
 use mathlib.Core.Option.{some, none}
 use native.Mathlib.Omega.{arith}
-use borrow.Author.Tests.{ltb_true, leb-true, eqb_true, lt_ltb, le_ltb}
+use borrow.Author.Tests.{ltb-true, leb-true, eqb-true, lt-ltb, le-ltb}
 use lib.Dec.{leb, eqb}
 use lib.ListN.{length}
 use Rattle.octets.proofs.Options.{front_some}
@@ -37,7 +37,7 @@ unfolding encoded_one
 two q y a b c d =
     let u : (q * 64 + (y - 0x80)) / 64 ≡ q = omega arith in
     let v : 0x80 + (q * 64 + (y - 0x80)) % 64 ≡ y = omega arith in
-    rw (le_ltb (q * 64 + (y - 0x80)) 0x80 (omega arith), lt_ltb (q * 64 + (y - 0x80)) 0x800 (omega arith), u, v)
+    rw (le-ltb (q * 64 + (y - 0x80)) 0x80 (omega arith), lt-ltb (q * 64 + (y - 0x80)) 0x800 (omega arith), u, v)
 
 three : (q y z p : ℕ) → p ≡ (q * 64 + (y - 0x80)) * 64 + (z - 0x80) → 0x800 ≤ p → q < 16 → 0x80 ≤ y → y ≤ 0xBF → 0x80 ≤ z → z ≤ 0xBF
     → encoded_one p ≡ (0xE0 + q) ∷ y ∷ z ∷ []
@@ -47,7 +47,7 @@ three q y z p e a b c d f g =
     let v : p / 64 ≡ q * 64 + (y - 0x80) = omega arith in
     let v₁ : 0x80 + p / 64 % 64 ≡ y = omega arith in
     let w : 0x80 + p % 64 ≡ z = omega arith in
-    rw (le_ltb p 0x80 (omega arith), le_ltb p 0x800 (omega arith), lt_ltb p 0x10000 (omega arith), u, v₁, w)
+    rw (le-ltb p 0x80 (omega arith), le-ltb p 0x800 (omega arith), lt-ltb p 0x10000 (omega arith), u, v₁, w)
 
 four : (q y z w p : ℕ) → p ≡ ((q * 64 + (y - 0x80)) * 64 + (z - 0x80)) * 64 + (w - 0x80) → 0x10000 ≤ p → 0x80 ≤ y → y ≤ 0xBF → 0x80 ≤ z → z ≤ 0xBF → 0x80 ≤ w → w ≤ 0xBF
     → encoded_one p ≡ (0xF0 + q) ∷ y ∷ z ∷ w ∷ []
@@ -59,7 +59,7 @@ four q y z w p e a c d f g i j =
     let v₂ : p / 64 ≡ (q * 64 + (y - 0x80)) * 64 + (z - 0x80) = omega arith in
     let v₃ : 0x80 + p / 64 % 64 ≡ z = omega arith in
     let v₄ : 0x80 + p % 64 ≡ w = omega arith in
-    rw (le_ltb p 0x80 (omega arith), le_ltb p 0x800 (omega arith), le_ltb p 0x10000 (omega arith), u, v₁, v₃, v₄)
+    rw (le-ltb p 0x80 (omega arith), le-ltb p 0x800 (omega arith), le-ltb p 0x10000 (omega arith), u, v₁, v₃, v₄)
 
 -- the bounds that are left where a first octet says more than its own number
 module _ (l h : ℕ) (a : Bool) (e : (tailing l h && a) ≡ true) where
@@ -83,16 +83,16 @@ module _ (k : ℕ) (ih : (s ps : List ℕ) → length s ≤ k → points s ≡ s
   read : (m l h q x : ℕ) (s ps : List ℕ) → length s ≤ k → rightly m l h q x ≡ true → tails s m l h q ≡ some ps → encoded ps ≡ x ∷ s
   unfolding rightly encoded_one
   read zero l h q x s ps b r t =
-      let e : q ≡ x = eqb_true q x (and_left (eqb q x) _ r) in
-      ends s l h q ps (x ∷ []) b (rw (e, lt_ltb x 0x80 (ltb_true x 0x80 (and_right (eqb q x) _ r)))) t
+      let e : q ≡ x = eqb-true q x (and_left (eqb q x) _ r) in
+      ends s l h q ps (x ∷ []) b (rw (e, lt-ltb x 0x80 (ltb-true x 0x80 (and_right (eqb q x) _ r)))) t
   read (suc zero) l h q x s ps b r t =
       let i : 0x80 ≤ l = least l h _ r in
       let j : h ≤ 0xBF = most l h _ r in
       let r₁ = and_right (tailing l h) _ r in
-      let e : 0xC0 + q ≡ x = eqb_true (0xC0 + q) x (and_left (eqb (0xC0 + q) x) _ r₁) in
+      let e : 0xC0 + q ≡ x = eqb-true (0xC0 + q) x (and_left (eqb (0xC0 + q) x) _ r₁) in
       let r₂ = and_right (eqb (0xC0 + q) x) _ r₁ in
       let f : 2 ≤ q = leb-true 2 q (and_left (leb 2 q) _ r₂) in
-      let g : q < 32 = ltb_true q 32 (and_right (leb 2 q) _ r₂) in
+      let g : q < 32 = ltb-true q 32 (and_right (leb 2 q) _ r₂) in
       tails_some s 0 l h q ps t
       (λ y s₁ c₁ l₁ h₁ t₁.
       rw (c₁, ← e)
@@ -101,10 +101,10 @@ module _ (k : ℕ) (ih : (s ps : List ℕ) → length s ≤ k → points s ≡ s
       let i : 0x80 ≤ l = least l h _ r in
       let j : h ≤ 0xBF = most l h _ r in
       let r₁ = and_right (tailing l h) _ r in
-      let e : 0xE0 + q ≡ x = eqb_true (0xE0 + q) x (and_left (eqb (0xE0 + q) x) _ r₁) in
+      let e : 0xE0 + q ≡ x = eqb-true (0xE0 + q) x (and_left (eqb (0xE0 + q) x) _ r₁) in
       let r₂ = and_right (eqb (0xE0 + q) x) _ r₁ in
       let f : 0x800 ≤ q * 4096 + (l - 0x80) * 64 = leb-true 0x800 _ (and_left (leb 0x800 (q * 4096 + (l - 0x80) * 64)) _ r₂) in
-      let g : q < 16 = ltb_true q 16 (and_right (leb 0x800 (q * 4096 + (l - 0x80) * 64)) _ r₂) in
+      let g : q < 16 = ltb-true q 16 (and_right (leb 0x800 (q * 4096 + (l - 0x80) * 64)) _ r₂) in
       tails_some s 1 l h q ps t
       (λ y s₁ c₁ l₁ h₁ t₁.
       tails_some s₁ 0 0x80 0xBF _ ps t₁
@@ -116,7 +116,7 @@ module _ (k : ℕ) (ih : (s ps : List ℕ) → length s ≤ k → points s ≡ s
       let i : 0x80 ≤ l = least l h _ r in
       let j : h ≤ 0xBF = most l h _ r in
       let r₁ = and_right (tailing l h) _ r in
-      let e : 0xF0 + q ≡ x = eqb_true (0xF0 + q) x (and_left (eqb (0xF0 + q) x) _ r₁) in
+      let e : 0xF0 + q ≡ x = eqb-true (0xF0 + q) x (and_left (eqb (0xF0 + q) x) _ r₁) in
       let f : 0x10000 ≤ q * 262144 + (l - 0x80) * 4096 = leb-true 0x10000 _ (and_right (eqb (0xF0 + q) x) _ r₁) in
       tails_some s 2 l h q ps t
       (λ y s₁ c₁ l₁ h₁ t₁.

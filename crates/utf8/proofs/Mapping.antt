@@ -11,9 +11,9 @@ use mathlib.Core.Bool.{Bool, true, ◌&&◌, beq}
 use mathlib.Core.List.{List, [], ◌∷◌}
 use mathlib.Core.Logic.{⊎_elim}
 use native.Mathlib.Omega.{arith}
-use borrow.Author.Tests.{ltb_true, ltb-false, eqb_true, lt_ltb, le_ltb, le-leb, lt-leb}
+use borrow.Author.Tests.{ltb-true, ltb-false, eqb-true, lt-ltb, le-ltb, le-leb, lt-leb}
 use lib.Dec.{ltb, eqb}
-use lib.ListN.{length, length_map}
+use lib.ListN.{length, length-map}
 use Rattle.octets.specs.Tests.{every}
 use Rattle.octets.proofs.Lists.{lt_or_le}
 use Rattle.octets.proofs.Tests.{and_left, and_right, same_bool, all_below_lem}
@@ -56,10 +56,10 @@ module _ (p : ℕ) (h : p < 0x800) where
   kept_two = and_left (twice && ltb (lower_point p) 0x800) _ (all_kept p h)
 
   kept_twice : lower_point (lower_point p) ≡ lower_point p
-  kept_twice = eqb_true _ _ (and_left twice (ltb (lower_point p) 0x800) kept_two)
+  kept_twice = eqb-true _ _ (and_left twice (ltb (lower_point p) 0x800) kept_two)
 
   kept_below : lower_point p < 0x800
-  kept_below = ltb_true (lower_point p) 0x800 (and_right twice (ltb (lower_point p) 0x800) kept_two)
+  kept_below = ltb-true (lower_point p) 0x800 (and_right twice (ltb (lower_point p) 0x800) kept_two)
 
   kept_ascii : ltb (lower_point p) 0x80 ≡ ltb p 0x80
   unfolding kept
@@ -73,7 +73,7 @@ pub lower_point_scalar : (p : ℕ) → scalar p ≡ true → scalar (lower_point
 unfolding scalar
 lower_point_scalar p e =
     ⊎_elim
-    (λ (h : p < 0x800). rw (lt_ltb (lower_point p) 0xD800 (omega (arith, kept_below p h))))
+    (λ (h : p < 0x800). rw (lt-ltb (lower_point p) 0xD800 (omega (arith, kept_below p h))))
     (λ (h : 0x800 ≤ p). rw (point_high p h) e)
     (lt_or_le p 0x800)
 
@@ -82,14 +82,14 @@ point_ascii p =
     ⊎_elim (λ (h : p < 0x800). kept_ascii p h) (λ (h : 0x800 ≤ p). rw (point_high p h)) (lt_or_le p 0x800)
 
 pub point_low : (p : ℕ) → p < 0x80 → lower_point p < 0x80
-point_low p l = ltb_true (lower_point p) 0x80 (point_ascii p ∙ lt_ltb p 0x80 l)
+point_low p l = ltb-true (lower_point p) 0x80 (point_ascii p ∙ lt-ltb p 0x80 l)
 
 pub point_past : (p : ℕ) → 0x80 ≤ p → 0x80 ≤ lower_point p
-point_past p l = ltb-false (lower_point p) 0x80 (point_ascii p ∙ le_ltb p 0x80 l)
+point_past p l = ltb-false (lower_point p) 0x80 (point_ascii p ∙ le-ltb p 0x80 l)
 
 pub lower_points_length : (ps : List ℕ) → length (lower_points ps) ≡ length ps
 unfolding lower_points
-lower_points_length ps = length_map ps lower_point
+lower_points_length ps = length-map ps lower_point
 
 pub lower_points_twice : (ps : List ℕ) → lower_points (lower_points ps) ≡ lower_points ps
 unfolding lower_points

@@ -10,7 +10,7 @@ use mathlib.Core.Bool.{Bool, true, ◌||◌}
 use mathlib.Core.List.{List, [], ◌∷◌, ◌++◌}
 use mathlib.Core.Logic.{◌⊎◌, inl, inr, ⊎_elim}
 use native.Mathlib.Omega.{arith}
-use borrow.Author.Tests.{ltb_true, eqb_true, lt_ltb, le_ltb, ne_eqb, eq_eqb}
+use borrow.Author.Tests.{ltb-true, eqb-true, lt-ltb, le-ltb, ne_eqb, eq-eqb}
 use lib.Dec.{ltb, eqb}
 use lib.ListN.{get_or}
 use Rattle.octets.specs.Octets.{lower, lowered, same_octets}
@@ -27,15 +27,15 @@ use Rattle.utf8.proofs.Mapping.{point_high}
 module _ (a x b : ℕ) where
   pub at_ascii : x < 0x80 → lower_at a x b ≡ lower x
   unfolding lower_at
-  at_ascii h = rw (lt_ltb x 0x80 h)
+  at_ascii h = rw (lt-ltb x 0x80 h)
 
   pub at_second : 0x80 ≤ x → x < 0xC0 → lower_at a x b ≡ second_of a x
   unfolding lower_at
-  at_second h k = rw (le_ltb x 0x80 h, lt_ltb x 0xC0 k)
+  at_second h k = rw (le-ltb x 0x80 h, lt-ltb x 0xC0 k)
 
   pub at_first : 0xC0 ≤ x → lower_at a x b ≡ first_of x b
   unfolding lower_at
-  at_first h = rw (le_ltb x 0x80 (omega arith), le_ltb x 0xC0 h)
+  at_first h = rw (le-ltb x 0x80 (omega arith), le-ltb x 0xC0 h)
 
 -- the octets of a code point from U+0800 on stay as they are
 first_other : (x b : ℕ) → 0xD1 ≤ x → first_of x b ≡ x
@@ -70,7 +70,7 @@ pairs_right = all_below_lem pair_right 0x800 refl
 
 two_right : (p : ℕ) → 0x80 ≤ p → p < 0x800 → pair p ≡ encoded_one (lower_point p)
 unfolding pair_right
-two_right p h k = same_true _ _ (rw (pair_right, le_ltb p 0x80 h) at (pairs_right p k))
+two_right p h k = same_true _ _ (rw (pair_right, le-ltb p 0x80 h) at (pairs_right p k))
 
 one_right : (p : ℕ) → p < 0x80 → encoded_one (lower_point p) ≡ lower p ∷ []
 unfolding encoded_one lower_point lower same_octets
@@ -84,9 +84,9 @@ module _ (p : ℕ) (s t : List ℕ) (later : (a : ℕ) → a < 0xC0 → octetwis
       ⊎_elim
       (λ (m : p < 0x10000).
       rw (
-        le_ltb p 0x80 (omega arith),
-        le_ltb p 0x800 k,
-        lt_ltb p 0x10000 m,
+        le-ltb p 0x80 (omega arith),
+        le-ltb p 0x800 k,
+        lt-ltb p 0x10000 m,
         far_first a (0xE0 + p / 4096) (0x80 + p / 64 % 64) (omega arith),
         far_second (0xE0 + p / 4096) (0x80 + p / 64 % 64) (0x80 + p % 64) (omega arith) (omega arith) (inr (omega arith)),
         far_second (0x80 + p / 64 % 64) (0x80 + p % 64) (get_or s 0 0) (omega arith) (omega arith) (inl (omega arith)),
@@ -94,9 +94,9 @@ module _ (p : ℕ) (s t : List ℕ) (later : (a : ℕ) → a < 0xC0 → octetwis
       ))
       (λ (m : 0x10000 ≤ p).
       rw (
-        le_ltb p 0x80 (omega arith),
-        le_ltb p 0x800 k,
-        le_ltb p 0x10000 m,
+        le-ltb p 0x80 (omega arith),
+        le-ltb p 0x800 k,
+        le-ltb p 0x10000 m,
         far_first a (0xF0 + p / 262144) (0x80 + p / 4096 % 64) (omega arith),
         far_second (0xF0 + p / 262144) (0x80 + p / 4096 % 64) (0x80 + p / 64 % 64) (omega arith) (omega arith) (inr (omega arith)),
         far_second (0x80 + p / 4096 % 64) (0x80 + p / 64 % 64) (0x80 + p % 64) (omega arith) (omega arith) (inl (omega arith)),
@@ -110,14 +110,14 @@ module _ (p : ℕ) (s t : List ℕ) (later : (a : ℕ) → a < 0xC0 → octetwis
   octetwise_one =
       ⊎_elim
       (λ (h : p < 0x80).
-      rw (one_right p h, lt_ltb p 0x80 h, octetwise, at_ascii a p (get_or s 0 0) h, later p (omega arith)))
+      rw (one_right p h, lt-ltb p 0x80 h, octetwise, at_ascii a p (get_or s 0 0) h, later p (omega arith)))
       (λ (h : 0x80 ≤ p).
       ⊎_elim
       (λ (k : p < 0x800).
       rw (
         ← two_right p h k,
-        le_ltb p 0x80 h,
-        lt_ltb p 0x800 k,
+        le-ltb p 0x80 h,
+        lt-ltb p 0x800 k,
         octetwise,
         octetwise,
         at_first a (0xC0 + p / 64) (0x80 + p % 64) (omega arith),
@@ -139,7 +139,7 @@ unfolding octetwise lowered every
 octetwise_ascii a [] e = refl
 octetwise_ascii a (x ∷ s) e =
     rw (
-      at_ascii a x (get_or s 0 0) (ltb_true x 0x80 (and_left (ltb x 0x80) (all_ascii s) e)),
+      at_ascii a x (get_or s 0 0) (ltb-true x 0x80 (and_left (ltb x 0x80) (all_ascii s) e)),
       octetwise_ascii x s (and_right (ltb x 0x80) (all_ascii s) e),
     )
 
@@ -154,5 +154,5 @@ pub steady_small : (a : ℕ) (s : List ℕ) → same_octets (octetwise a s) s �
 unfolding octetwise lowered same_octets
 steady_small a [] e = refl
 steady_small a (x ∷ s) e =
-    let k : lower x ≡ x = at_steady a x (get_or s 0 0) (eqb_true _ _ (and_left (eqb (lower_at a x (get_or s 0 0)) x) _ e)) in
-    rw (eq_eqb (lower x) x k) (steady_small x s (and_right (eqb (lower_at a x (get_or s 0 0)) x) _ e))
+    let k : lower x ≡ x = at_steady a x (get_or s 0 0) (eqb-true _ _ (and_left (eqb (lower_at a x (get_or s 0 0)) x) _ e)) in
+    rw (eq-eqb (lower x) x k) (steady_small x s (and_right (eqb (lower_at a x (get_or s 0 0)) x) _ e))

@@ -13,7 +13,7 @@ use mathlib.Core.List.{List, [], ◌∷◌, ◌++◌}
 use mathlib.Core.Option.{some}
 use mathlib.Core.Logic.{⊎_elim}
 use native.Mathlib.Omega.{arith}
-use borrow.Author.Tests.{ltb_true, leb-true, lt_ltb, le_ltb, le-leb, eqb_true}
+use borrow.Author.Tests.{ltb-true, leb-true, lt-ltb, le-ltb, le-leb, eqb-true}
 use lib.Dec.{leb, ltb, eqb}
 use Rattle.octets.specs.Options.{in_front}
 use Rattle.octets.specs.Tests.{every}
@@ -95,8 +95,8 @@ pub scalar_most : (p : ℕ) → scalar p ≡ true → p < 0x110000
 unfolding scalar
 scalar_most p v =
     by_test (ltb p 0xD800)
-    (λ t. omega (arith, ltb_true p 0xD800 t))
-    (λ t. ltb_true p 0x110000 (and_right (leb 0xE000 p) (ltb p 0x110000) (rw t at v)))
+    (λ t. omega (arith, ltb-true p 0xD800 t))
+    (λ t. ltb-true p 0x110000 (and_right (leb 0xE000 p) (ltb p 0x110000) (rw t at v)))
 
 -- one code point in front of a text, by its number of octets
 module _ (p : ℕ) (s : List ℕ) where
@@ -114,19 +114,19 @@ module _ (p : ℕ) (s : List ℕ) where
   -- the second octet of three, and then of four, lies in its range
   second_low : 0x800 ≤ p → low_three (p / 4096) ≤ 0x80 + p / 64 % 64
   second_low a =
-      by_test (eqb (p / 4096) 0) (λ t. rw t (omega (arith, eqb_true (p / 4096) 0 t))) (λ t. rw t (omega arith))
+      by_test (eqb (p / 4096) 0) (λ t. rw t (omega (arith, eqb-true (p / 4096) 0 t))) (λ t. rw t (omega arith))
 
   second_high : p < 0x10000 → scalar p ≡ true → 0x80 + p / 64 % 64 ≤ high_three (p / 4096)
   unfolding scalar
   second_high b v =
       by_test (eqb (p / 4096) 13)
       (λ t.
-      let e : p / 4096 ≡ 13 = eqb_true (p / 4096) 13 t in
+      let e : p / 4096 ≡ 13 = eqb-true (p / 4096) 13 t in
       rw t
       (⊎_elim
       (λ (l : p < 0xD800). omega arith)
       (λ (l : 0xD800 ≤ p).
-      let w : (leb 0xE000 p && ltb p 0x110000) ≡ true = rw (le_ltb p 0xD800 l) at v in
+      let w : (leb 0xE000 p && ltb p 0x110000) ≡ true = rw (le-ltb p 0xD800 l) at v in
       omega (arith, leb-true 0xE000 p (and_left (leb 0xE000 p) (ltb p 0x110000) w)))
       (lt_or_le p 0xD800)))
       (λ t. rw t (omega arith))
@@ -142,11 +142,11 @@ module _ (p : ℕ) (s : List ℕ) where
 
   next_low : 0x10000 ≤ p → low_four (p / 262144) ≤ 0x80 + p / 4096 % 64
   next_low a =
-      by_test (eqb (p / 262144) 0) (λ t. rw t (omega (arith, eqb_true (p / 262144) 0 t))) (λ t. rw t (omega arith))
+      by_test (eqb (p / 262144) 0) (λ t. rw t (omega (arith, eqb-true (p / 262144) 0 t))) (λ t. rw t (omega arith))
 
   next_high : p < 0x110000 → 0x80 + p / 4096 % 64 ≤ high_four (p / 262144)
   next_high b =
-      by_test (eqb (p / 262144) 4) (λ t. rw t (omega (arith, eqb_true (p / 262144) 4 t))) (λ t. rw t (omega arith))
+      by_test (eqb (p / 262144) 4) (λ t. rw t (omega (arith, eqb-true (p / 262144) 4 t))) (λ t. rw t (omega arith))
 
   four : 0x10000 ≤ p → p < 0x110000
       → points ((0xF0 + p / 262144) ∷ (0x80 + p / 4096 % 64) ∷ (0x80 + p / 64 % 64) ∷ (0x80 + p % 64) ∷ s) ≡ in_front p (points s)
@@ -163,14 +163,14 @@ module _ (p : ℕ) (s : List ℕ) where
   unfolding encoded_one
   points_one v =
       ⊎_elim
-      (λ (a : p < 0x80). rw (lt_ltb p 0x80 a) (one a))
+      (λ (a : p < 0x80). rw (lt-ltb p 0x80 a) (one a))
       (λ (a : 0x80 ≤ p).
       ⊎_elim
-      (λ (b : p < 0x800). rw (le_ltb p 0x80 a, lt_ltb p 0x800 b) (two a b))
+      (λ (b : p < 0x800). rw (le-ltb p 0x80 a, lt-ltb p 0x800 b) (two a b))
       (λ (b : 0x800 ≤ p).
       ⊎_elim
-      (λ (c : p < 0x10000). rw (le_ltb p 0x80 a, le_ltb p 0x800 b, lt_ltb p 0x10000 c) (three b c v))
-      (λ (c : 0x10000 ≤ p). rw (le_ltb p 0x80 a, le_ltb p 0x800 b, le_ltb p 0x10000 c) (four c (scalar_most p v)))
+      (λ (c : p < 0x10000). rw (le-ltb p 0x80 a, le-ltb p 0x800 b, lt-ltb p 0x10000 c) (three b c v))
+      (λ (c : 0x10000 ≤ p). rw (le-ltb p 0x80 a, le-ltb p 0x800 b, le-ltb p 0x10000 c) (four c (scalar_most p v)))
       (lt_or_le p 0x10000))
       (lt_or_le p 0x800))
       (lt_or_le p 0x80)

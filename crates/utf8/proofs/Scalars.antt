@@ -8,7 +8,7 @@ use mathlib.Core.List.{List, [], ◌∷◌}
 use mathlib.Core.Option.{Option, some, none}
 use mathlib.Core.Logic.{◌⊎◌, inl, inr, ⊎_elim}
 use native.Mathlib.Omega.{arith}
-use borrow.Author.Tests.{ltb_true, leb-true, lt_ltb, le-leb}
+use borrow.Author.Tests.{ltb-true, leb-true, lt-ltb, le-leb}
 use lib.Dec.{leb, ltb}
 use Rattle.octets.specs.Options.{in_front}
 use Rattle.octets.specs.Tests.{every}
@@ -25,17 +25,17 @@ gap a b c low high = ltb high a || (leb b low && ltb high c)
 gap_out : (a b c low high : ℕ) → gap a b c low high ≡ true → (high < a) ⊎ ((b ≤ low) × (high < c))
 gap_out a b c low high e =
     by_test (ltb high a)
-    (λ t. inl (ltb_true high a t))
+    (λ t. inl (ltb-true high a t))
     (λ t.
     let w : (leb b low && ltb high c) ≡ true = rw t at e in
-    inr (leb-true b low (and_left (leb b low) (ltb high c) w), ltb_true high c (and_right (leb b low) (ltb high c) w)))
+    inr (leb-true b low (and_left (leb b low) (ltb high c) w), ltb-true high c (and_right (leb b low) (ltb high c) w)))
 
 gap_below : (a b c low high : ℕ) → high < a → gap a b c low high ≡ true
-gap_below a b c low high h = rw (lt_ltb high a h)
+gap_below a b c low high h = rw (lt-ltb high a h)
 
 gap_above : (a b c low high : ℕ) → b ≤ low → high < c → gap a b c low high ≡ true
 gap_above a b c low high h k =
-    by_test (ltb high a) (λ t. rw t) (λ t. rw (t, le-leb b low h, lt_ltb high c k))
+    by_test (ltb high a) (λ t. rw t) (λ t. rw (t, le-leb b low h, lt-ltb high c k))
 
 -- n octets are missing, the next of them from l to h, and p is what the number is so far: it will be a code point
 able : ℕ → ℕ → ℕ → ℕ → Bool

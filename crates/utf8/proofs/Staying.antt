@@ -10,7 +10,7 @@ use mathlib.Core.List.{List, [], ◌∷◌}
 use mathlib.Core.Logic.{⊎_elim}
 use native.Mathlib.Omega.{arith}
 use borrow.Author.Rules.{rules}
-use borrow.Author.Tests.{eqb_true, eqb-false, eq_eqb, ne_eqb, le_ltb, lt-leb}
+use borrow.Author.Tests.{eqb-true, eqb-false, eq-eqb, ne_eqb, le-ltb, lt-leb}
 use lib.Dec.{leb, ltb, eqb}
 use lib.ListN.{length, get_or, drop}
 use Rattle.octets.specs.Octets.{lower, same_octets}
@@ -30,7 +30,7 @@ agree a y = ltb y 0x80 || beq (eqb (second_of a y) y) (not (moves a y))
 
 agrees : (a x : ℕ) → 0x80 ≤ x → agree a x ≡ true → eqb (second_of a x) x ≡ not (moves a x)
 unfolding agree
-agrees a x h e = same_bool _ _ (rw (le_ltb x 0x80 h) at e)
+agrees a x h e = same_bool _ _ (rw (le-ltb x 0x80 h) at e)
 
 behind_c3 : (x : ℕ) → x < 0xC0 → agree 0xC3 x ≡ true
 unfolding agree second_of moves
@@ -59,14 +59,14 @@ moves_none a x h c e d =
 
 second_stays : (a x : ℕ) → 0x80 ≤ x → x < 0xC0 → eqb (second_of a x) x ≡ not (moves a x)
 second_stays a x h k =
-    by_test (eqb a 0xC3) (λ e. let q : a ≡ 0xC3 = eqb_true a 0xC3 e in rw q (agrees 0xC3 x h (behind_c3 x k)))
+    by_test (eqb a 0xC3) (λ e. let q : a ≡ 0xC3 = eqb-true a 0xC3 e in rw q (agrees 0xC3 x h (behind_c3 x k)))
     (λ c.
-    by_test (eqb a 0xCE) (λ e. let q : a ≡ 0xCE = eqb_true a 0xCE e in rw q (agrees 0xCE x h (behind_ce x k)))
+    by_test (eqb a 0xCE) (λ e. let q : a ≡ 0xCE = eqb-true a 0xCE e in rw q (agrees 0xCE x h (behind_ce x k)))
     (λ e.
-    by_test (eqb a 0xD0) (λ d. let q : a ≡ 0xD0 = eqb_true a 0xD0 d in rw q (agrees 0xD0 x h (behind_d0 x k)))
+    by_test (eqb a 0xD0) (λ d. let q : a ≡ 0xD0 = eqb-true a 0xD0 d in rw q (agrees 0xD0 x h (behind_d0 x k)))
     (λ d.
     rw (second_other a x (eqb-false a 0xC3 c) (eqb-false a 0xCE e) (eqb-false a 0xD0 d), moves_none a x h c e d)
-    (eq_eqb x x refl))))
+    (eq-eqb x x refl))))
 
 -- a first octet
 above : (p q r t c e d : Bool) → p ≡ false → q ≡ false → r ≡ false → t ≡ false → (p || (q && c) || (r && e) || (t && d)) ≡ false
@@ -118,10 +118,10 @@ first_stays x y m =
     ⊎_elim
     (λ (l : y < 0xC0).
     by_test (eqb x 0xCE)
-    (λ e. let q : x ≡ 0xCE = eqb_true x 0xCE e in eqb_true (first_of x y) x (rw q (told 0xCE (rw q at m) (follows_ce y (omega arith)))))
+    (λ e. let q : x ≡ 0xCE = eqb-true x 0xCE e in eqb-true (first_of x y) x (rw q (told 0xCE (rw q at m) (follows_ce y (omega arith)))))
     (λ c.
     by_test (eqb x 0xD0)
-    (λ e. let q : x ≡ 0xD0 = eqb_true x 0xD0 e in eqb_true (first_of x y) x (rw q (told 0xD0 (rw q at m) (follows_d0 y (omega arith)))))
+    (λ e. let q : x ≡ 0xD0 = eqb-true x 0xD0 e in eqb-true (first_of x y) x (rw q (told 0xD0 (rw q at m) (follows_d0 y (omega arith)))))
     (λ d. first_none x y c d)))
     (λ (l : 0xC0 ≤ y). first_far x y l)
     (lt_or_le y 0xC0)
@@ -149,9 +149,9 @@ stays_same a (x ∷ s) =
   where
     -- where the first octet became another, so would the one behind it
     leading : (t : List ℕ) → stays_behind x t ≡ (eqb (first_of x (get_or t 0 0)) x && stays_behind x t)
-    leading [] = rw (first_stays x 0 (zero_stays x), eq_eqb x x refl)
+    leading [] = rw (first_stays x 0 (zero_stays x), eq-eqb x x refl)
     leading (y ∷ t) =
-        by_test (moves x y) (λ m. rw m (sym (and-false (eqb (first_of x y) x)))) (λ m. rw (first_stays x y m, eq_eqb x x refl))
+        by_test (moves x y) (λ m. rw m (sym (and-false (eqb (first_of x y) x)))) (λ m. rw (first_stays x y m, eq-eqb x x refl))
 
 pub record Steady (s : List ℕ) (all : Bool) (a i : ℕ) : Type 0 where
   pub so_far : stays_behind 0 s ≡ (all && stays_behind a (drop i s))

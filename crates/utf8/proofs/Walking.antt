@@ -13,7 +13,7 @@ use native.Mathlib.Numerals.{add-one}
 use borrow.Author.Rules.{rules}
 use lib.Dec.{ltb}
 use lib.Bits.{bit_or, or_lt, or_add_and, and_le_l, and_le_r}
-use borrow.Author.Tests.{ltb_true, ltb-false, lt_ltb, le_ltb}
+use borrow.Author.Tests.{ltb-true, ltb-false, lt-ltb, le-ltb}
 use lib.ListN.{length, get_or, set}
 use Rattle.octets.specs.Octets.{lowered}
 use Rattle.octets.specs.Written.{put_at}
@@ -32,9 +32,9 @@ bits_below a b =
     by_test (ltb a 128)
     (λ p.
     by_test (ltb b 128)
-    (λ q. lt_ltb (bit_or a b) 128 (or_lt 7 a b (ltb_true a 128 p) (ltb_true b 128 q)) ∙ rw (p, q))
-    (λ q. le_ltb (bit_or a b) 128 (omega (arith, or_add_and a b, and_le_l a b, ltb-false b 128 q)) ∙ rw (p, q)))
-    (λ p. le_ltb (bit_or a b) 128 (omega (arith, or_add_and a b, and_le_r a b, ltb-false a 128 p)) ∙ rw p)
+    (λ q. lt-ltb (bit_or a b) 128 (or_lt 7 a b (ltb-true a 128 p) (ltb-true b 128 q)) ∙ rw (p, q))
+    (λ q. le-ltb (bit_or a b) 128 (omega (arith, or_add_and a b, and_le_l a b, ltb-false b 128 q)) ∙ rw (p, q)))
+    (λ p. le-ltb (bit_or a b) 128 (omega (arith, or_add_and a b, and_le_r a b, ltb-false a 128 p)) ∙ rw p)
 
 module _ (s : List ℕ) (bits i : ℕ) (h : Passed (λ x. ltb x 128) s (ltb bits 128) i) where
   pub bits_next : i < length s → Passed (λ x. ltb x 128) s (ltb (bit_or bits (get_or s i 0)) 128) (i + 1)

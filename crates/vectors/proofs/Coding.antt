@@ -10,7 +10,7 @@ use mathlib.Core.List.{List, []}
 use native.Mathlib.Omega.{arith}
 use borrow.Author.Rules.{rules}
 use lib.ListN.{length, take}
-use lib.Seq.{length_take_le}
+use lib.Seq.{length-take-le}
 use Rattle.octets.specs.Puts.{Written, Puts}
 use Rattle.octets.specs.declared.Laid.{Laid}
 use Rattle.octets.specs.declared.Laid.TheVariants.{At}
@@ -36,7 +36,7 @@ module _ (s p₀ p : List ℕ) (o : Read) (n : ℕ) (a : o ≡ Are n) (q : Reads
   code_prefix = shown.upto
 
   pub code_count : n ≡ length (take n p)
-  code_count = sym (length_take_le n p shown.upto)
+  code_count = sym (length-take-le n p shown.upto)
 
   pub code_points : length p₀ ≡ 256 → Points 256 (take n p)
   code_points l =
@@ -57,7 +57,7 @@ module _ (c p₀ p : List ℕ) (o : Decoded) (n : ℕ) (a : o ≡ Shows n) (q : 
   text_prefix = stands.upto
 
   pub text_count : n ≡ length (take n p)
-  text_count = sym (length_take_le n p stands.upto)
+  text_count = sym (length-take-le n p stands.upto)
 
   pub text_points : scalars (take n p) ≡ true
   text_points = decode_scalars c (take n p) stands.text
@@ -73,6 +73,6 @@ module _ (d e w : List ℕ) (r : Laid) (n : ℕ) (a : r ≡ At n) (h : Puts d e 
   written_prefix = omega (arith, wrote_long d 0 e n w [] written, written.room)
 
   pub written_count : n ≡ length (take n e)
-  written_count = sym (length_take_le n e written_prefix)
+  written_count = sym (length-take-le n e written_prefix)
 
 pub ruleset printing = (written_prefix, written_count, rules)

@@ -12,7 +12,7 @@ use native.Mathlib.Omega.{arith}
 use borrow.Author.Rules.{rules}
 use mir.Syntax.{w64}
 use mir.Val.{Fits}
-use lib.ListN.{length, length_append}
+use lib.ListN.{length, length-append}
 use Rattle.octets.specs.Written.{put_at}
 use Rattle.octets.proofs.Putting.{over_none}
 use Rattle.letters.specs.Base64.{encode}
@@ -75,6 +75,6 @@ module _ (key : List ℕ) (n : ℕ) (e : n ≡ length (lines (encode key))) wher
   pub field_counted : (name address : List ℕ) (m : Bool) (p : ℕ) → p ≡ length (preference m)
       → length name + 7 + length address + p + 12 + n ≡ length (field_text name address m key)
   unfolding field_text
-  field_counted name address m p q = simp length_append (omega arith)
+  field_counted name address m p q = simp length-append (omega arith)
 
 pub ruleset counting = (sum_fits, field_counted, rules)

@@ -10,9 +10,9 @@ use mathlib.Core.Path.{◌≡◌}
 use mathlib.Core.Bool.{Bool}
 use mathlib.Core.List.{List, ◌++◌}
 use native.Mathlib.Omega.{arith}
-use native.Mathlib.Nat.{zero_add}
+use native.Mathlib.Nat.{zero-add}
 use borrow.Author.Rules.{rules}
-use lib.ListN.{length, length_append}
+use lib.ListN.{length, length-append}
 use Rattle.octets.specs.Written.{put_at, onto}
 use Rattle.octets.proofs.Putting.{put_both, room_second}
 use Rattle.letters.specs.Base64.{encode}
@@ -24,21 +24,21 @@ use Rattle.writer.proofs.Parts.{field_halves}
 -- three parts, from the place `at` on
 module _ (u v w d : List ℕ) (at : ℕ) (h : at + length (u ++ (v ++ w)) ≤ length d) where
   room_first : at + length u ≤ length d
-  room_first = omega (arith, simp length_append at h)
+  room_first = omega (arith, simp length-append at h)
 
   module _ (o₁ : ℕ) (p₁ : o₁ ≡ at + length u) (d₁ : List ℕ) (q₁ : d₁ ≡ put_at d at u) where
     room_rest : o₁ + length (v ++ w) ≤ length d₁
     room_rest = rw (p₁, q₁) (room_second d at u (v ++ w) h)
 
     room_next : o₁ + length v ≤ length d₁
-    room_next = omega (arith, simp length_append at room_rest)
+    room_next = omega (arith, simp length-append at room_rest)
 
     module _ (o₂ : ℕ) (p₂ : o₂ ≡ o₁ + length v) (d₂ : List ℕ) (q₂ : d₂ ≡ put_at d₁ o₁ v) where
       room_last : o₂ + length w ≤ length d₂
       room_last = rw (p₂, q₂) (room_second d₁ o₁ v w room_rest)
 
       place_last : (o₃ : ℕ) → o₃ ≡ o₂ + length w → o₃ ≡ at + length (u ++ (v ++ w))
-      place_last o₃ p₃ = simp length_append (omega arith)
+      place_last o₃ p₃ = simp length-append (omega arith)
 
       three_put : (d₃ : List ℕ) → d₃ ≡ put_at d₂ o₂ w → d₃ ≡ put_at d at (u ++ (v ++ w))
       three_put d₃ q₃ = rw (q₃, p₂, q₂, put_both d₁ o₁ v w room_rest, p₁, q₁) (put_both d at u (v ++ w) h)
@@ -46,7 +46,7 @@ module _ (u v w d : List ℕ) (at : ℕ) (h : at + length (u ++ (v ++ w)) ≤ le
 module _ (name address d : List ℕ) (h : length (opening name address) ≤ length d) where
   opens : 0 + length (name ++ (addr_text ++ address)) ≤ length d
   unfolding opening
-  opens = rw zero_add h
+  opens = rw zero-add h
 
   pub room_name : 0 + length name ≤ length d
   room_name = room_first name addr_text address d 0 opens
@@ -93,10 +93,10 @@ pub ruleset attributing = (room_preference, room_keydata, room_lines, attributes
 
 module _ (name address key d : List ℕ) (m : Bool) (h : length (field_text name address m key) ≤ length d) where
   halves : 0 + length (opening name address ++ attributes m key) ≤ length d
-  halves = rw (zero_add, ← field_halves name address key m) h
+  halves = rw (zero-add, ← field_halves name address key m) h
 
   pub room_opening : length (opening name address) ≤ length d
-  room_opening = omega (arith, simp length_append at halves)
+  room_opening = omega (arith, simp length-append at halves)
 
   module _ (o : ℕ) (p : o ≡ 0 + length (opening name address)) (d₁ : List ℕ) (q : d₁ ≡ put_at d 0 (opening name address)) where
     pub room_attributes : o + length (attributes m key) ≤ length d₁
@@ -105,6 +105,6 @@ module _ (name address key d : List ℕ) (m : Bool) (h : length (field_text name
     pub field_put : (d₂ : List ℕ) → d₂ ≡ put_at d₁ o (attributes m key) → d₂ ≡ onto (field_text name address m key) d
     unfolding onto put_at
     field_put d₂ r =
-        rw (r, p, q, put_both d 0 (opening name address) (attributes m key) halves, field_halves name address key m, zero_add)
+        rw (r, p, q, put_both d 0 (opening name address) (attributes m key) halves, field_halves name address key m, zero-add)
 
 pub ruleset joining = (room_opening, room_attributes, field_put, rules)
