@@ -5,4 +5,4 @@ use Rattle.octets.proofs.alike as fn
 pub alike_spec : {M : Type 1} → fn.Statement.statement M
 alike_spec =
     fn.Tie.close (fn.Tie.spec (λ c. search rules) (λ c. search rules)
-    (λ c. rw (c.lower2.ensures, c.before.lower.ensures)))
+    (λ c. rw (c.lower-2.ensures, c.before.lower.ensures)))
