@@ -1,5 +1,7 @@
 // Plain addresses and their canonical form (SCOPE, L6 to L8). Nearly all addresses are ASCII, and go the ways of asciiaddress,
 // which know no Punycode. Any other address is plain when its form can be written into room for 254 octets.
+#![tactic(auto)]
+
 ghost use Rattle.std.specs.Prelude.{◌≤◌, ◌≡◌, true, false, length, drop};
 ghost use Rattle.octets.specs.Octets.{same_octets, lowered};
 ghost use Rattle.octets.specs.Puts.{PutsText};
@@ -20,7 +22,7 @@ pub const LONGEST: usize = 254;
 const LONGEST_GIVEN: usize = 1016;
 
 // The length of what was written; or nothing was, since it has no room.
-#[derive(Drop)]
+#[derive(Clone, Copy)]
 pub enum Fitted {
     Length(usize),
     NoRoom,

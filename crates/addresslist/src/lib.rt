@@ -1,5 +1,7 @@
 // Lists of addresses (SCOPE, L9 to L18), read from the front a token at a time. A cursor is a place in a list and in the
 // grammar of lists; the next address is handed out from it, with the cursor behind.
+#![tactic(auto)]
+
 pub mod token; // the tokens of a list
 
 ghost use Rattle.std.specs.Prelude.{◌≡◌, []};
@@ -10,7 +12,7 @@ ghost use Rattle.addresslist.specs.Answers.{beginning, Hands, Moved, counted_of,
 use grammar::{Follow, Stage};
 use token::TokenAt;
 
-#[derive(Drop)]
+#[derive(Clone, Copy)]
 pub struct ListCursor {
     pub at: usize,
     pub stage: Stage,
@@ -18,7 +20,7 @@ pub struct ListCursor {
 }
 
 // The next address and the cursor behind it; or the list has ended; or it is unreadable.
-#[derive(Drop)]
+#[derive(Clone, Copy)]
 pub enum NextAddress {
     Address {
         from: usize,
@@ -30,21 +32,21 @@ pub enum NextAddress {
 }
 
 // Behind one token: further on, or there is an answer.
-#[derive(Drop)]
+#[derive(Clone, Copy)]
 pub enum Move {
     On(ListCursor),
     Done(NextAddress),
 }
 
 // How many addresses there are.
-#[derive(Drop)]
+#[derive(Clone, Copy)]
 pub enum Counted {
     Count(usize),
     Unreadable,
 }
 
 // The one address of a list that has no other.
-#[derive(Drop)]
+#[derive(Clone, Copy)]
 pub enum OnlyAddress {
     One { from: usize, to: usize },
     Other,

@@ -12,7 +12,7 @@ use runs::Class;
 use tokens::Reached;
 
 // What an octet opens.
-#[derive(Drop)]
+#[derive(Clone, Copy)]
 pub enum Start {
     Run,
     Quote,
@@ -21,7 +21,7 @@ pub enum Start {
 }
 
 // The token at a place; or the end; or what cannot be read.
-#[derive(Drop)]
+#[derive(Clone, Copy)]
 pub enum TokenAt {
     Address { from: usize, to: usize },
     Other { sort: Sort, to: usize },

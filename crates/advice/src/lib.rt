@@ -1,5 +1,7 @@
 // Recommending (page A): what is advised for one recipient, and where the key to encrypt to lies in the table. What is
 // right is said by specs/Advice.antt, over entries; specs/Places.antt leads from there to the table.
+#![tactic(auto)]
+
 ghost use Rattle.std.specs.Prelude.{◌≤◌, ◌≡◌, true, []};
 ghost use Rattle.octets.specs.Options.{or_else, is_some};
 ghost use Rattle.address.specs.Address.{plain, canonical as canonical_of};
@@ -19,7 +21,7 @@ use slots::Slot;
 const PATIENCE: u64 = 3024000;
 
 // What is advised, from the lowest to the highest (A1).
-#[derive(Drop)]
+#[derive(Clone, Copy)]
 pub enum Advice {
     Disable,
     Discourage,
@@ -29,7 +31,7 @@ pub enum Advice {
 
 // A part of the table: so many octets from a place on, counted from the table's first octet. An empty one has start and
 // length 0 (A6, A7).
-#[derive(Drop)]
+#[derive(Clone, Copy)]
 pub struct Part {
     pub start: usize,
     pub length: usize,

@@ -1,5 +1,7 @@
 // Plain addresses whose labels are ASCII (SCOPE, L6 to L8), also by the old rule (T16), and local parts. A test of an address
 // passes over it once, atom by atom and label by label.
+#![tactic(auto)]
+
 ghost use Rattle.std.specs.Prelude.{◌≡◌, eqb, drop};
 ghost use Rattle.octets.specs.Octets.{same_octets, lower as lower_of, lowered};
 ghost use Rattle.octets.specs.Tests.{every};
@@ -19,7 +21,7 @@ const LONGEST_LOCAL: usize = 64;
 const LONGEST_LABEL: usize = 63;
 
 // The length of the local part that a text opens with.
-#[derive(Drop)]
+#[derive(Clone, Copy)]
 pub enum Local {
     Part(usize),
     NoPart,

@@ -1,6 +1,8 @@
 // What is asked of one Autocrypt or Autocrypt-Gossip value whatever else it says (SCOPE, O6 to O9): the pieces of a name, the
 // one address, the key data. Reading a field (page F) ends at the first piece that spoils it; here every piece is looked
 // at. What is right is said by specs/Asked.antt.
+#![tactic(auto)]
+
 ghost use Rattle.std.specs.Prelude.{◌≤◌, ◌≡◌, length};
 ghost use Rattle.attributes.specs.Answers.{part, Within};
 ghost use Rattle.asked.specs.Asked.{is_empty, is_unknown, is_name, is_called, occurs as occursIn, has_key_data};
@@ -9,7 +11,7 @@ ghost use Rattle.asked.specs.Answers.{ValueAs, FoundAs, rest_from, NamedAs};
 use attributes::{AddressAt, Bounds, Name};
 
 // What the pieces are that are asked for: those of a name that fields have, and those of an unknown one (O7).
-#[derive(Drop)]
+#[derive(Clone, Copy)]
 pub enum Called {
     Addr,
     PreferEncrypt,
@@ -18,7 +20,7 @@ pub enum Called {
 }
 
 // A piece: where its value stands, without the blanks around it, and where the piece ends; or there is none.
-#[derive(Drop)]
+#[derive(Clone, Copy)]
 enum Found {
     At { from: usize, to: usize, end: usize },
     Nothing,

@@ -1,6 +1,8 @@
 // One piece of the value of an Autocrypt or Autocrypt-Gossip field (SCOPE, F2 to F8): its name, which stands before the
 // first `=`, and its value, each without the blanks around it; and what it comes to behind what was read before it. What is
 // right is said by specs/Attribute.antt and specs/Step.antt.
+#![tactic(auto)]
+
 ghost use Rattle.std.specs.Prelude.{◌≡◌};
 ghost use Rattle.attributes.specs.Attribute.{name_of, attribute_of};
 ghost use Rattle.attributes.specs.Step.{with_address, with_preference, step};
@@ -10,14 +12,14 @@ ghost use Rattle.attributes.specs.Steps.{address_at, Stands, stated, Steps};
 use runs::Class;
 
 // Where something stands in the value: from the place `from` up to the place `to`.
-#[derive(Drop)]
+#[derive(Clone, Copy)]
 pub struct Bounds {
     pub from: usize,
     pub to: usize,
 }
 
 // The names that a field knows, and the others: ignored or unknown (F5).
-#[derive(Drop)]
+#[derive(Clone, Copy)]
 pub enum Name {
     Addr,
     PreferEncrypt,
@@ -27,7 +29,7 @@ pub enum Name {
 }
 
 // What a piece says, with the place of its value.
-#[derive(Drop)]
+#[derive(Clone, Copy)]
 enum Attribute {
     Addr(usize, usize),
     PreferEncrypt(usize, usize),
@@ -37,21 +39,21 @@ enum Attribute {
 }
 
 // The address seen so far.
-#[derive(Drop)]
+#[derive(Clone, Copy)]
 pub enum AddressAt {
     Unseen,
     At(usize, usize),
 }
 
 // The preference seen so far: whether it was `mutual`, where one was stated.
-#[derive(Drop)]
+#[derive(Clone, Copy)]
 pub enum Preference {
     Unstated,
     Stated(bool),
 }
 
 // What a piece comes to: the reading goes on, it is at the key data (F8), or the field is spoiled.
-#[derive(Drop)]
+#[derive(Clone, Copy)]
 pub enum NextPiece {
     On(AddressAt, Preference),
     Last(usize, usize),

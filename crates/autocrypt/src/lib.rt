@@ -16,6 +16,8 @@
 // Everything is done in memory that the caller lends; no call keeps anything, and none requires anything of its arguments
 // (C1). What each answers, and leaves in lent memory, is fixed for every input (C2), and a refused call writes nothing
 // (R32).
+#![tactic(auto)]
+
 pub use advice::{Advice, Part};
 pub use convert::convert;
 pub use display::display;

@@ -6,7 +6,7 @@ ghost use Rattle.cabi.specs.Numbers.{in_numbers, written_in_numbers, advice_numb
 
 // vienghulac_answer: 0 or the number of a refusal, and the index of a slot with 2, else 0 (R33).
 #[repr(C)]
-#[derive(Drop)]
+#[derive(Clone, Copy)]
 pub struct Answer {
     pub number: u32,
     pub index: u32,
@@ -14,7 +14,7 @@ pub struct Answer {
 
 // vienghulac_written: 0 and the length of the field, or the number of a refusal and 0 (R34).
 #[repr(C)]
-#[derive(Drop)]
+#[derive(Clone, Copy)]
 pub struct Written {
     pub number: u64,
     pub length: u64,
@@ -22,7 +22,7 @@ pub struct Written {
 
 // vienghulac_advice: 0 and an advice from 1 to 4, or the number of a refusal, its index, and 0 for the advice (A1).
 #[repr(C)]
-#[derive(Drop)]
+#[derive(Clone, Copy)]
 pub struct Advice {
     pub number: u32,
     pub index: u32,
@@ -31,7 +31,7 @@ pub struct Advice {
 
 // vienghulac_quick: the same, and how many recipients were looked up, 0 with a refusal (A12, A13).
 #[repr(C)]
-#[derive(Drop)]
+#[derive(Clone, Copy)]
 pub struct Quick {
     pub number: u32,
     pub index: u32,
@@ -41,7 +41,7 @@ pub struct Quick {
 
 // vienghulac_part: start and length of a part, counted from the table's first octet; 0 and 0 where it is empty (A6, A7).
 #[repr(C)]
-#[derive(Drop)]
+#[derive(Clone, Copy)]
 pub struct Part {
     pub start: u64,
     pub length: u64,
@@ -49,7 +49,7 @@ pub struct Part {
 
 // vienghulac_linted: 0 and how many faults there are, or the number of a refusal and 0 (O1).
 #[repr(C)]
-#[derive(Drop)]
+#[derive(Clone, Copy)]
 pub struct Linted {
     pub number: u32,
     pub count: u32,

@@ -1,6 +1,8 @@
 // The calendar: leap years, the lengths of the months (SCOPE, D8), and how many days a day lies after 1 January 1900. The
 // count stands behind one function, `day_count`, and its meaning behind one definition, `day_count`. The definition walks
 // over years and months; the code counts cycles of 400 years, and has no table.
+#![tactic(auto)]
+
 ghost use Rattle.std.specs.Prelude.{◌+◌, ◌-◌, ◌≤◌, ◌≡◌, cond, leb};
 ghost use Rattle.calendar.specs.Calendar.{leap as leapOf, leap_day, month_length, year_days, day_count};
 

@@ -1,4 +1,6 @@
 // Code points: those of a text in UTF-8 (L20 of SCOPE), in lower case (L21), and the text of code points.
+#![tactic(auto)]
+
 ghost use Rattle.std.specs.Prelude.{◌+◌, ◌<◌, ◌≤◌, ◌≡◌, true, length, drop};
 ghost use Rattle.octets.specs.Puts.{Puts};
 ghost use Rattle.utf8.specs.Utf8.{tails, points as points_of, encoded_one, encoded, scalars};
@@ -6,7 +8,7 @@ ghost use Rattle.utf8.specs.Lowering.{lower_point};
 ghost use Rattle.codepoints.specs.Reading.{small_of, Begun, Gives, Reads};
 
 // What a text stands for: so many code points; nothing, as it is ill-formed; or more than there is room for.
-#[derive(Drop)]
+#[derive(Clone, Copy)]
 pub enum Read {
     Points(usize),
     Bad,
@@ -14,7 +16,7 @@ pub enum Read {
 }
 
 // A code point and the place behind it. Or the text is ill-formed, whatever follows.
-#[derive(Drop)]
+#[derive(Clone, Copy)]
 enum Point {
     One(u32, usize),
     Bad,

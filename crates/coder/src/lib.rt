@@ -1,5 +1,7 @@
 // The coder of Punycode (L23 of SCOPE): code points become a text. It keeps nothing but a few numbers and goes over the code
 // points again for each different one of them from 128 on, so that short lists, as labels are, cost next to nothing.
+#![tactic(auto)]
+
 ghost use Rattle.std.specs.Prelude.{◌^◌, ◌<◌, ◌≤◌, ◌≡◌, [], ◌∷◌, length};
 ghost use Rattle.octets.specs.Puts.{Puts};
 ghost use Rattle.punycode.specs.Punycode.{below, integer, least as leastOf, numbers, encode as encodeOf};
@@ -8,7 +10,7 @@ ghost use Rattle.coder.specs.Steps.{found_of, lesser_of, Ready, Turned, Passes, 
 use octets::Laid;
 
 // The smallest code point that is left, if one is.
-#[derive(Drop)]
+#[derive(Clone, Copy)]
 enum Found {
     Point(u64),
     Nothing,
@@ -16,7 +18,7 @@ enum Found {
 
 // How far the coder is: what the next number comes to so far, its bias, how many code points are written, and the place
 // behind what was written.
-#[derive(Drop)]
+#[derive(Clone, Copy)]
 struct Coder {
     delta: u64,
     bias: u64,
@@ -25,7 +27,7 @@ struct Coder {
 }
 
 // How far it is behind a turn or a pass; or there is no room.
-#[derive(Drop)]
+#[derive(Clone, Copy)]
 enum Passed {
     On(Coder),
     Full,

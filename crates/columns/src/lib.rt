@@ -1,5 +1,7 @@
 // One column of a line of the listing (W8, W9): a text, a number, a time or a preference, each with the octet behind it,
 // written into a lent buffer. What they are stands in specs/Columns.antt.
+#![tactic(auto)]
+
 ghost use Rattle.heads.specs.Entry.{present};
 ghost use Rattle.columns.specs.Columns.{decimal, time_text, preference_text, ended};
 ghost use Rattle.columns.specs.Putting.{Room, Put};

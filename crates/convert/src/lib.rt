@@ -1,5 +1,7 @@
 // The conversion of a table that was kept while only ASCII capitals were made small (T16 to T18): each address gets its
 // canonical form, and entries that then have one address become one, in the lowest of their slots.
+#![tactic(auto)]
+
 ghost use Rattle.std.specs.Prelude.{◌≡◌, true};
 ghost use Rattle.refusals.specs.Rows.{answer_of};
 ghost use Rattle.slots.specs.Slot.{marked};

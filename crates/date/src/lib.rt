@@ -1,5 +1,7 @@
 // The Date of a message, in seconds since 1970, where a field's value reads as one (SCOPE, D3): day name and comma, day,
 // month, year, hour, minute, second and zone; and the effective date (D2).
+#![tactic(auto)]
+
 ghost use Rattle.std.specs.Prelude.{◌+◌, ◌-◌, ◌*◌, ◌≤◌, ◌≡◌, drop};
 ghost use Rattle.date.specs.Date.{next as next_of, optional as optionalOf, existing as existingOf, calendar_day, time_of_day, local_time, zoned as zonedOf, ended as ended_of, date_of, effective_date, got};
 ghost use Rattle.datewords.specs.Answers.{meaning as meaningOf};
@@ -13,14 +15,14 @@ use datewords::{meaning, token};
 const EPOCH: u64 = 2_208_988_800;
 
 // A number, and the place behind what was read; or what was looked for is missing.
-#[derive(Drop)]
+#[derive(Clone, Copy)]
 pub enum PartRead {
     Got { value: u64, to: usize },
     Missing,
 }
 
 // The Date, in seconds since 1970.
-#[derive(Drop)]
+#[derive(Clone, Copy)]
 pub enum Dated {
     Available(u64),
     Unavailable,

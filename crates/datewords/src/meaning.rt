@@ -12,7 +12,7 @@ use runs::Class;
 const ZONE_HOURS: [u64; 8] = [5, 4, 6, 5, 7, 6, 8, 7];
 
 // The places of a date. `UpTo` is a place of two digits, which stand for so much at most.
-#[derive(Drop)]
+#[derive(Clone, Copy)]
 pub enum Place {
     DayName,
     Comma,
@@ -26,7 +26,7 @@ pub enum Place {
 }
 
 // A number; or the token may not stand there.
-#[derive(Drop)]
+#[derive(Clone, Copy)]
 pub enum Meaning {
     Value(u64),
     Nothing,

@@ -8,7 +8,7 @@ use runs::Class;
 use tokens::Reached;
 
 // What a token is shows in its first octet.
-#[derive(Drop)]
+#[derive(Clone, Copy)]
 pub enum Opening {
     Number,
     Word,
@@ -18,7 +18,7 @@ pub enum Opening {
 }
 
 // The token at a place; or the end; or a comment that cannot be read.
-#[derive(Drop)]
+#[derive(Clone, Copy)]
 pub enum WordAt {
     Between { from: usize, to: usize },
     End,

@@ -1,5 +1,7 @@
 // The decoder of Punycode (L23 of SCOPE): a text becomes code points, or it stands for nothing. What it has of them stands at
 // the beginning of the lent memory, and each number puts one code point in between.
+#![tactic(auto)]
+
 ghost use Rattle.std.specs.Prelude.{◌^◌, ◌<◌, ◌≤◌, ◌≡◌, ◌∷◌, length, take, drop};
 ghost use Rattle.octets.specs.Written.{put_at};
 ghost use Rattle.utf8.specs.Utf8.{scalar};
@@ -9,13 +11,13 @@ ghost use Rattle.decoder.specs.Steps.{Front, behind_of, Basics, Lands, Landed, S
 use punycode::Value;
 
 // What a text stands for: so many code points, or nothing.
-#[derive(Drop)]
+#[derive(Clone, Copy)]
 pub enum Decoded {
     Points(usize),
     Nothing,
 }
 
-#[derive(Drop)]
+#[derive(Clone, Copy)]
 enum Basic {
     Yes,
     No,
@@ -23,7 +25,7 @@ enum Basic {
 
 // How far the decoder is: the last code point that was put in, and the place behind it; the bias; what the number comes to
 // so far, what its next digit counts, and which digit that is; and how many code points there are.
-#[derive(Drop)]
+#[derive(Clone, Copy)]
 struct Decoder {
     n: u64,
     old: u64,
@@ -35,7 +37,7 @@ struct Decoder {
 }
 
 // How far it is behind an octet; or the text stands for nothing, whatever follows.
-#[derive(Drop)]
+#[derive(Clone, Copy)]
 enum Step {
     On(Decoder),
     Never,

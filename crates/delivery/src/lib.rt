@@ -1,5 +1,7 @@
 // A message that was read, delivered to a table, whole or not at all (U2): it is written only where there is a free slot
 // for each address that is new with it (R8). What is right is said by specs/Delivery.antt.
+#![tactic(auto)]
+
 ghost use Rattle.std.specs.Prelude.{◌≡◌, []};
 ghost use Rattle.refusals.specs.Rows.{first_of, answer_of};
 ghost use Rattle.table.specs.Tagged.{Open};

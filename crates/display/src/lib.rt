@@ -1,4 +1,6 @@
 // The call `display`: an address as it is shown, written to the front of lent memory (W11, W12).
+#![tactic(auto)]
+
 ghost use Rattle.std.specs.Prelude.{◌≡◌, length};
 ghost use Rattle.display.specs.Displaying.{displayed_of, left_by_displaying};
 

@@ -1,5 +1,7 @@
 // What one slot of the table holds, told as eleven numbers in lent memory (T14): used or not, the bits, the three times,
 // and where the address and the keys lie in the table.
+#![tactic(auto)]
+
 ghost use Rattle.std.specs.Prelude.{◌+◌, ◌^◌, ◌<◌, ◌≤◌, ◌≡◌, length};
 ghost use Rattle.octets.specs.Written.{put_at, onto};
 ghost use Rattle.slots.specs.Slot.{slot_length};

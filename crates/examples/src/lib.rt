@@ -1,1 +1,2 @@
 // No code: the examples of C14 hold, as a theorem in proofs/.
+#![tactic(auto)]

@@ -1,5 +1,7 @@
 // The faults of one field as numbers of a lent list (SCOPE, O2 to O4): three for each, as far as the list goes. So a caller
 // learns how many there are by lending no room. What is right is said by specs/Faults.antt.
+#![tactic(auto)]
+
 ghost use Rattle.std.specs.Prelude.{◌+◌, ◌≤◌, ◌≡◌, length};
 ghost use Rattle.faults.specs.Faults.{no_flaws, has_kind, numbers_of, faults_at, kinds};
 ghost use Rattle.faults.specs.Laying.{laid_at, Placed, numbers_if, room};
@@ -22,7 +24,7 @@ const GOSSIP_UNLISTED: u32 = 7;
 const GOSSIP_PREFERENCE: u32 = 8;
 
 // Which faults a field has, of the kinds 2 to 8 in their order.
-#[derive(Drop)]
+#[derive(Clone, Copy)]
 pub struct Flaws {
     pub more_valid: bool,
     pub wrong_address: bool,

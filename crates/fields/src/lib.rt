@@ -1,5 +1,7 @@
 // The fields of a block that are asked for (SCOPE, B12): their kinds, one walk over a block that tells where those of each
 // kind stand, and the search for the next one. What is right is said by specs/Fields.antt.
+#![tactic(auto)]
+
 ghost use Rattle.std.specs.Prelude.{◌≡◌, true, []};
 ghost use Rattle.octets.specs.Options.{is_some, only_one};
 ghost use Rattle.header.specs.Answers.{fields_from};
@@ -10,7 +12,7 @@ ghost use Rattle.fields.specs.Answers.{values_from, NamedAs, value_in, OnlyWithi
 use header::Step;
 
 // The fields that are asked for (B12). `Recipients` are To, Cc and Reply-To (G4).
-#[derive(Drop)]
+#[derive(Clone, Copy)]
 pub enum Kind {
     From,
     ContentType,
@@ -21,21 +23,21 @@ pub enum Kind {
 }
 
 // A field: where its value stands in the block, not unfolded yet; the next line begins at its end.
-#[derive(Drop)]
+#[derive(Clone, Copy)]
 pub enum Named {
     Field { value: usize, end: usize },
     Nothing,
 }
 
 // Where the fields of a kind stand: none begins before the place `first`, and none from the place `last` on.
-#[derive(Drop)]
+#[derive(Clone, Copy)]
 pub struct Span {
     pub first: usize,
     pub last: usize,
 }
 
 // The spans of the fields that are asked for in an outer block, so that it is walked over once.
-#[derive(Drop)]
+#[derive(Clone, Copy)]
 pub struct Survey {
     pub from: Span,
     pub content: Span,
@@ -45,14 +47,14 @@ pub struct Survey {
 }
 
 // What a block has; or it is unreadable.
-#[derive(Drop)]
+#[derive(Clone, Copy)]
 pub enum Surveyed {
     Readable(Survey),
     Unreadable,
 }
 
 // The one field of a kind that has no other.
-#[derive(Drop)]
+#[derive(Clone, Copy)]
 pub enum Only {
     One { value: usize, end: usize },
     Other,

@@ -1,13 +1,15 @@
 // The grammar of lists: places with a comma between two of them, each of which is an address, an address in angle brackets
 // or a group (SCOPE, L9). It is a table of the tokens that may stand at each place. What is right is said by
 // specs/Grammar.antt.
+#![tactic(auto)]
+
 ghost use Rattle.std.specs.Prelude.{◌≡◌};
 ghost use Rattle.grammar.specs.declared.Stage.TheVariants.{Place, Opened, Phrase, Closing, Behind};
 ghost use Rattle.grammar.specs.declared.Sort.TheVariants.{Colon, Semicolon};
 ghost use Rattle.grammar.specs.Grammar.{after_address, after as after_of, may_end};
 
 // The sorts of tokens besides addresses.
-#[derive(Drop)]
+#[derive(Clone, Copy)]
 pub enum Sort {
     Word,
     Less,
@@ -18,7 +20,7 @@ pub enum Sort {
 }
 
 // The places of the grammar.
-#[derive(Drop)]
+#[derive(Clone, Copy)]
 pub enum Stage {
     Place, // a list place must begin
     Opened, // behind the colon of a group
@@ -29,7 +31,7 @@ pub enum Stage {
 }
 
 // The grammar goes on, inside a group or not; or the token may not stand there.
-#[derive(Drop)]
+#[derive(Clone, Copy)]
 pub enum Follow {
     On(Stage, bool),
     Wrong,

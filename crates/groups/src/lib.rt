@@ -1,5 +1,7 @@
 // What a text goes on with at a place: its next four characters, with blanks anywhere, and the octets that they stand for
 // (SCOPE, F9). What is right is said by `decode` of letters/specs/Base64.antt; specs/Steps.antt leads from there to places.
+#![tactic(auto)]
+
 ghost use Rattle.std.specs.Prelude.{◌+◌, ◌*◌, ◌≤◌, ◌<◌, ◌≡◌, length, drop};
 ghost use Rattle.octets.specs.Octets.{without_blanks};
 ghost use Rattle.letters.specs.Tables.{Signs};
@@ -9,7 +11,7 @@ use letters::Group;
 use runs::Class;
 
 // The next character that is no blank, with the place behind it.
-#[derive(Drop)]
+#[derive(Clone, Copy)]
 enum Letter {
     End,
     At(u8, usize),
@@ -17,7 +19,7 @@ enum Letter {
 
 // What a text goes on with: three octets and the place behind their characters, its last octets, its
 // end, or what is not Base64.
-#[derive(Drop)]
+#[derive(Clone, Copy)]
 pub enum Next {
     Three(u8, u8, u8, usize),
     Two(u8, u8),
@@ -27,7 +29,7 @@ pub enum Next {
 }
 
 // The octets of four letters that stand side by side, or that there are none such.
-#[derive(Drop)]
+#[derive(Clone, Copy)]
 pub enum Whole {
     Three(u8, u8, u8),
     Other,

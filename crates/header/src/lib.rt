@@ -1,5 +1,7 @@
 // Header blocks (SCOPE, page B): the field that begins at a place, whether a whole block is readable, a value unfolded, and
 // multipart/report told. What is right is said by specs/Header.antt; specs/Answers.antt leads from there to places.
+#![tactic(auto)]
+
 ghost use Rattle.std.specs.Prelude.{◌+◌, ◌≤◌, ◌<◌, ◌≡◌, get_or, drop};
 ghost use Rattle.std.proofs.Math.ListN.{length};
 ghost use Rattle.octets.specs.Written.{onto};
@@ -15,7 +17,7 @@ pub const LIMIT: usize = 65536;
 
 // What stands at a place where a line begins: the block is over; the block is unreadable; or a field, whose name
 // lies from there to name_end and its value, not unfolded yet, from value to end, where the next line begins (B14).
-#[derive(Drop)]
+#[derive(Clone, Copy)]
 pub enum Step {
     Over,
     Broken,
@@ -115,7 +117,7 @@ pub fn field_at(block: &[u8], at: usize) -> Step
 }
 
 // A place in a block where a line begins.
-#[derive(Drop)]
+#[derive(Clone, Copy)]
 pub struct Cursor {
     pub at: usize,
 }

@@ -1,12 +1,14 @@
 // The head of an entry: the numbers that stand in octets 2 to 39, behind the mark (SCOPE, T3). What stands where, the
 // conditions on a head (T8), what changes in one, and how it is read and written. It is lent as a part of 40 octets, of
 // which the first two are left as they are.
+#![tactic(auto)]
+
 ghost use Rattle.std.specs.Prelude.{◌≤◌, max, ◌≡◌, cond, length};
 ghost use Rattle.octets.specs.Written.{put_at};
 ghost use Rattle.heads.specs.Head.{head_length, head_of, empty_head, clear, seen_sound, direct_sound, gossip_sound, head_address, head_seen, head_direct, head_gossip, bits_of, times, lengths, head_octets};
 
 // What octets 2 to 39 say: the lengths, the four bits and the times of an entry (T3).
-#[derive(Drop)]
+#[derive(Clone, Copy)]
 pub struct Head {
     pub address_length: usize,
     pub seen: bool,

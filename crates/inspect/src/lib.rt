@@ -1,5 +1,7 @@
 // The calls that only look at a table: its check, which every call on a table begins with (T13), and one entry by its slot
 // (T14).
+#![tactic(auto)]
+
 ghost use Rattle.std.specs.Prelude.{◌≡◌, length};
 ghost use Rattle.refusals.specs.Rows.{first_of, answer_of};
 ghost use Rattle.table.specs.Table.{most_slots};

@@ -1,6 +1,8 @@
 // Base64 as key data has it (SCOPE, F9): a text is decoded with its blanks left out, or it is only asked whether it is Base64.
 // What is right is said by `decode` of letters/specs/Base64.antt. Octets are written as the lines of a field by the crate
 // `keylines`.
+#![tactic(auto)]
+
 ghost use Rattle.std.specs.Prelude.{◌+◌, ◌≤◌, ◌≡◌, [], ◌∷◌, length, drop};
 ghost use Rattle.octets.specs.Octets.{without_blanks};
 ghost use Rattle.octets.specs.Options.{is_some};
@@ -14,14 +16,14 @@ use groups::{Next, Whole};
 use runs::Class;
 
 // What decoding answers: how many octets it wrote, or that the text is no Base64 or stands for more than there is room for.
-#[derive(Drop)]
+#[derive(Clone, Copy)]
 pub enum Decoded {
     Octets(usize),
     Refused,
 }
 
 // How far a text has been read, and its octets are written.
-#[derive(Drop)]
+#[derive(Clone, Copy)]
 struct BothReached {
     read: usize,
     wrote: usize,
@@ -29,7 +31,7 @@ struct BothReached {
 
 // What writing comes to, with a group more: it goes on, as far read and written; it has written so many octets, and the text is
 // at its end; or the text is no Base64, or has more octets than there is room for.
-#[derive(Drop)]
+#[derive(Clone, Copy)]
 enum Turn {
     On(usize, usize),
     Last(usize),

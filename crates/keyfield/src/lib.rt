@@ -1,5 +1,7 @@
 // One Autocrypt or Autocrypt-Gossip value, unfolded: its pieces are read from the first to the last (page F), and the key
 // is decoded once the rest is known to be good. What is right is said by specs/Field.antt.
+#![tactic(auto)]
+
 ghost use Rattle.std.specs.Prelude.{◌≤◌, ◌≡◌, length};
 ghost use Rattle.attributes.specs.Steps.{stated};
 ghost use Rattle.keyfield.specs.Field.{mutual_by};
@@ -9,7 +11,7 @@ use attributes::{AddressAt, NextPiece, Preference};
 use keydata::Decoded;
 
 // What the value says, its key data still a text.
-#[derive(Drop)]
+#[derive(Clone, Copy)]
 enum Scanned {
     Whole {
         from: usize,
@@ -22,7 +24,7 @@ enum Scanned {
 }
 
 // The length of a key that was written; or there is none.
-#[derive(Drop)]
+#[derive(Clone, Copy)]
 enum Key {
     Length(usize),
     NoKey,
@@ -30,7 +32,7 @@ enum Key {
 
 // What a field says: the place of its address in the value, as it stands there, its preference, and the
 // length of its key; or it is spoiled.
-#[derive(Drop)]
+#[derive(Clone, Copy)]
 pub enum Read {
     Valid {
         from: usize,

@@ -1,5 +1,7 @@
 // Octets written as the Base64 lines of a field (SCOPE, W4). What they are is said by `lines` of specs/Lines.antt and
 // `encode` of letters/specs/Base64.antt.
+#![tactic(auto)]
+
 ghost use Rattle.std.specs.Prelude.{◌+◌, ◌≤◌, ◌<◌, ◌≡◌, [], ◌∷◌, ◌++◌, length, drop};
 ghost use Rattle.octets.specs.Written.{put_at};
 ghost use Rattle.letters.specs.Base64.{encode};
@@ -8,7 +10,7 @@ ghost use Rattle.keylines.specs.Lines.{laid, lines};
 ghost use Rattle.keylines.specs.Steps.{characters, line_break, piece, after};
 
 // Four characters that stand for the octets of one group.
-#[derive(Drop)]
+#[derive(Clone, Copy)]
 struct Four(u8, u8, u8, u8);
 
 // What ends a line and begins the next.

@@ -2,6 +2,8 @@
 // (G5). What is right is said by specs/Owners.antt and by the definitions of `keyfield`.
 //
 // What a lent key or address holds behind the length that is answered means nothing.
+#![tactic(auto)]
+
 ghost use Rattle.std.specs.Prelude.{◌≤◌, ◌≡◌, true, length};
 ghost use Rattle.address.specs.Address.{is_canonical};
 ghost use Rattle.keyfield.specs.Field.{valid_for};
@@ -12,14 +14,14 @@ ghost use Rattle.keyowner.specs.Answers.{OwnAs, Accepts, AcceptedAs};
 use keyfield::Read;
 
 // The preference and the length of the key of a field of the sender; or there is none.
-#[derive(Drop)]
+#[derive(Clone, Copy)]
 pub enum Own {
     Key { mutual: bool, length: usize },
     NoKey,
 }
 
 // The lengths of the address and the key of a gossip field that is accepted; or it is not.
-#[derive(Drop)]
+#[derive(Clone, Copy)]
 pub enum Accepted {
     Gossip { address: usize, key: usize },
     NotAccepted,

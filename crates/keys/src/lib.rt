@@ -3,6 +3,8 @@
 //
 // Values are unfolded into a lent text, which has to be as long as the block. What it holds afterwards means nothing, nor
 // does what a lent key or address holds behind the length that is answered.
+#![tactic(auto)]
+
 ghost use Rattle.roll.specs.Roll.{unrolled};
 ghost use Rattle.fields.specs.Fields.{fields_in};
 ghost use Rattle.keyowner.specs.Answers.{OwnAs};
@@ -14,14 +16,14 @@ use keyowner::{Accepted, Own};
 use slots::Slot;
 
 // The value of a field, unfolded: its length, and where the next line begins.
-#[derive(Drop)]
+#[derive(Clone, Copy)]
 enum Taken {
     Value { length: usize, end: usize },
     NoValue,
 }
 
 // A valid Autocrypt field: its preference, the length of its key, and where the next line begins.
-#[derive(Drop)]
+#[derive(Clone, Copy)]
 pub enum Valid {
     Key {
         mutual: bool,
@@ -32,7 +34,7 @@ pub enum Valid {
 }
 
 // Accepted gossip: where the next line begins, and the lengths of its address and its key.
-#[derive(Drop)]
+#[derive(Clone, Copy)]
 pub enum Heard {
     Next {
         end: usize,

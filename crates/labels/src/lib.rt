@@ -1,5 +1,7 @@
 // Labels in any script, and their forms in ASCII (SCOPE, L7, L22). A label is judged as it stands, then brought into form, and
 // the form is measured.
+#![tactic(auto)]
+
 ghost use Rattle.std.specs.Prelude.{◌≤◌, ◌≡◌, false, ◌++◌, length};
 ghost use Rattle.std.proofs.Math.Option.{some};
 ghost use Rattle.octets.specs.Octets.{lowered};

@@ -1,12 +1,14 @@
 // The letters of Base64 (SCOPE, F9): the letter of a value, what a character stands for, and what four characters do. What
 // is right is said by specs/Base64.antt. Texts are decoded by the crate `keydata`, and octets written as lines by the crate
 // `keylines`.
+#![tactic(auto)]
+
 ghost use Rattle.std.specs.Prelude.{◌<◌, ◌≡◌};
 ghost use Rattle.letters.specs.Base64.{letter, sign_of, closed, group_of};
 ghost use Rattle.letters.specs.Tables.{Letters, code_of, Signs, Low};
 
 // What a character stands for.
-#[derive(Drop)]
+#[derive(Clone, Copy)]
 pub enum Sign {
     Value(u8),
     Pad,
@@ -14,7 +16,7 @@ pub enum Sign {
 }
 
 // What four characters stand for.
-#[derive(Drop)]
+#[derive(Clone, Copy)]
 pub enum Group {
     Three(u8, u8, u8),
     Two(u8, u8),

@@ -1,5 +1,7 @@
 // The call `lint`: what is wrong with the Autocrypt and Autocrypt-Gossip fields of an outgoing mail, as numbers of a lent list
 // (SCOPE, page O). The faults are counted first, and written where there is room for all.
+#![tactic(auto)]
+
 ghost use Rattle.std.specs.Prelude.{◌+◌, ◌≤◌, ◌≡◌, length};
 ghost use Rattle.roll.specs.Roll.{unrolled};
 ghost use Rattle.faults.specs.Faults.{numbers_of};
@@ -15,7 +17,7 @@ use refusals::Refusal;
 use slots::Slot;
 
 // How many faults there are; or the call was refused.
-#[derive(Drop)]
+#[derive(Clone, Copy)]
 pub enum Linted {
     Done(usize),
     Refused(Refusal),

@@ -1,5 +1,7 @@
 // The listing program (W7, W8, W9, W10). Its input is a table of up to 14 slots; it prints a line for each used one, or
 // the number of a refusal. What it prints is said by the crate printout; reading and writing are all that it does itself.
+#![tactic(auto)]
+
 use libc::{STDIN_FILENO, STDOUT_FILENO};
 
 fn main() {

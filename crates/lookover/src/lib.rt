@@ -2,6 +2,8 @@
 // numbers to a lent list. What is right is said by specs/Looking.antt.
 //
 // Values are unfolded into a lent text, which has to be as long as the block. What it holds afterwards means nothing.
+#![tactic(auto)]
+
 ghost use Rattle.std.specs.Prelude.{◌≡◌, true};
 ghost use Rattle.address.specs.Address.{is_canonical};
 ghost use Rattle.roll.specs.Roll.{unrolled};
@@ -18,21 +20,21 @@ use keyowner::Own;
 use slots::Slot;
 
 // Which of the two blocks of a mail it is.
-#[derive(Drop)]
+#[derive(Clone, Copy)]
 pub enum Side {
     Outer,
     Payload,
 }
 
 // What is wrong with a field, and whether it is a valid Autocrypt field.
-#[derive(Drop)]
+#[derive(Clone, Copy)]
 struct Judged {
     flaws: Flaws,
     valid: bool,
 }
 
 // The place behind the numbers that were written, and whether the block has a valid Autocrypt field.
-#[derive(Drop)]
+#[derive(Clone, Copy)]
 pub struct Looked {
     pub end: usize,
     pub valid: bool,

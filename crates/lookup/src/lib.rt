@@ -1,5 +1,7 @@
 // Looking through a table: whether it is sound (T13), where an address stands in it (T15), and what it has of an address.
 // The check makes a tag for each slot and hands them out; whoever looks for an address later compares these first.
+#![tactic(auto)]
+
 ghost use Rattle.std.specs.Prelude.{◌<◌, ◌≡◌, ◌&&◌, eqb};
 ghost use lib.ListN.{length};
 ghost use Rattle.slots.specs.Slot.{slot_length, marked, address_of};
@@ -13,7 +15,7 @@ use slots::{Slot, Spelling};
 use table::{Checked, Found};
 
 // What a table has of an address: the numbers of its entry, and where the entry's two keys begin in the table; or nothing.
-#[derive(Drop)]
+#[derive(Clone, Copy)]
 pub enum Held {
     Entry {
         numbers: Head,

@@ -1,4 +1,6 @@
 // Two entries of one address made one (SCOPE, T18): the slot of the one takes what the other has beyond it.
+#![tactic(auto)]
+
 ghost use Rattle.std.specs.Prelude.{◌≡◌, not, ◌&&◌, ◌||◌, ltb};
 ghost use Rattle.slots.specs.Entry.{entry_of, slot_of};
 ghost use Rattle.merge.specs.Merging.{merged};

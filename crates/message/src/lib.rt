@@ -3,6 +3,8 @@
 //
 // Values are unfolded into a lent text, which has to be as long as the outer block. What it holds afterwards means
 // nothing.
+#![tactic(auto)]
+
 ghost use Rattle.std.specs.Prelude.{false};
 ghost use Rattle.fields.specs.Fields.{fields_in};
 ghost use Rattle.outer.specs.Outer.{is_reported};
@@ -18,7 +20,7 @@ use settings::Settings;
 
 // What the outer block brings: the length of the sender's address, the effective date and the field that counts. The address
 // and the key stand in lent memory.
-#[derive(Drop)]
+#[derive(Clone, Copy)]
 pub struct Brought {
     pub sender: usize,
     pub date: u64,
@@ -27,7 +29,7 @@ pub struct Brought {
 
 // A message without a payload in which gossip is looked for; one with such a payload, and the survey that tells where its
 // recipients stand; or why it is refused.
-#[derive(Drop)]
+#[derive(Clone, Copy)]
 pub enum Reading {
     Alone(Brought),
     Carrying(Brought, Survey),
@@ -36,7 +38,7 @@ pub enum Reading {
 
 // What decides how a message with a sender is read on: it is a report; its payload is unreadable, or passed over, or searched
 // for gossip.
-#[derive(Drop)]
+#[derive(Clone, Copy)]
 pub enum Judged {
     Report,
     Unreadable,

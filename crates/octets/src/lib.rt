@@ -1,6 +1,8 @@
 // The common ground: blanks told (L1 of SCOPE); octets compared, searched, copied as they are or with capitals made small
 // (L8), tested for zeros, and read and written as numbers with the least octet first (T2). Each function's meaning is one
 // definition of specs/.
+#![tactic(auto)]
+
 ghost use Rattle.std.specs.Prelude.{◌+◌, ◌≤◌, ◌<◌, max, ◌≡◌, eqb, length, take, drop, replicate};
 ghost use Rattle.octets.specs.Octets.{blank, same_octets, lower as lower_of, lowered, same_name, starts_with, all_zero};
 ghost use Rattle.octets.specs.Finding.{holds, length_before, Skipped};
@@ -8,7 +10,7 @@ ghost use Rattle.octets.specs.Numbers.{number, digits};
 ghost use Rattle.octets.specs.Written.{put_at};
 
 // Where a text ends that was written from a place on; or it has no room there.
-#[derive(Drop)]
+#[derive(Clone, Copy)]
 pub enum Laid {
     At(usize),
     NoRoom,

@@ -1,1 +1,2 @@
 // No code: the order of fetching does not matter (C11), as a theorem in proofs/.
+#![tactic(auto)]

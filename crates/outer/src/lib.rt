@@ -2,6 +2,8 @@
 // Its recipients are read by the crate recipients. What is right is said by specs/Outer.antt.
 //
 // Values are unfolded into a lent text, which has to be as long as the block. What it holds afterwards means nothing.
+#![tactic(auto)]
+
 ghost use Rattle.std.specs.Prelude.{◌≤◌, ◌≡◌, length};
 ghost use Rattle.slots.specs.Slot.{address_room};
 ghost use Rattle.date.specs.Answers.{dated_of};
@@ -14,7 +16,7 @@ use date::Dated;
 use fields::{Kind, Named, Only, Survey};
 
 // The length of the sender's canonical address; or there is not exactly one sender (R5).
-#[derive(Drop)]
+#[derive(Clone, Copy)]
 pub enum Sender {
     Address(usize),
     NotOne,

@@ -1,4 +1,6 @@
 // The listing program's text, written into a lent buffer (W7 to W10). What it is stands in specs/Printout.antt.
+#![tactic(auto)]
+
 ghost use Rattle.std.specs.Prelude.{◌<◌, ◌≤◌, ◌≡◌, length};
 ghost use Rattle.octets.specs.Written.{onto};
 ghost use Rattle.table.specs.Table.{slots as slots_of, slot_at, checked};

@@ -1,11 +1,13 @@
 // The lower crates' functions under C names, for the differential tests and nothing else: never shipped. Each export
 // is thin, takes any input, and tests here what a function below requires of its caller.
+#![tactic(auto)]
+
 ghost use Rattle.std.specs.Prelude.{◌≤◌};
 
 use slots::Slot;
 
 #[repr(C)]
-#[derive(Drop)]
+#[derive(Clone, Copy)]
 pub struct Answer {
     pub kind: u64,
     pub value: u64,

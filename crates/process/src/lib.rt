@@ -1,5 +1,7 @@
 // Processing a message (U1, U2): the table is checked, the message is read, and then it is delivered. Each function below
 // answers what is left to be answered and written of the whole call, which is said by specs/Processing.antt.
+#![tactic(auto)]
+
 ghost use Rattle.std.specs.Prelude.{◌≡◌};
 ghost use Rattle.refusals.specs.Rows.{first_of, answer_of};
 ghost use Rattle.slots.specs.Slot.{key_limit};

@@ -1,11 +1,13 @@
 // Punycode (L23 of SCOPE), what its coder and its decoder share: one digit, one threshold, and the bias for the next number.
 // Numbers are u64, in which every sum fits for lists of up to 2^32 code points.
+#![tactic(auto)]
+
 ghost use Rattle.std.specs.Prelude.{◌^◌, ◌<◌, ◌≡◌};
 ghost use Rattle.punycode.specs.Punycode.{digit as digit_of, value as valueAs, adapt as adaptOf};
 ghost use Rattle.punycode.specs.Steps.{value_of, Threshold, Halved};
 
 // What an octet is worth as a digit; or it is none.
-#[derive(Drop)]
+#[derive(Clone, Copy)]
 pub enum Value {
     Digit(u64),
     Other,

@@ -1,12 +1,14 @@
 // A reader has a block and a place in it, and hands out the block's fields one by one (SCOPE, B14). The work is done by
 // `hand_out` and `place_behind`, which take the block and a place; what takes, makes or lends a reader is thin and leaves
 // it to them. Who keeps a place and not a reader calls `take`, and who has only a block and a number `field_number`.
+#![tactic(auto)]
+
 ghost use Rattle.std.specs.Prelude.{◌≡◌};
 ghost use Rattle.reader.specs.Reading.{handed_at, place_behind, handed_after, opened, moved_on, taken_at};
 
 // What a reader hands out: a field, whose name lies from `name` to `name_end` and its value, not unfolded yet, from `value`
 // to `end`, where the next line begins; or word that the block is over, or unreadable at the reader's place.
-#[derive(Drop)]
+#[derive(Clone, Copy)]
 pub enum Handed {
     Over,
     Broken,
@@ -81,7 +83,7 @@ impl<'a> Reader<'a> {
 }
 
 // What a reader hands out, and the place where it then is.
-#[derive(Drop)]
+#[derive(Clone, Copy)]
 pub struct Taken {
     pub handed: Handed,
     pub at: usize,

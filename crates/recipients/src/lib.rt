@@ -2,6 +2,8 @@
 // those of gossip are looked for.
 //
 // Values are unfolded into a lent text, which has to be as long as the block. What it holds afterwards means nothing.
+#![tactic(auto)]
+
 ghost use Rattle.recipients.specs.Answers.{Gathers, GatheredAs};
 
 use fields::{Kind, Named, Survey};

@@ -1,5 +1,7 @@
 // Recommending (page A): what is advised for a mail to a list of recipients, and the key to encrypt to for each of them,
 // which is a part of the table that was lent.
+#![tactic(auto)]
+
 ghost use Rattle.std.specs.Prelude.{◌≡◌, length};
 ghost use Rattle.addresslist.specs.List.{addresses};
 ghost use Rattle.advice.specs.Places.{octets_at};
@@ -14,14 +16,14 @@ use refusals::{Answer, Refusal};
 use slots::Slot;
 
 // What is advised for all recipients of a mail; or the call is refused (A1).
-#[derive(Drop)]
+#[derive(Clone, Copy)]
 pub enum Recommended {
     Done(Advice),
     Refused(Refusal),
 }
 
 // That answer, and how many recipients were looked up for it, 0 with a refusal (A12, A13).
-#[derive(Drop)]
+#[derive(Clone, Copy)]
 pub struct Quick {
     pub answer: Recommended,
     pub looked_up: usize,
@@ -29,7 +31,7 @@ pub struct Quick {
 
 // What a walk over the list finds: the advice for all recipients and how many were looked up for it; or it is no list of
 // 1 to 100 addresses (R10).
-#[derive(Drop)]
+#[derive(Clone, Copy)]
 enum Surveyed {
     Fit { advice: Advice, looked_up: usize },
     Unfit,

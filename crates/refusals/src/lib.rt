@@ -1,10 +1,12 @@
 // Why calls refuse: one enum for all of them, its numbers (SCOPE, page R), and the answer of a call that has nothing else
 // to say. Which refusal a call gives is said by rows (specs/Rows.antt): the first row that holds decides (R31).
+#![tactic(auto)]
+
 ghost use Rattle.std.specs.Prelude.{◌≡◌};
 ghost use Rattle.refusals.specs.Refusals.{number_of, index_of};
 
 // Named for the rules R1 to R12, in their order.
-#[derive(Drop)]
+#[derive(Clone, Copy)]
 pub enum Refusal {
     TableLength,
     BrokenSlot(u32),
@@ -21,7 +23,7 @@ pub enum Refusal {
 }
 
 // The call did what it is for; or it did nothing, and why.
-#[derive(Drop)]
+#[derive(Clone, Copy)]
 pub enum Answer {
     Done,
     Refused(Refusal),

@@ -1,6 +1,8 @@
 // A roll of addresses in lent memory, each ended by an octet that no address has, and its index beside it: of each address
 // the tag of its canonical form, and where it begins. The recipients of a message (G4) are kept so, and the addresses that
 // are new with it (R8). An address is looked for among the tags, many at a time, and compared only where one agrees.
+#![tactic(auto)]
+
 ghost use Rattle.std.specs.Prelude.{◌+◌, ◌≤◌, ◌<◌, ◌≡◌, true, [], ◌∷◌, length, drop};
 ghost use Rattle.octets.specs.Octets.{same_octets};
 ghost use Rattle.octets.specs.Options.{is_some};
@@ -19,7 +21,7 @@ use addresslist::{Counted, NextAddress};
 const ENDER: u8 = 0;
 
 // Where a roll ends, and how many addresses it has.
-#[derive(Drop)]
+#[derive(Clone, Copy)]
 pub struct Rolled {
     pub end: usize,
     pub many: usize,

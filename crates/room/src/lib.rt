@@ -1,5 +1,7 @@
 // Whether there is a free slot for each address that is new with a message (R8): asked before anything is written. What is
 // right is said by specs/Room.antt.
+#![tactic(auto)]
+
 ghost use Rattle.std.specs.Prelude.{◌≡◌, [], ◌∷◌};
 ghost use Rattle.table.specs.Tagged.{Tagged};
 ghost use Rattle.roll.specs.Growing.{in_roll};
@@ -37,7 +39,7 @@ fn is_new(
 
 // What comes of an address: there is a slot for it, its own or a free one, and the roll of newcomers goes up to there then;
 // or it is new, and those before it take all free slots.
-#[derive(Drop)]
+#[derive(Clone, Copy)]
 enum Met {
     Seated(Rolled),
     Full,

@@ -1,11 +1,13 @@
 // Runs of octets of one class: whether an octet belongs to the class, and where the run ends that begins at a place. What
 // the classes are is said by specs/Runs.antt.
+#![tactic(auto)]
+
 ghost use Rattle.std.specs.Prelude.{◌+◌, ◌≡◌, drop};
 ghost use Rattle.runs.specs.Runs.{digit as digit_of, letter as letterOf, belongs, run_length};
 
 // The classes of octets that make runs: blanks (L1); what a field's name is made of (B7); digits and letters (D4); what
 // atoms are made of (L1), what labels (L7), and what whole addresses (L12).
-#[derive(Drop)]
+#[derive(Clone, Copy)]
 pub enum Class {
     Blank,
     Name,

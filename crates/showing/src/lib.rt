@@ -1,5 +1,7 @@
 // How an address is shown (SCOPE, W12). What is shown can be typed back: a coded label is shown in UTF-8 only where that is a label
 // with just this form.
+#![tactic(auto)]
+
 ghost use Rattle.std.specs.Prelude.{◌<◌, ◌≤◌, ◌≡◌, true, ◌&&◌, length, drop};
 ghost use Rattle.octets.specs.Puts.{Puts, PutsText};
 ghost use Rattle.punycode.specs.Punycode.{decode as decodeOf};

@@ -1,5 +1,7 @@
 // One slot of the table and the entry that it holds (page T): what stands where, whether it is free or sound, and the
 // writers of slots. A slot is lent as a part of 4,392 octets.
+#![tactic(auto)]
+
 ghost use Rattle.std.specs.Prelude.{◌+◌, ◌≤◌, min, ◌≡◌, true, length, take, drop};
 ghost use Rattle.octets.specs.Octets.{all_zero};
 ghost use Rattle.octets.specs.Written.{put_at};
@@ -13,7 +15,7 @@ use heads::Head;
 
 // The layout of a slot (T3): behind the mark and the numbers, 40 octets in all, stand the address and the two keys, each
 // in a room of its own.
-#[derive(Drop)]
+#[derive(Clone, Copy)]
 pub struct Slot;
 
 impl Slot {
@@ -42,7 +44,7 @@ impl Slot {
 
 // How the addresses of a table are spelled: in canonical form (T8.2), or as they were kept while only ASCII capitals were
 // made small (T16).
-#[derive(Drop)]
+#[derive(Clone, Copy)]
 pub enum Spelling {
     Canonical,
     Ascii,

@@ -1,5 +1,7 @@
 // The table of slots (page T): the free slots, what a slot holds, and the one slot that is lent on to a writer. Whether a
 // table is sound, and where an address stands in it, is answered by the crate `lookup`.
+#![tactic(auto)]
+
 ghost use Rattle.std.specs.Prelude.{◌<◌, ◌≤◌, ◌≡◌, true, length, set};
 ghost use Rattle.heads.specs.Head.{head_of};
 ghost use Rattle.slots.specs.Slot.{slot_length, address_room, key_limit, free_slot, marked, address_of, sound_by, sound};
@@ -15,7 +17,7 @@ use slots::Slot;
 
 // What the check finds: a sound table; a length that is not that of 1 to 256 whole slots (R1); or the lowest slot that is
 // neither free nor sound (R2).
-#[derive(Drop)]
+#[derive(Clone, Copy)]
 pub enum Checked {
     Sound,
     Length,
@@ -23,7 +25,7 @@ pub enum Checked {
 }
 
 // The index of a slot, or that there is none.
-#[derive(Drop)]
+#[derive(Clone, Copy)]
 pub enum Found {
     At(usize),
     Nothing,

@@ -1,5 +1,7 @@
 // A number of 32 bits for each address, its tag. Equal addresses have equal tags, others hardly ever: where many addresses
 // are kept, their tags stand side by side and are compared first.
+#![tactic(auto)]
+
 ghost use Rattle.std.specs.Prelude.{◌≡◌, ◌≤◌, length};
 ghost use Rattle.tags.specs.Tags.{with_octet, tag_of, in_first};
 

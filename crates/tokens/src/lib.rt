@@ -1,5 +1,7 @@
 // What lists and dates share: blanks and comments skipped (SCOPE, L11 and D5); and quoted strings passed, which lists have
 // (L3). A reader is given the text and a place in it, and answers a place.
+#![tactic(auto)]
+
 ghost use Rattle.std.specs.Prelude.{suc, ◌+◌, ◌<◌, ◌≡◌, false, drop};
 ghost use Rattle.tokens.specs.Tokens.{control, kind_of, depth, skipped, after_quote};
 ghost use Rattle.tokens.specs.Answers.{reached, takes as takesOf, step_in, opened, Opening, Passed};
@@ -8,7 +10,7 @@ ghost use Rattle.tokens.specs.Answers.{reached, takes as takesOf, step_in, opene
 const DEPTH: usize = 16;
 
 // What an octet is inside a comment or a quoted string.
-#[derive(Drop)]
+#[derive(Clone, Copy)]
 pub enum OctetKind {
     Closes,
     Escapes,
@@ -18,7 +20,7 @@ pub enum OctetKind {
 
 // What reading inside a comment or a quoted string comes to at a place: it goes on at another place, it has come to
 // the end and to the place behind it, or the text is unreadable.
-#[derive(Drop)]
+#[derive(Clone, Copy)]
 enum StepIn {
     On(usize),
     Ends(usize),
@@ -26,7 +28,7 @@ enum StepIn {
 }
 
 // The place that a reader reached; or the text is unreadable.
-#[derive(Drop)]
+#[derive(Clone, Copy)]
 pub enum Reached {
     To(usize),
     Unreadable,

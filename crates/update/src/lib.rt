@@ -1,6 +1,8 @@
 // Where a message is put: the sender's entry and those of the addresses that it has gossip about, each in its own slot or
 // in the lowest free one (U4). What is right is said by specs/Update.antt. The tags that the table was opened with stay
 // its tags.
+#![tactic(auto)]
+
 ghost use Rattle.std.specs.Prelude.{◌≤◌, ◌<◌, ◌≡◌, true, length};
 ghost use Rattle.std.proofs.Math.Option.{some, none};
 ghost use Rattle.address.specs.Address.{is_canonical};

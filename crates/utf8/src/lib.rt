@@ -1,5 +1,7 @@
 // UTF-8 (L20 of SCOPE) and its lower case (L21). A text is gone through octet by octet, and no code point is ever put
 // together: every range of L21 lies in two octets, so that what an octet becomes depends only on its neighbours.
+#![tactic(auto)]
+
 ghost use Rattle.std.specs.Prelude.{◌+◌, ◌<◌, ◌≤◌, ◌≡◌, ◌∷◌, length, get_or};
 ghost use Rattle.octets.specs.Octets.{same_octets, lowered};
 ghost use Rattle.octets.specs.Written.{put_at};
@@ -9,14 +11,14 @@ ghost use Rattle.utf8.specs.Steps.{all_ascii, second_of, first_of, lower_at, oct
 
 // What the first octet of a code point tells: how many octets follow, the range of the next of them, and its own part of the
 // number. Or it is no first octet.
-#[derive(Drop)]
+#[derive(Clone, Copy)]
 pub enum Lead {
     First(u8, u8, u8, u8),
     Bad,
 }
 
 // What has to follow: so many octets, the next of them in a range. Or the text is ill-formed, whatever follows.
-#[derive(Drop)]
+#[derive(Clone, Copy)]
 enum Next {
     Wants(u8, u8, u8),
     Never,

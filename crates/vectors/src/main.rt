@@ -8,6 +8,8 @@
 //     p TEXT   the Punycode of the code points of a text in UTF-8, put into lower case (L21, L23); or ill-formed, or no room
 //     u TEXT   the code points that a Punycode text decodes to (L23), as octets of UTF-8 in hexadecimal; or nothing, or no room
 // What it must print stands in `stdout`, as the independent program printed it.
+#![tactic(auto)]
+
 ghost use Rattle.std.specs.Prelude.{◌≤◌, ◌≡◌, true, length};
 ghost use Rattle.utf8.specs.Utf8.{scalars};
 ghost use Rattle.coder.specs.Steps.{Points};

@@ -1,4 +1,6 @@
 // The two writers: an Autocrypt field and an Autocrypt-Gossip field, written to the front of lent memory (W1 to W6).
+#![tactic(auto)]
+
 ghost use Rattle.std.specs.Prelude.{◌≤◌, ◌≡◌, false, length};
 ghost use Rattle.names.specs.Names.{autocrypt as autocryptName, gossip as gossip_name};
 ghost use Rattle.write.specs.Writing.{written_of, left_by_writing};
@@ -8,7 +10,7 @@ use slots::Slot;
 
 // What a writer answers: the length of the field that opens the output now; or a refusal, and then nothing was written
 // (R32, R34).
-#[derive(Drop)]
+#[derive(Clone, Copy)]
 pub enum Written {
     Done(usize),
     Refused(Refusal),

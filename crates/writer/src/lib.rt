@@ -1,5 +1,7 @@
 // Fields written (SCOPE, W2 to W5): name, address, preference and key become the text of one header field. What it is
 // stands in specs/Writing.antt.
+#![tactic(auto)]
+
 ghost use Rattle.std.specs.Prelude.{◌+◌, ◌≤◌, ◌≡◌, true, length};
 ghost use Rattle.octets.specs.Written.{put_at, onto};
 ghost use Rattle.address.specs.Address.{plain};
