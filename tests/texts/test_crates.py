@@ -1,29 +1,28 @@
-"""crates.txt lists for each crate just the libraries that its sources name: in code as `name::`, in definitions and proofs, and
-in contracts, as `Rattle·name.`.
+"""crates.txt lists for each crate just those crates that its sources name: in code as `name::`, in definitions and proofs, and
+in contracts, as `Rattle.name.`. Of the toolchain's libraries only std is used, which needs no place there.
 """
 import re
 import unittest
 from pathlib import Path
 
 ROOT = Path(__file__).resolve().parents[2]
-KIT = {"io", "libc"}
-NAMED = re.compile(r"Rattle·(\w+)\.")
+NAMED = re.compile(r"(?<![\w.])Rattle\.(\w+)\.")
 CALLED = re.compile(r"(?<![\w:])(\w+)::")
 
 
 def listed(text: str) -> dict:
-    """What crates.txt says of each crate."""
+    """What crates.txt says of each crate. A static library has that word behind its name."""
     lines = [line.split(":") for line in text.splitlines() if line and not line.startswith("#")]
-    return {name: set(uses.split()) for name, uses in lines}
+    return {head.removesuffix(" staticlib"): set(uses.split()) for head, uses in lines}
 
 
 def named(sources: dict, crates: set) -> set:
-    """The crates, and libraries of the toolchain, that sources name; by the path of each."""
+    """The crates that sources name; by the path of each."""
     found = set()
     for path, text in sources.items():
-        found.update(NAMED.findall(text))
+        found.update(set(NAMED.findall(text)) & crates)
         if path.suffix == ".rt":
-            found.update(set(CALLED.findall(re.sub(r"//.*", "", text))) & (crates | KIT))
+            found.update(set(CALLED.findall(re.sub(r"//.*", "", text))) & crates)
     return found
 
 
@@ -40,10 +39,11 @@ class Crates(unittest.TestCase):
     def test_rule(self):
         """The rule itself, on sources that name crates in each way."""
         sources = {
-            Path("a.rt"): "use low::Thing; // other::name\nghost use Rattle·spec.specs.S.{d};\nThing::new()",
-            Path("a.antt"): "use Rattle·law.proofs.L.{l}\nuse Rattle·own·proofs.proofs.M.{m}",
+            Path("a.rt"): "use low::Thing; // other::name\nghost use Rattle.spec.specs.S.{d};\nuse std::io;\nThing::new()",
+            Path("a.antt"): "use Rattle.law.proofs.L.{l}\nuse Rattle.std.specs.Prelude.{ℕ}",
         }
-        self.assertEqual(named(sources, {"low", "other", "spec", "law", "own"}), {"low", "spec", "law"})
+        self.assertEqual(named(sources, {"low", "other", "spec", "law", "io"}), {"low", "spec", "law"})
+        self.assertEqual(listed("# a line\nlow:\ntop staticlib: low mid\n"), {"low": set(), "top": {"low", "mid"}})
 
 
 if __name__ == "__main__":

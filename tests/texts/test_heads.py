@@ -5,7 +5,7 @@ from pathlib import Path
 
 CRATES = Path(__file__).resolve().parents[2] / "crates"
 LISTED = re.compile(r"--     (\S.*?)(?:  +\S.*)?$")
-NAME = re.compile(r"[A-Za-z_][\w′-]*")
+NAME = re.compile(r"[A-Za-z_◌][\w'◌-]*")
 
 
 def names(text: str) -> list:

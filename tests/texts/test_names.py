@@ -76,7 +76,8 @@ def defines(path: str, name: str) -> bool:
 
 def declares(crate: str, name: str) -> bool:
     """Do the sources of a crate declare this, or pass it on?"""
-    return re.search(rf"\b(?:fn|const|struct|enum|mod) {name}\b|\bpub use \w+::{name};", source(f"crates/{crate}/src")) is not None
+    passed_on = rf"\bpub use \w+::(?:{name}|\{{[^}}]*\b{name}\b[^}}]*\}});"
+    return re.search(rf"\b(?:fn|const|struct|enum|mod) {name}\b|{passed_on}", source(f"crates/{crate}/src")) is not None
 
 
 def in_type(owner: str, name: str) -> bool:
@@ -168,7 +169,7 @@ def arrows(text: str) -> dict:
 def needed(text: str) -> dict:
     """What crates.txt says of each crate, of the crates here and without what one of the others uses as well."""
     lines = [line.partition(":") for line in text.splitlines() if not line.startswith("#")]
-    uses = {crate: set(used.split()) & set(CRATES) for crate, _, used in lines}
+    uses = {head.removesuffix(" staticlib"): set(used.split()) & set(CRATES) for head, _, used in lines}
 
     @lru_cache(None)
     def below(crate: str) -> set:
@@ -215,7 +216,7 @@ class Names(unittest.TestCase):
         text = (ROOT / "docs/ARCHITECTURE.md").read_text()
         used = (ROOT / "crates.txt").read_text()
         self.assertEqual(sorted(in_list(text)), CRATES)
-        self.assertEqual(sorted(re.findall(r"^(\w+):", used, re.MULTILINE)), CRATES)
+        self.assertEqual(sorted(re.findall(r"^(\w+)(?: staticlib)?:", used, re.MULTILINE)), CRATES)
         self.assertEqual(arrows(text), needed(used))
 
     def test_rule(self):
@@ -224,7 +225,7 @@ class Names(unittest.TestCase):
         picture = "```text\n+-- a box --+\n|  table -> slots, tags   slots -> octets  |\n|  octets    tags |\n+---+\n```\n|  no -> no |\n"
         drawn = {"table": {"slots", "tags"}, "slots": {"octets"}, "octets": set(), "tags": set()}
         self.assertEqual(arrows(picture), drawn)
-        self.assertEqual(needed("# a line\noctets:\ntags:\nslots: octets io\ntable: tags octets slots\n"), drawn)
+        self.assertEqual(needed("# a line\noctets:\ntags:\nslots: octets std\ntable staticlib: tags octets slots\n"), drawn)
         for form, right, *wrong in (
             (places, "see `table/specs/Table`", "see `table/specs/Tables`", "see tables/specs/Table", "tests/texts/test_name.py"),
             (parts, "`table/specs/Table: whole`", "`table/specs/Table: hole`", "`slots/specs/Slot: whole`"),
@@ -238,7 +239,7 @@ class Names(unittest.TestCase):
             (functions, "`tokens`: `comment` and `content`", "`tokens`: `comment` and `contents`"),
             (named_edits, "(must-fail `twice_unseen`)", "(must-fail `twice_seen`)", "(must-fail slots `twice_unseen`)"),
             (named_edits, "lookup `twice_unseen`", "slots `twice_unseen`", "lookups `twice_unseen`", "(slots, `twice_unseen`)"),
-            (words, "`has_room`, `applied-entry`, `hasRoom`, `HasDirect`", "`has_rooms`", "`applied-entries`", "`hasRooms`", "`HasDirects`"),
+            (words, "`has_room`, `invariant-loop-done`, `assertEqual`, `HasDirect`", "`has_rooms`", "`invariant-loop-undone`", "`hasRooms`", "`HasDirects`"),
             (statements, "    pub fn number(refusal: Refusal) -> u32", "    pub fn number(refusal: Refusal) -> u64"),
         ):
             self.assertTrue(form(right), right)
