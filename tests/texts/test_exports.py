@@ -88,7 +88,7 @@ class Exports(unittest.TestCase):
         for name in CRATES:
             text = crate(name)
             structs, exports = declared(text)
-            self.assertEqual(len(exports), text.count("#[no_mangle]"), f"{name}: an export was not read")
+            self.assertEqual(len(exports), text.count("#[unsafe(no_mangle)]"), f"{name}: an export was not read")
             self.assertEqual(faults(structs, exports, WIDTHS), [], name)
 
     def test_header(self):

@@ -8,20 +8,20 @@ from pathlib import Path
 
 CRATES = Path(__file__).resolve().parents[2] / "crates"
 PASSED_ON = re.compile(r"^pub use (\w+)::([a-z_]\w*);$", re.MULTILINE)
-EXPORT = re.compile(r'^pub extern "C" fn (\w+)', re.MULTILINE)
+EXPORT = re.compile(r'^pub (?:extern "C" )?fn (vienghulac_\w+)', re.MULTILINE)
 
 
 def library() -> dict:
     """The functions that the crate autocrypt passes on, each with where its contract stands."""
     text = (CRATES / "autocrypt/src/lib.rt").read_text()
-    return {name: f"{crate}.proofs.{name}" for crate, name in PASSED_ON.findall(text)}
+    return {name: f"{crate}.specs.contracts.{name}" for crate, name in PASSED_ON.findall(text)}
 
 
 def exports() -> dict:
     """The functions of the C interface, likewise; a module's stand below its name."""
     source = CRATES / "cabi/src"
     return {
-        name: ".".join(["cabi", "proofs", *([] if file.stem == "lib" else [file.stem]), name])
+        name: ".".join(["cabi", "specs", "contracts", *([] if file.stem == "lib" else [file.stem]), name])
         for file in sorted(source.glob("*.rt"))
         for name in EXPORT.findall(file.read_text())
     }
@@ -40,18 +40,19 @@ class Outcomes(unittest.TestCase):
 
     def claims(self, function: str, place: str) -> str:
         """The name of the claims that the function's contract is shown to be."""
-        name = function.replace("_", "-")
-        self.assertTrue(f"\nuse Rattle·{place} as {name}\n" in self.contracts, function)
+        called = re.findall(rf"^use Rattle\.{re.escape(place)} as (\S+)$", self.contracts, re.MULTILINE)
+        self.assertEqual(len(called), 1, function)
+        name = re.escape(called[0])
         contract = re.match(
-            rf"{name}\.spec 𝓤 H A mem run ≡ ensuring 𝓤 H A {name}\.ended \(λ κs a r e\. (\w+) .*\)$",
-            stated(self.contracts, f"{name}-contract"),
+            rf"{name}\.spec 𝓛 mem run ≡ ensuring 𝓤 𝓛 {name}\.ended \(λ κs a r e\. (\w+) .*\)$",
+            stated(self.contracts, f"{function}_contract"),
         )
-        self.assertTrue(contract, f"{name}-contract")
+        self.assertTrue(contract, f"{function}_contract")
         return contract.group(1)
 
     def hold(self, function: str, place: str):
         claims = self.claims(function, place)
-        unique = stated(self.outcomes, function.replace("_", "-") + "-unique")
+        unique = stated(self.outcomes, f"{function}_unique")
         one = re.search(rf"→ AllOf \({claims} ([^()]*)\) → AllOf \({claims} ([^()]*)\) → (.*)$", unique)
         self.assertTrue(one, f"{function} has one outcome")
         apart = [pair for pair in zip(one.group(1).split(), one.group(2).split()) if pair[0] != pair[1]]
