@@ -6,15 +6,16 @@ import unittest
 from pathlib import Path
 
 ROOT = Path(__file__).resolve().parents[2]
+PARTS = ("src", "specs", "proofs")
 STANDARD = "std"
 NAMED = re.compile(r"\bRattle\.(\w+)\.")
 CALLED = re.compile(r"(?<![\w:])(\w+)::")
 
 
 def listed(text: str) -> dict:
-    """What crates.txt says of each crate."""
+    """What crates.txt says of each crate; behind the name of a static library stands `staticlib`."""
     lines = [line.split(":") for line in text.splitlines() if line and not line.startswith("#")]
-    return {name: set(uses.split()) for name, uses in lines}
+    return {name.removesuffix(" staticlib"): set(uses.split()) for name, uses in lines}
 
 
 def libraries(said: dict) -> set:
@@ -37,13 +38,14 @@ class Crates(unittest.TestCase):
         said = listed((ROOT / "crates.txt").read_text())
         self.assertEqual(set(said), {folder.name for folder in (ROOT / "crates").iterdir() if folder.is_dir()})
         for name, uses in said.items():
-            paths = [path for path in (ROOT / "crates" / name).rglob("*") if path.suffix in (".rt", ".antt")]
+            paths = [path for part in PARTS for path in (ROOT / "crates" / name / part).rglob("*") if path.suffix in (".rt", ".antt")]
             self.assertTrue(paths, name)
             sources = {path: path.read_text() for path in paths}
             self.assertEqual(uses, named(sources, libraries(said)) - {name}, name)
 
     def test_rule(self):
         """The rule itself, on sources that name crates in each way."""
+        self.assertEqual(listed("# a line\nlow:\na: low\nb staticlib: low a\n"), {"low": set(), "a": {"low"}, "b": {"low", "a"}})
         sources = {
             Path("a.rt"): "use low::Thing; // other::name\nghost use Rattle.spec.specs.S.{d};\nThing::new()\nstd::io::stdin()",
             Path("a.antt"): "use Rattle.std.specs.Prelude.{ℕ}\nuse Rattle.law.proofs.L.{l}\nuse Rattle.own.proofs.M.{m}",

@@ -1,30 +1,59 @@
 """No public function is left out of what crates/outcomes shows of each: that its contract is the claims of
 specs/Outcomes (proofs/Contracts), and that these leave it one outcome (proofs/Outcomes). A contract that was changed is
-refused by its theorem; a function whose theorem nobody stated fails here.
+refused by its theorem; a function whose theorem nobody stated fails here. The exports of crates/cexports have the contracts
+of the functions of crates/cabi that the theorems are about, word for word.
 """
 import re
 import unittest
 from pathlib import Path
 
 CRATES = Path(__file__).resolve().parents[2] / "crates"
-PASSED_ON = re.compile(r"^pub use (\w+)::([a-z_]\w*);$", re.MULTILINE)
-EXPORT = re.compile(r'^pub (?:extern "C" )?fn (vienghulac_\w+)', re.MULTILINE)
+PASSED_ON = re.compile(r"^pub use (\w+)::(?:\{([^{}]*)\}|(\w+));$", re.MULTILINE)
+EXPORT = re.compile(r'^pub extern "C" fn (\w+)', re.MULTILINE)
+GHOST = re.compile(r"^ghost use ([^{};]+)\.\{([^{}]*)\};$", re.MULTILINE)
+WORD = r"[^\W\d][\w']*"
+
+
+def passed_on(text: str) -> dict:
+    """The functions that a crate passes on, each with its crate; types open with a capital."""
+    found = [(crate, name) for crate, listed, one in PASSED_ON.findall(text) for name in re.split(r",\s*", listed or one)]
+    return {name: crate for crate, name in found if re.match("[a-z_]", name)}
 
 
 def library() -> dict:
     """The functions that the crate autocrypt passes on, each with where its contract stands."""
     text = (CRATES / "autocrypt/src/lib.rt").read_text()
-    return {name: f"{crate}.specs.contracts.{name}" for crate, name in PASSED_ON.findall(text)}
+    return {name: f"{crate}.specs.contracts.{name}" for name, crate in passed_on(text).items()}
+
+
+def module(name: str) -> Path:
+    """The source of the crate cabi that has a function."""
+    found = [file for file in sorted((CRATES / "cabi/src").glob("*.rt")) if re.search(rf"^pub fn {name}\(", file.read_text(), re.MULTILINE)]
+    if len(found) != 1:
+        raise AssertionError(f"{len(found)} modules of cabi have {name}")
+    return found[0]
 
 
 def exports() -> dict:
-    """The functions of the C interface, likewise; a module's stand below its name."""
-    source = CRATES / "cabi/src"
+    """The functions of the C interface, each with where the contract stands of the one of cabi; a module's stand below its name."""
+    places = {name: module(name).stem for name in EXPORT.findall((CRATES / "cexports/src/lib.rt").read_text())}
     return {
-        name: ".".join(["cabi", "specs", "contracts", *([] if file.stem == "lib" else [file.stem]), name])
-        for file in sorted(source.glob("*.rt"))
-        for name in EXPORT.findall(file.read_text())
+        name: ".".join(["cabi", "specs", "contracts", *([] if place == "lib" else [place]), name])
+        for name, place in places.items()
     }
+
+
+def promise(text: str, name: str) -> str:
+    """What stands between a function's name and its body, without layout; a name of the proofs with where it comes from."""
+    ghosts = {}
+    for path, listed in GHOST.findall(text):
+        for one in re.split(r",\s*", listed):
+            known, _, own = one.partition(" as ")
+            ghosts[own or known] = f"{path}.{known}"
+    said = re.search(rf"\bfn {name}(\(.*)", re.sub(r"//.*", "", text), re.DOTALL)[1]
+    end = re.match(r"[^{}]*?(?=\{|\b(?:requires|ensures)\b)(?:(?:requires|ensures)\s*\w*\s*\{[^{}]*\}\s*)*(?=\{)", said)
+    words = re.sub(rf"(?<![\w.«]){WORD}(?![\w»])", lambda word: ghosts.get(word[0], word[0]), end[0])
+    return re.sub(r",(?=\))", "", "".join(words.split()))
 
 
 def stated(text: str, theorem: str) -> str:
@@ -72,6 +101,22 @@ class Outcomes(unittest.TestCase):
         for function, place in functions.items():
             with self.subTest(function):
                 self.hold(function, place)
+
+    def test_exports(self):
+        """An export promises what the function of cabi does that has its name, and that it hands its arguments to."""
+        text = (CRATES / "cexports/src/lib.rt").read_text()
+        for name in exports():
+            with self.subTest(name):
+                self.assertEqual(promise(text, name), promise(module(name).read_text(), name))
+
+    def test_rule_of_promises(self):
+        text = "ghost use A.B.{one, two as three};\n// fn f\npub fn f(\n    a: &[u8], one: u8,\n) -> R\n    ensures { r ≡ three one a.one }\n{\n}\n"
+        self.assertEqual(promise(text, "f"), "(a:&[u8],A.B.one:u8)->Rensures{r≡A.B.twoA.B.onea.one}")
+        other = "ghost use A.B.{two, one as own};\nfn f(a: &[u8], own: u8) -> R ensures { r ≡ two own a.one } { g(a) }\n"
+        self.assertEqual(promise(other, "f"), promise(text, "f"))
+        for old, new in (("ensures", "ensures x"), ("-> R", "-> S"), ("≡ three", "≡ one"), ("two as", "six as"), ("A.B", "A.C"), ("{ r", "{ true } requires { r")):
+            self.assertNotEqual(promise(text.replace(old, new, 1), "f"), promise(text, "f"), new)
+        self.assertEqual(passed_on("pub use a::{B, c, d};\npub use e::f;\npub use g::H;\n"), {"c": "a", "d": "a", "f": "e"})
 
     def test_passed_on_alone(self):
         """The crate autocrypt has no function of its own, which no theorem would be about."""
