@@ -5,7 +5,7 @@
 
 ghost use Rattle.std.specs.Prelude.{◌≤◌, ◌≡◌, length};
 ghost use Rattle.attributes.specs.Answers.{part, Within};
-ghost use Rattle.asked.specs.Asked.{is_empty, is_unknown, is_name, is_called, occurs as occursIn, has_key_data};
+ghost use Rattle.asked.specs.Asked.{is_empty, is_unknown, is_name, is_called, occurs as occurs_in, has_key_data};
 ghost use Rattle.asked.specs.Answers.{ValueAs, FoundAs, rest_from, NamedAs};
 
 use attributes::{AddressAt, Bounds, Name};
@@ -43,6 +43,7 @@ fn is_unknown(name: &[u8]) -> bool
 }
 
 // Is it a name of those that are asked for? Names are compared octet by octet (F4).
+#[tactic(auto, unfolding(crate::specs::Asked::is_name))]
 fn is_name(name: &[u8], what: Called) -> bool
     ensures { result ≡ is_name what name.now }
 {
@@ -124,7 +125,7 @@ fn is_last_such(s: &[u8], end: usize, what: Called) -> bool
 
 // Is there such a piece (O7, O9)?
 pub fn occurs(s: &[u8], what: Called) -> bool
-    ensures { result ≡ occursIn what s.now }
+    ensures { result ≡ occurs_in what s.now }
 {
     match find(s, 0, what) {
         Found::At {
