@@ -66,7 +66,7 @@ f-spec =
 class Proofs(unittest.TestCase):
     def test_all_folded(self):
         files = sorted((ROOT / "crates").glob("*/proofs/**/Proof.antt"))
-        self.assertGreater(len(files) + len(ANSWERED), 400)
+        self.assertGreater(len(files) + len(ANSWERED), 200)
         self.assertEqual([str(f.relative_to(ROOT)) for f in files if "tie.Need-" in f.read_text()], [])
 
     def test_all_answered(self):
