@@ -43,17 +43,33 @@ def exports() -> dict:
     }
 
 
+def parts(text: str, name: str) -> tuple[str, str]:
+    """What stands between a function's name and its body, and the body up to the first brace in it."""
+    said = re.search(rf"\bfn {name}(\(.*)", re.sub(r"//.*", "", text), re.DOTALL)[1]
+    head = re.match(r"[^{}]*?(?=\{|\b(?:requires|ensures)\b)(?:(?:requires|ensures)\s*\w*\s*\{[^{}]*\}\s*)*(?=\{)", said)[0]
+    return head, re.match(r"\{([^{}]*)", said[len(head) :])[1]
+
+
+def bare(text: str) -> str:
+    """Without layout, which the formatter of the sources chooses."""
+    return re.sub(r",(?=\))", "", "".join(text.split()))
+
+
 def promise(text: str, name: str) -> str:
-    """What stands between a function's name and its body, without layout; a name of the proofs with where it comes from."""
+    """What a function takes, answers and promises; a name of the proofs with where it comes from."""
     ghosts = {}
     for path, listed in GHOST.findall(text):
         for one in re.split(r",\s*", listed):
             known, _, own = one.partition(" as ")
             ghosts[own or known] = f"{path}.{known}"
-    said = re.search(rf"\bfn {name}(\(.*)", re.sub(r"//.*", "", text), re.DOTALL)[1]
-    end = re.match(r"[^{}]*?(?=\{|\b(?:requires|ensures)\b)(?:(?:requires|ensures)\s*\w*\s*\{[^{}]*\}\s*)*(?=\{)", said)
-    words = re.sub(rf"(?<![\w.«]){WORD}(?![\w»])", lambda word: ghosts.get(word[0], word[0]), end[0])
-    return re.sub(r",(?=\))", "", "".join(words.split()))
+    return bare(re.sub(rf"(?<![\w.«]){WORD}(?![\w»])", lambda word: ghosts.get(word[0], word[0]), parts(text, name)[0]))
+
+
+def hands_on(text: str, name: str) -> bool:
+    """Does a function hand its arguments, in their order, to one of its name in some module, and do no more?"""
+    head, body = parts(text, name)
+    arguments = re.findall(r"(\w+):", head.split(")")[0])
+    return re.fullmatch(rf"\w+::{name}\({','.join(arguments)}\)", bare(body)) is not None
 
 
 def stated(text: str, theorem: str) -> str:
@@ -103,11 +119,14 @@ class Outcomes(unittest.TestCase):
                 self.hold(function, place)
 
     def test_exports(self):
-        """An export promises what the function of cabi does that has its name, and that it hands its arguments to."""
+        """An export promises what the function of cabi does that has its name, and hands its arguments to that one."""
         text = (CRATES / "cexports/src/lib.rt").read_text()
         for name in exports():
             with self.subTest(name):
                 self.assertEqual(promise(text, name), promise(module(name).read_text(), name))
+                self.assertTrue(hands_on(text, name))
+        meant = [name for file in (CRATES / "cabi/src").glob("*.rt") for name in re.findall(r"^pub fn (vienghulac_\w+)", file.read_text(), re.MULTILINE)]
+        self.assertEqual(set(exports()), set(meant))
 
     def test_rule_of_promises(self):
         text = "ghost use A.B.{one, two as three};\n// fn f\npub fn f(\n    a: &[u8], one: u8,\n) -> R\n    ensures { r ≡ three one a.one }\n{\n}\n"
@@ -116,6 +135,10 @@ class Outcomes(unittest.TestCase):
         self.assertEqual(promise(other, "f"), promise(text, "f"))
         for old, new in (("ensures", "ensures x"), ("-> R", "-> S"), ("≡ three", "≡ one"), ("two as", "six as"), ("A.B", "A.C"), ("{ r", "{ true } requires { r")):
             self.assertNotEqual(promise(text.replace(old, new, 1), "f"), promise(text, "f"), new)
+        call = "fn f(a: &[u8], b: bool) -> R\n    ensures { x }\n{\n    m::f(a, b)\n}\n"
+        self.assertTrue(hands_on(call, "f"))
+        for old, new in (("m::f", "m::g"), ("(a, b)", "(b, a)"), ("(a, b)", "(a)"), ("m::f", "f"), ("m::f", "g(); m::f"), ("m::f(a, b)", "m::f(a, !b)")):
+            self.assertFalse(hands_on(call.replace(old, new), "f"), new)
         self.assertEqual(passed_on("pub use a::{B, c, d};\npub use e::f;\npub use g::H;\n"), {"c": "a", "d": "a", "f": "e"})
 
     def test_passed_on_alone(self):
