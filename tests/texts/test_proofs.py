@@ -76,6 +76,10 @@ class Proofs(unittest.TestCase):
         self.assertEqual([file for file, text in texts.items() if " : goal." not in text or holed(text)], [])
         self.assertEqual([str(f.parent.relative_to(ROOT)) for f in ANSWERED if (f.parent / "Proof.antt").exists()], [])
 
+    def test_no_hole(self):
+        files = sorted((ROOT / "crates").glob("*/proofs/**/*.antt"))
+        self.assertEqual([str(f.relative_to(ROOT)) for f in files if re.search(r"= *\n? *\?$", f.read_text(), re.MULTILINE)], [])
+
     def test_holes(self):
         for text in ("returns c = ?\n", "returns c =\n    record { a = ?; b = c }\n", "returns c = (?, c)", "invariant-loop-i l =\n    ?\n"):
             self.assertTrue(holed(text), text)
