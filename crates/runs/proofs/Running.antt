@@ -90,17 +90,17 @@ module _ (q : ℕ → Bool) (s : List ℕ) (at : ℕ) where
         omega (arith, h.so_far)
 
     module _ (b : Bool) (l : i < length s) (e : b ≡ q (get_or s i 0)) where
-      pub run_next : not b ≡ false → Runs q s at (i + 1)
+      pub run_next : b ≡ true → Runs q s at (i + 1)
       unfolding run
       run_next n =
-          let t : q (get_or s i 0) ≡ true = sym e ∙ not-false b n in
+          let t : q (get_or s i 0) ≡ true = sym e ∙ n in
           let z : run q (drop i s) ≡ suc (run q (drop (i + 1) s)) = rw (drop_one s i l, run, t) in
           record { so_far = omega (arith, h.so_far) }
 
-      pub run_over : not b ≡ true → i ≡ at + run q (drop at s)
+      pub run_over : b ≡ false → i ≡ at + run q (drop at s)
       unfolding run
       run_over n =
-          let t : q (get_or s i 0) ≡ false = sym e ∙ not-true b n in
+          let t : q (get_or s i 0) ≡ false = sym e ∙ n in
           let z : run q (drop i s) ≡ 0 = rw (drop_one s i l, run, t) in
           omega (arith, h.so_far)
 

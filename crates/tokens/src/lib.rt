@@ -146,6 +146,7 @@ pub fn skip(s: &[u8], at: usize) -> Reached
 }
 
 // The place behind a quoted string whose opening quote stands before the place `at`.
+#[tactic(auto, using(crate::proofs::Quoting::quoting))]
 pub fn quoted(s: &[u8], at: usize) -> Reached
     ensures { result ≡ reached s.now (after_quote false (drop at s.now)) }
 {

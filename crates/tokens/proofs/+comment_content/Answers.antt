@@ -1,0 +1,43 @@
+use Rattle.tokens.proofs.Commenting.{commenting, inside_on, inside_ends}
+use Rattle.std.proofs.Common.{rules, suc, ◌+◌, ◌<◌, ◌≡◌, false, drop, ℕ, ◌-◌, ◌*◌, ◌≤◌, length, ◌/◌, ◌%◌, Bool, true, nat_eq, nat_lt, List, [], ◌∷◌, ◌++◌, slice_index_or, slice_set, bit_and, bit_or, Fits, w8, w32, w64, Bor, MutBor}
+use Rattle.tokens.specs.Tokens.{control, kind_of, depth, skipped, after_quote}
+use Rattle.tokens.specs.Answers.{reached}
+use Rattle.tokens.specs.Answers.{takes as takesOf}
+use Rattle.tokens.specs.Answers.{step_in, opened, Opening, Passed}
+use Rattle.tokens.proofs.+comment_content.Goals as goal
+
+pub comment-returns-then-room-eq0 : goal.comment-returns-then-room-eq0
+comment-returns-then-room-eq0 t c = search commenting
+
+pub comment-content-requires : goal.comment-content-requires
+comment-content-requires t c = search commenting
+
+pub comment-returns : goal.comment-returns
+comment-returns t c = search commenting
+
+pub content-loop-i-init : goal.content-loop-i-init
+content-loop-i-init t c = search commenting
+
+pub content-comment-requires : goal.content-comment-requires
+content-comment-requires t c = search commenting
+
+pub content-loop-i-preserved-in-To : goal.content-loop-i-preserved-in-To
+content-loop-i-preserved-in-To t c = search commenting
+
+pub content-returns-in-Unreadable : goal.content-returns-in-Unreadable
+content-returns-in-Unreadable t c = search commenting
+
+pub content-loop-i-smaller : goal.content-loop-i-smaller
+content-loop-i-smaller t c = search commenting
+
+pub content-loop-i-preserved : goal.content-loop-i-preserved
+content-loop-i-preserved t c = search (inside_on, rules)
+
+pub content-returns-in-Ends : goal.content-returns-in-Ends
+content-returns-in-Ends t c = inside_ends _ _ _ _ c.loop-i.invariant c.loop-i-test.true c.if-s-i-eq40.false _ c.step_in.ensures _ c.in-Ends.is
+
+pub content-returns-in-Stops : goal.content-returns-in-Stops
+content-returns-in-Stops t c = search commenting
+
+pub content-returns : goal.content-returns
+content-returns t c = search commenting
