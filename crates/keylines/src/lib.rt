@@ -78,6 +78,7 @@ fn four_at(letters: &[u8; 64], key: &[u8], at: usize) -> Four
 }
 
 // Ends a line that takes no group more, and begins the next. The answer is the place behind.
+#[tactic(auto, using(crate::proofs::Laying::breaking))]
 fn break_line(out: &mut [u8], at: usize, takes: usize) -> usize
     requires { at + length (line_break takes) ≤ length out.old }
     ensures value { (result ≡ at + length (line_break takes)) × (result ≤ at + 3) }
