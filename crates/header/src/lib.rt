@@ -195,6 +195,7 @@ fn may_follow(s: &[u8], at: usize) -> bool
 }
 
 // Is the value of a Content-Type multipart/report, which has 16 octets (B13)?
+#[tactic(auto, using(crate::proofs::Reporting::reporting))]
 pub fn is_report(value: &[u8]) -> bool
     ensures { result ≡ is_report value.now }
 {
