@@ -73,30 +73,30 @@ module _ (s : List ℕ) (at i : ℕ) (h : Labels s at i) where
     label_upto = here.upto
 
     module _ (b : Bool) (p : b ≡ label_shape piece) where
-      pub label_shapeless : not b ≡ true → false ≡ ascii_domain (drop at s)
+      pub label_shapeless : b ≡ false → false ≡ ascii_domain (drop at s)
       unfolding ascii_domain
       label_shapeless n =
           sym
           (h.so_far
           ∙ rw here.split
-          (all_shapeless labels piece (drop e s) here.all here.stop (sym p ∙ not-true b n)))
+          (all_shapeless labels piece (drop e s) here.all here.stop (sym p ∙ n)))
 
-      pub label_last : not b ≡ false → length s ≤ e → true ≡ ascii_domain (drop at s)
+      pub label_last : b ≡ true → length s ≤ e → true ≡ ascii_domain (drop at s)
       unfolding ascii_domain
       label_last n k =
           sym
           (h.so_far
           ∙ rw (here.split, drop_done s e k, append-nil)
-          (all_end labels piece here.all ∙ sym p ∙ not-false b n))
+          (all_end labels piece here.all ∙ sym p ∙ n))
 
-      pub label_next : not b ≡ false → e < length s → get_or s e 0 ≡ 46 → Labels s at (e + 1)
+      pub label_next : b ≡ true → e < length s → get_or s e 0 ≡ 46 → Labels s at (e + 1)
       unfolding ascii_domain
       label_next n k d =
           record {
             so_far =
                 h.so_far
                 ∙ rw (here.split, drop_one s e k, d)
-                (all_on labels piece (drop (e + 1) s) here.all ∙ rw (sym p ∙ not-false b n));
+                (all_on labels piece (drop (e + 1) s) here.all ∙ rw (sym p ∙ n));
           }
 
     pub label_stop : e < length s → (get_or s e 0 ≡ 46 → ⊥) → false ≡ ascii_domain (drop at s)

@@ -28,6 +28,7 @@ pub enum Local {
 }
 
 // The local part that `s` opens with and an `@` follows: atoms with a dot between two of them (L6).
+#[tactic(auto, using(crate::proofs::Atoms::reading_atoms))]
 pub fn local_part(s: &[u8]) -> Local
     ensures { result ≡ local_of s.now }
 {
@@ -69,6 +70,7 @@ fn shaped(run: &[u8]) -> bool
 }
 
 // Is what stands from the place `at` on a domain of such labels, with a dot between two of them (L7)?
+#[tactic(auto, using(crate::proofs::Labels::labelling))]
 pub fn is_domain(s: &[u8], at: usize) -> bool
     ensures { result ≡ ascii_domain (drop at s.now) }
 {
