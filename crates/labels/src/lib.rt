@@ -89,6 +89,7 @@ fn put_code(s: &[u8], out: &mut [u8]) -> Laid
 }
 
 // Writes the opening and a code behind it, where both have room.
+#[tactic(auto, using(crate::proofs::Writing::putting_opened))]
 fn put_opened(code: &[u8], out: &mut [u8], at: usize) -> Laid
     requires at_in_bounds { at ≤ length out.old }
     requires code_len_bound { length code.now ≤ 59 }
