@@ -106,6 +106,7 @@ fn day(run: &[u8]) -> Meaning
 }
 
 // The month, January being 1 (D8).
+#[tactic(auto, using(crate::proofs::Meant::months))]
 fn month(run: &[u8]) -> Meaning
     ensures { result ≡ meaningOf (month_of run.now) }
 {
@@ -192,6 +193,7 @@ fn offset(run: &[u8]) -> Meaning
 }
 
 // The hours that a zone of letters lies west; 0 where it is none that has a name here (D12).
+#[tactic(auto, using(crate::proofs::Meant::hours))]
 fn hours_west(run: &[u8]) -> u64
     ensures { (result ≡ hours_west run.now) × (result ≤ 8) }
 {
@@ -237,6 +239,7 @@ fn west(run: &[u8]) -> Meaning
 }
 
 // What the token means at a place of a date.
+#[tactic(auto, using(crate::proofs::Meant::meanings), unfolding(crate::specs::Words::meant))]
 pub fn meant(at: Place, run: &[u8]) -> Meaning
     ensures { result ≡ meaningOf (meantOf at run.now) }
 {
