@@ -5,7 +5,7 @@
 
 ghost use Rattle.std.specs.Prelude.{◌≤◌, ◌≡◌, length};
 ghost use Rattle.attributes.specs.Answers.{part, Within};
-ghost use Rattle.asked.specs.Asked.{is_empty, is_unknown, is_name, is_called, occurs as occursIn, has_key_data};
+ghost use Rattle.asked.specs.Asked.{is_empty, is_unknown, is_name, is_called, occurs as occurs_in, has_key_data};
 ghost use Rattle.asked.specs.Answers.{ValueAs, FoundAs, rest_from, NamedAs};
 
 use attributes::{AddressAt, Bounds, Name};
@@ -124,7 +124,7 @@ fn is_last_such(s: &[u8], end: usize, what: Called) -> bool
 
 // Is there such a piece (O7, O9)?
 pub fn occurs(s: &[u8], what: Called) -> bool
-    ensures { result ≡ occursIn what s.now }
+    ensures { result ≡ occurs_in what s.now }
 {
     match find(s, 0, what) {
         Found::At {

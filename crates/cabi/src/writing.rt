@@ -1,6 +1,6 @@
 // The two fields written (W1), and an address as it is shown (W11).
 ghost use Rattle.std.specs.Prelude.{◌≡◌, false, length};
-ghost use Rattle.names.specs.Names.{autocrypt as autocryptName, gossip as gossip_name};
+ghost use Rattle.names.specs.Names.{autocrypt as autocrypt_name, gossip as gossip_name};
 ghost use Rattle.write.specs.Writing.{written_of, left_by_writing};
 ghost use Rattle.display.specs.Displaying.{displayed_of, left_by_displaying};
 ghost use Rattle.cabi.specs.Numbers.{written_in_numbers};
@@ -19,8 +19,8 @@ pub extern "C" fn vienghulac_write_autocrypt(
     mutual: bool,
     out: &mut [u8],
 ) -> Written
-    ensures value { result ≡ written_in_numbers (written_of autocryptName address.now «mutual» key.now (length out.old)) }
-    ensures out_after { out.new ≡ left_by_writing autocryptName address.now «mutual» key.now out.old }
+    ensures value { result ≡ written_in_numbers (written_of autocrypt_name address.now «mutual» key.now (length out.old)) }
+    ensures out_after { out.new ≡ left_by_writing autocrypt_name address.now «mutual» key.now out.old }
 {
     numbers::written_in_numbers(autocrypt::write_autocrypt(address, key, mutual, out))
 }

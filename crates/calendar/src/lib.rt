@@ -4,7 +4,7 @@
 #![tactic(auto)]
 
 ghost use Rattle.std.specs.Prelude.{◌+◌, ◌-◌, ◌≤◌, ◌≡◌, cond, leb};
-ghost use Rattle.calendar.specs.Calendar.{leap as leapOf, leap_day, month_length, year_days, day_count};
+ghost use Rattle.calendar.specs.Calendar.{leap as leap_of, leap_day, month_length, year_days, day_count};
 
 // The days of 400 years: so many, wherever they begin.
 const CYCLE: u64 = 146_097;
@@ -14,7 +14,7 @@ const TO_1900: u64 = 693_901;
 
 // Every fourth year is a leap year, of the full hundreds only every fourth one (D8).
 fn leap(year: u64) -> bool
-    ensures { result ≡ leapOf year }
+    ensures { result ≡ leap_of year }
 {
     if year % 100 == 0 {
         return year % 400 == 0;

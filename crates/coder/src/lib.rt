@@ -4,7 +4,7 @@
 
 ghost use Rattle.std.specs.Prelude.{◌^◌, ◌<◌, ◌≤◌, ◌≡◌, [], ◌∷◌, length};
 ghost use Rattle.octets.specs.Puts.{Puts};
-ghost use Rattle.punycode.specs.Punycode.{below, integer, least as leastOf, numbers, encode as encodeOf};
+ghost use Rattle.punycode.specs.Punycode.{below, integer, least as least_of, numbers, encode as encode_of};
 ghost use Rattle.coder.specs.Steps.{found_of, lesser_of, Ready, Turned, Passes, Able, Rounded, Points, Begins, delimiter_at};
 
 use octets::Laid;
@@ -81,7 +81,7 @@ fn lesser(found: Found, c: u64, n: u64) -> Found
 
 // The smallest code point from n on. It is sought from the end, as its definition has it.
 fn least(points: &[u32], n: u64) -> Found
-    ensures { result ≡ found_of (leastOf n points.now) }
+    ensures { result ≡ found_of (least_of n points.now) }
 {
     let mut found = Found::Nothing;
     let mut i = points.len();
@@ -265,7 +265,7 @@ fn put_delimiter(out: &mut [u8], at: usize) -> Laid
 // Writes the Punycode of code points into `out`, and answers how long it is (L23).
 pub fn encode(points: &[u32], out: &mut [u8]) -> Laid
     requires { Points (length out.old) points.now }
-    ensures { Puts out.old out.new 0 (encodeOf points.now) result }
+    ensures { Puts out.old out.new 0 (encode_of points.now) result }
 {
     match put_basics(points, &mut *out) {
         Laid::NoRoom => Laid::NoRoom,

@@ -39,12 +39,12 @@ use Rattle.table.proofs.Entries.{entry_at, entry_nothing}
 use Rattle.convert.specs.Converting.{form_of, has_form, gathered, leads, slot_for, converted_at, table_of, converted}
 use Rattle.convert.proofs.Tables.{table_long, table_at, table_is, whole_long, slots_of, free_is}
 use Rattle.convert.proofs.Groups.{form_used, form_is, form_has, gathered_none, gathered_only, leads_first, first_leads, unused_follows}
-use Rattle.convert.proofs.Places.{Led, led, leads_slot, follows_free, converted_long as slot-converted-long, has_not, first_form, lowest_form}
+use Rattle.convert.proofs.Places.{Led, led, leads_slot, follows_free, converted_long as slot_converted_long, has_not, first_form, lowest_form}
 
 -- a table that was sound by the old rule
 module _ (t : List ℕ) (w : TableBy Ascii t) (o : AllOctets t) where
   each_long : (i : ℕ) → i < slots t → length (converted_at t (slots t) i) ≡ slot_length
-  each_long i l = slot-converted-long t w o (slots t) i l (omega arith)
+  each_long i l = slot_converted_long t w o (slots t) i l (omega arith)
 
   pub converted_long : length (converted t) ≡ length t
   unfolding converted

@@ -3,8 +3,8 @@
 #![tactic(auto)]
 
 ghost use Rattle.std.specs.Prelude.{◌+◌, ◌-◌, ◌*◌, ◌≤◌, ◌≡◌, drop};
-ghost use Rattle.date.specs.Date.{next as next_of, optional as optionalOf, existing as existingOf, calendar_day, time_of_day, local_time, zoned as zonedOf, ended as ended_of, date_of, effective_date, got};
-ghost use Rattle.datewords.specs.Answers.{meaning as meaningOf};
+ghost use Rattle.date.specs.Date.{next as next_of, optional as optional_of, existing as existing_of, calendar_day, time_of_day, local_time, zoned as zoned_of, ended as ended_of, date_of, effective_date, got};
+ghost use Rattle.datewords.specs.Answers.{meaning as meaning_of};
 ghost use Rattle.date.specs.Answers.{dated_of, option_of, read_in};
 
 use datewords::meaning::{Meaning, Place};
@@ -44,7 +44,7 @@ fn next(s: &[u8], at: usize, what: Place) -> PartRead
 
 // A part of two tokens that may both be missing (D3), and count as 0 then (D10).
 fn optional(s: &[u8], at: usize, opening: Place, closing: Place) -> PartRead
-    ensures { read_in s.now result ≡ optionalOf opening closing (drop at s.now) }
+    ensures { read_in s.now result ≡ optional_of opening closing (drop at s.now) }
 {
     match next(s, at, opening) {
         PartRead::Got { value: _, to } => next(s, to, closing),
@@ -56,7 +56,7 @@ fn optional(s: &[u8], at: usize, opening: Place, closing: Place) -> PartRead
 fn existing(year: u64, month: u64, day: u64) -> Meaning
     requires le_year { (1900 ≤ year) × (year ≤ 9999) }
     requires le_month { (1 ≤ month) × (month ≤ 12) }
-    ensures { result ≡ meaningOf (existingOf year month day) }
+    ensures { result ≡ meaning_of (existing_of year month day) }
 {
     if day < 1 {
         return Meaning::Nothing;
@@ -150,7 +150,7 @@ fn above(a: u64, b: u64) -> u64
 // The zone: the seconds since 1900 in UTC, which are the local ones less an east offset, or with a west one added on (D13).
 fn zoned(s: &[u8], at: usize, local: u64) -> PartRead
     requires { local ≤ 300_000_000_000 }
-    ensures { read_in s.now result ≡ zonedOf local (drop at s.now) }
+    ensures { read_in s.now result ≡ zoned_of local (drop at s.now) }
 {
     match next(s, at, Place::East) {
         PartRead::Got { value, to } => PartRead::Got {

@@ -1,8 +1,8 @@
 // What a token means at each place of a date: numbers of few digits, names of three letters, marks and zones (SCOPE, D7 to
 // D12).
 ghost use Rattle.std.specs.Prelude.{◌≤◌, ◌<◌, ◌≡◌};
-ghost use Rattle.datewords.specs.Words.{digit_of, number_of, place_in, mark_of, day_of, month_of, year_by, year_of, two_digits, offset_by, offset_of, hours_west, opens_with, east_by, west_by, meant as meantOf};
-ghost use Rattle.datewords.specs.Answers.{meaning as meaningOf};
+ghost use Rattle.datewords.specs.Words.{digit_of, number_of, place_in, mark_of, day_of, month_of, year_by, year_of, two_digits, offset_by, offset_of, hours_west, opens_with, east_by, west_by, meant as meant_of};
+ghost use Rattle.datewords.specs.Answers.{meaning as meaning_of};
 
 use crate::token;
 use crate::token::Opening;
@@ -40,7 +40,7 @@ fn wide(x: u8) -> u64
 
 // The number that one digit stands for.
 fn digit(x: u8) -> Meaning
-    ensures { result ≡ meaningOf (digit_of x) }
+    ensures { result ≡ meaning_of (digit_of x) }
 {
     if runs::within(Class::Digit, x) {
         return Meaning::Value(wide(x) - 48);
@@ -50,7 +50,7 @@ fn digit(x: u8) -> Meaning
 
 // The number that a run of digits stands for. No place of a date takes more than four (D8 to D11).
 fn number(run: &[u8]) -> Meaning
-    ensures { result ≡ meaningOf (number_of run.now) }
+    ensures { result ≡ meaning_of (number_of run.now) }
 {
     if 4 < run.len() {
         return Meaning::Nothing;
@@ -71,7 +71,7 @@ fn number(run: &[u8]) -> Meaning
 
 // Which of the names it is, each of three letters and in any case, the first one being 0.
 fn which(run: &[u8], names: &[u8]) -> Meaning
-    ensures { result ≡ meaningOf (place_in run.now names.now) }
+    ensures { result ≡ meaning_of (place_in run.now names.now) }
 {
     let mut k: u64 = 0;
     let mut i = 0;
@@ -87,7 +87,7 @@ fn which(run: &[u8], names: &[u8]) -> Meaning
 
 // A comma or a colon, which stands for nothing.
 fn mark(run: &[u8], text: &[u8]) -> Meaning
-    ensures { result ≡ meaningOf (mark_of run.now text.now) }
+    ensures { result ≡ meaning_of (mark_of run.now text.now) }
 {
     if octets::same(run, text) {
         return Meaning::Value(0);
@@ -97,7 +97,7 @@ fn mark(run: &[u8], text: &[u8]) -> Meaning
 
 // The day, of one digit or two (D8).
 fn day(run: &[u8]) -> Meaning
-    ensures { result ≡ meaningOf (day_of run.now) }
+    ensures { result ≡ meaning_of (day_of run.now) }
 {
     if 2 < run.len() {
         return Meaning::Nothing;
@@ -108,7 +108,7 @@ fn day(run: &[u8]) -> Meaning
 // The month, January being 1 (D8).
 #[tactic(auto, using(crate::proofs::Meant::months))]
 fn month(run: &[u8]) -> Meaning
-    ensures { result ≡ meaningOf (month_of run.now) }
+    ensures { result ≡ meaning_of (month_of run.now) }
 {
     match which(run, b"JanFebMarAprMayJunJulAugSepOctNovDec") {
         Meaning::Value(k) => Meaning::Value(k + 1),
@@ -119,7 +119,7 @@ fn month(run: &[u8]) -> Meaning
 // The year that so many digits stand for (D9).
 fn year_by(width: usize, n: u64) -> Meaning
     requires { n ≤ 9999 }
-    ensures { result ≡ meaningOf (year_by width n) }
+    ensures { result ≡ meaning_of (year_by width n) }
 {
     if width == 2 {
         if n <= 49 {
@@ -141,7 +141,7 @@ fn year_by(width: usize, n: u64) -> Meaning
 
 // The year, of two, three or four digits (D9).
 fn year(run: &[u8]) -> Meaning
-    ensures { result ≡ meaningOf (year_of run.now) }
+    ensures { result ≡ meaning_of (year_of run.now) }
 {
     match number(run) {
         Meaning::Value(n) => year_by(run.len(), n),
@@ -151,7 +151,7 @@ fn year(run: &[u8]) -> Meaning
 
 // Two digits that stand for `most` at most (D10).
 fn two_digits(run: &[u8], most: u64) -> Meaning
-    ensures { result ≡ meaningOf (two_digits most run.now) }
+    ensures { result ≡ meaning_of (two_digits most run.now) }
 {
     if run.len() != 2 {
         return Meaning::Nothing;
@@ -170,7 +170,7 @@ fn two_digits(run: &[u8], most: u64) -> Meaning
 // The seconds that the four digits of a zone stand for (D11).
 fn offset_by(n: u64) -> Meaning
     requires { n ≤ 9999 }
-    ensures { result ≡ meaningOf (offset_by n) }
+    ensures { result ≡ meaning_of (offset_by n) }
 {
     let minutes = n % 100;
     if 59 < minutes {
@@ -181,7 +181,7 @@ fn offset_by(n: u64) -> Meaning
 
 // The digits behind the sign of a zone: exactly four (D11).
 fn offset(run: &[u8]) -> Meaning
-    ensures { result ≡ meaningOf (offset_of run.now) }
+    ensures { result ≡ meaning_of (offset_of run.now) }
 {
     if run.len() != 4 {
         return Meaning::Nothing;
@@ -208,7 +208,7 @@ fn hours_west(run: &[u8]) -> u64
 
 // The seconds that a zone lies east.
 fn east(run: &[u8]) -> Meaning
-    ensures { result ≡ meaningOf (east_by (opens_with run.now) run.now) }
+    ensures { result ≡ meaning_of (east_by (opens_with run.now) run.now) }
 {
     if run.len() == 0 {
         return Meaning::Nothing;
@@ -224,7 +224,7 @@ fn east(run: &[u8]) -> Meaning
 
 // The seconds that a zone lies west.
 fn west(run: &[u8]) -> Meaning
-    ensures { result ≡ meaningOf (west_by (opens_with run.now) run.now) }
+    ensures { result ≡ meaning_of (west_by (opens_with run.now) run.now) }
 {
     if run.len() == 0 {
         return Meaning::Nothing;
@@ -241,7 +241,7 @@ fn west(run: &[u8]) -> Meaning
 // What the token means at a place of a date.
 #[tactic(auto, using(crate::proofs::Meant::meanings), unfolding(crate::specs::Words::meant))]
 pub fn meant(at: Place, run: &[u8]) -> Meaning
-    ensures { result ≡ meaningOf (meantOf at run.now) }
+    ensures { result ≡ meaning_of (meant_of at run.now) }
 {
     match at {
         Place::DayName => which(run, b"MonTueWedThuFriSatSun"),

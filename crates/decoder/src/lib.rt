@@ -5,7 +5,7 @@
 ghost use Rattle.std.specs.Prelude.{◌^◌, ◌<◌, ◌≤◌, ◌≡◌, ◌∷◌, length, take, drop};
 ghost use Rattle.octets.specs.Written.{put_at};
 ghost use Rattle.utf8.specs.Utf8.{scalar};
-ghost use Rattle.punycode.specs.Punycode.{runs, decode as decodeOf};
+ghost use Rattle.punycode.specs.Punycode.{runs, decode as decode_of};
 ghost use Rattle.decoder.specs.Steps.{Front, behind_of, Basics, Lands, Landed, Steps, Stepped, Reads, Decodes};
 
 use punycode::Value;
@@ -220,7 +220,7 @@ fn read_rest(text: &[u8], from: usize, out: &mut [u32], b: usize) -> Decoded
 // The code points that a text stands for, at the beginning of `out` (L23). There are never more of them than octets.
 pub fn decode(text: &[u8], out: &mut [u32]) -> Decoded
     requires { (length text.now ≤ length out.old) × (length out.old < 2 ^ 32) }
-    ensures { Decodes out.old out.new (decodeOf text.now) result }
+    ensures { Decodes out.old out.new (decode_of text.now) result }
 {
     let b = front(text);
     match copy_basic(text, b, &mut *out) {

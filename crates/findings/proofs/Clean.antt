@@ -26,7 +26,7 @@ use Rattle.refusals.specs.Rows.{first_of, answered_by}
 use Rattle.letters.specs.Base64.{encode}
 use Rattle.runs.specs.Runs.{belongs, run_length, run}
 use Rattle.runs.specs.declared.Class.TheVariants.{Name}
-use Rattle.names.specs.Names.{autocrypt as autocryptName, gossip as gossip_name}
+use Rattle.names.specs.Names.{autocrypt as autocrypt_name, gossip as gossip_name}
 use Rattle.keylines.specs.Lines.{spread}
 use Rattle.pieces.specs.Pieces.{pieces, before}
 use Rattle.header.specs.Header.{FieldText, fields}
@@ -173,7 +173,7 @@ module _ (sender : List ℕ) (recipients : List (List ℕ)) (outer payload : Lis
 
   says_own : field_of key_limit v ≡ some own_field
   unfolding run belongs blank
-  says_own = wrote_says autocryptName o.own.address o.own.prefers v o.own.wrote refl (omega arith)
+  says_own = wrote_says autocrypt_name o.own.address o.own.prefers v o.own.wrote refl (omega arith)
 
   is_valid : valid_for key_limit sender v ≡ some own_field
   is_valid = naming_sender key_limit sender v own_field says_own o.own.ours

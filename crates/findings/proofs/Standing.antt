@@ -15,7 +15,7 @@ use mathlib.Core.Option.{Option, some, none}
 use native.Mathlib.Omega.{arith}
 use Rattle.octets.specs.Octets.{lower, lowered, same_name, same_octets}
 use Rattle.octets.specs.Options.{or_else, in_front, Each}
-use Rattle.names.specs.Names.{autocrypt as autocryptName, gossip as gossip_name}
+use Rattle.names.specs.Names.{autocrypt as autocrypt_name, gossip as gossip_name}
 use Rattle.header.specs.Header.{FieldText, fields, readable}
 use Rattle.fields.specs.Fields.{is_kind, fields_in, values_of}
 use Rattle.fields.specs.declared.Kind.{Kind}
@@ -41,18 +41,18 @@ back_written name address octets m l r =
           ∙ ap (λ (n : List ℕ). some (record { name = n; value = r.found.value } ∷ [])) r.named;
     }
 
-own_back : (address octets : List ℕ) (m : Bool) (l : Left autocryptName address m octets) → ReadsBack autocryptName address l.key m octets
+own_back : (address octets : List ℕ) (m : Bool) (l : Left autocrypt_name address m octets) → ReadsBack autocrypt_name address l.key m octets
 own_back address octets m l = rw l.is (autocrypt_reads_back address l.key l.out l.key_octets l.long m l.done)
 
 gossip_back : (address octets : List ℕ) (l : Left gossip_name address false octets) → ReadsBack gossip_name address l.key false octets
 gossip_back address octets l = rw l.is (gossip_reads_back address l.key l.out l.key_octets l.long l.done)
 
 -- their names
-is_own : (name : List ℕ) → name ≡ autocryptName → is_kind Autocrypt name ≡ true
+is_own : (name : List ℕ) → name ≡ autocrypt_name → is_kind Autocrypt name ≡ true
 unfolding is_kind same_name lowered lower same_octets
 is_own name e = rw e
 
-own_other : (name : List ℕ) → name ≡ autocryptName → is_kind AutocryptGossip name ≡ false
+own_other : (name : List ℕ) → name ≡ autocrypt_name → is_kind AutocryptGossip name ≡ false
 unfolding is_kind same_name lowered lower same_octets
 own_other name e = rw e
 
@@ -79,11 +79,11 @@ module _ (kind : Kind) (before behind : List FieldText) (f : FieldText) where
       ∙ sym (values_append kind before behind)
 
 module _ (sender outer : List ℕ) (read : readable outer ≡ true) (o : OwnStands sender outer) where
-  r : ReadsBack autocryptName o.address o.left.key o.prefers o.octets
+  r : ReadsBack autocrypt_name o.address o.left.key o.prefers o.octets
   r = own_back o.address o.octets o.prefers o.left
 
   outer_is : fields_in outer ≡ o.stands.before ++ (r.found ∷ behind o.stands)
-  outer_is = holding_fields autocryptName o.address o.left.key o.octets o.prefers r outer o.stands (fields_in outer) (fields_read outer read)
+  outer_is = holding_fields autocrypt_name o.address o.left.key o.octets o.prefers r outer o.stands (fields_in outer) (fields_read outer read)
 
   own_ours : (recipients : List (List ℕ)) (payload : List FieldText) → Each (GossipField recipients) (values_of AutocryptGossip payload)
       → Ours sender recipients (fields_in outer) payload
@@ -96,7 +96,7 @@ module _ (sender outer : List ℕ) (read : readable outer ≡ true) (o : OwnStan
             record {
               address = o.address;
               prefers = o.prefers;
-              wrote = back_written autocryptName o.address o.octets o.prefers o.left r;
+              wrote = back_written autocrypt_name o.address o.octets o.prefers o.left r;
               ours = o.ours;
             };
         without_gossip =

@@ -10,7 +10,7 @@ use Rattle.std.specs.Prelude.{ℕ, ◌≡◌, Bool, true, false, List, [], ◌�
 use Rattle.std.proofs.Math.Option.{some}
 use Rattle.octets.specs.Octets.{AllOctets}
 use Rattle.octets.specs.Options.{Each}
-use Rattle.names.specs.Names.{autocrypt as autocryptName, gossip as gossip_name}
+use Rattle.names.specs.Names.{autocrypt as autocrypt_name, gossip as gossip_name}
 use Rattle.header.specs.Header.{FieldText, fields, readable}
 use Rattle.address.specs.Address.{canonical}
 use Rattle.addresslist.specs.List.{among}
@@ -42,7 +42,7 @@ pub record WrittenFor (name address : List ℕ) (m : Bool) (v : List ℕ) : Type
 pub record OwnField (sender v : List ℕ) : Type 0 where
   pub address : List ℕ
   pub prefers : Bool
-  pub wrote : WrittenFor autocryptName address prefers v
+  pub wrote : WrittenFor autocrypt_name address prefers v
   pub ours : canonical address ≡ sender
 
 -- C23: `write_gossip` wrote it for an address that is a recipient

@@ -7,7 +7,7 @@ use Rattle.std.proofs.Math.Option.{some}
 use Rattle.octets.specs.Options.{or_else}
 use Rattle.runs.specs.Runs.{belongs}
 use Rattle.runs.specs.declared.Class.TheVariants.{Blank}
-use Rattle.names.specs.Names.{autocrypt as autocryptName, gossip as gossip_name}
+use Rattle.names.specs.Names.{autocrypt as autocrypt_name, gossip as gossip_name}
 use Rattle.header.specs.Header.{FieldText, fields, readable}
 use Rattle.address.specs.Address.{canonical}
 use Rattle.addresslist.specs.List.{among}
@@ -24,7 +24,7 @@ pub record OwnStands (sender outer : List ℕ) : Type 0 where
   pub address : List ℕ
   pub prefers : Bool
   pub octets : List ℕ
-  pub left : Left autocryptName address prefers octets
+  pub left : Left autocrypt_name address prefers octets
   pub ours : canonical address ≡ sender
   pub stands : Holding outer octets
   pub alone : values_of Autocrypt (others stands) ≡ []

@@ -6,7 +6,7 @@ ghost use Rattle.std.specs.Prelude.{◌+◌, ◌≤◌, ◌<◌, ◌≡◌, get_
 ghost use Rattle.std.proofs.Math.ListN.{length};
 ghost use Rattle.octets.specs.Written.{onto};
 ghost use Rattle.runs.specs.Runs.{run_length};
-ghost use Rattle.header.specs.Header.{of_ending, over, closes, raw_length, unfolded, readable as readableOf, may_follow, is_report};
+ghost use Rattle.header.specs.Header.{of_ending, over, closes, raw_length, unfolded, readable as readable_of, may_follow, is_report};
 ghost use Rattle.header.specs.Lines.{line_length, text_length};
 ghost use Rattle.header.specs.Answers.{step_at};
 
@@ -134,7 +134,7 @@ impl Cursor {
 
 // Is the block one of fields alone, up to its end, and no longer than a block may be (B1, B8)?
 pub fn readable(block: &[u8]) -> bool
-    ensures { result ≡ readableOf block.now }
+    ensures { result ≡ readable_of block.now }
 {
     if LIMIT < block.len() {
         return false;

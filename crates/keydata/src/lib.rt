@@ -7,7 +7,7 @@ ghost use Rattle.std.specs.Prelude.{◌+◌, ◌≤◌, ◌≡◌, [], ◌∷◌
 ghost use Rattle.octets.specs.Octets.{without_blanks};
 ghost use Rattle.octets.specs.Options.{is_some};
 ghost use Rattle.octets.specs.Written.{put_at};
-ghost use Rattle.letters.specs.Base64.{decode as octetsOf};
+ghost use Rattle.letters.specs.Base64.{decode as octets_of};
 ghost use Rattle.letters.specs.Tables.{Signs};
 ghost use Rattle.keydata.specs.Answers.{decoded_of, Decodes};
 ghost use Rattle.keydata.specs.Steps.{Run, Turned, Passed};
@@ -106,8 +106,8 @@ fn write_next(table: &[u8; 256], src: &[u8], at: usize, out: &mut [u8], to: usiz
 // Writes the octets of the text to the beginning of `out` while reading it.
 fn write(table: &[u8; 256], src: &[u8], out: &mut [u8]) -> Decoded
     requires { Signs table.now }
-    ensures value { result ≡ decoded_of (octetsOf (without_blanks src.now)) (length out.old) }
-    ensures decodes { Decodes (octetsOf (without_blanks src.now)) out.old out.new result }
+    ensures value { result ≡ decoded_of (octets_of (without_blanks src.now)) (length out.old) }
+    ensures decodes { Decodes (octets_of (without_blanks src.now)) out.old out.new result }
 {
     let mut i: usize = 0;
     let mut o: usize = 0;
@@ -133,8 +133,8 @@ fn write(table: &[u8; 256], src: &[u8], out: &mut [u8]) -> Decoded
 // Decodes key data, with spaces and tabs anywhere, into the beginning of `out`. The text is read once and written as it is
 // read: after a refusal, what `out` holds means nothing.
 pub fn decode(src: &[u8], out: &mut [u8]) -> Decoded
-    ensures value { result ≡ decoded_of (octetsOf (without_blanks src.now)) (length out.old) }
-    ensures decodes { Decodes (octetsOf (without_blanks src.now)) out.old out.new result }
+    ensures value { result ≡ decoded_of (octets_of (without_blanks src.now)) (length out.old) }
+    ensures decodes { Decodes (octets_of (without_blanks src.now)) out.old out.new result }
 {
     let table = letters::signs();
     write(&table, src, out)
@@ -157,7 +157,7 @@ fn pass_groups(table: &[u8; 256], src: &[u8], at: usize) -> usize
 // Is the text Base64 from its beginning to its end?
 fn is_whole(table: &[u8; 256], src: &[u8]) -> bool
     requires { Signs table.now }
-    ensures { result ≡ is_some (octetsOf (without_blanks src.now)) }
+    ensures { result ≡ is_some (octets_of (without_blanks src.now)) }
 {
     let mut i: usize = 0;
     loop {
@@ -178,7 +178,7 @@ fn is_whole(table: &[u8; 256], src: &[u8]) -> bool
 
 // Is the text Base64, with spaces and tabs anywhere, of whatever length?
 pub fn is_base64(src: &[u8]) -> bool
-    ensures { result ≡ is_some (octetsOf (without_blanks src.now)) }
+    ensures { result ≡ is_some (octets_of (without_blanks src.now)) }
 {
     let table = letters::signs();
     is_whole(&table, src)

@@ -11,7 +11,7 @@ ghost use Rattle.utf8.specs.Utf8.{points as points_of};
 ghost use Rattle.utf8.specs.Steps.{all_ascii};
 ghost use Rattle.codepoints.specs.Reading.{small_of};
 ghost use Rattle.labels.specs.Labels.{label_octet, opening, label_form};
-ghost use Rattle.labels.specs.Answers.{judged as judgedOf, code_of, fitting, label_of};
+ghost use Rattle.labels.specs.Answers.{judged as judged_of, code_of, fitting, label_of};
 
 use codepoints::Read;
 use octets::Laid;
@@ -50,7 +50,7 @@ fn has_octets(s: &[u8]) -> bool
 
 // Is it a label as it stands, whatever its form (L7)?
 fn judged(s: &[u8]) -> bool
-    ensures { result ≡ judgedOf s.now }
+    ensures { result ≡ judged_of s.now }
 {
     let n = s.len();
     if n == 0 {

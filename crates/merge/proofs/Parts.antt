@@ -26,7 +26,7 @@ use Rattle.slots.specs.declared.Spelling.TheVariants.{Canonical, Ascii}
 use Rattle.slots.specs.Entry.{entry_of, slot_of, Good}
 use Rattle.slots.specs.Facts.{SoundBy}
 use Rattle.slots.proofs.Sounds.{sound_parts}
-use Rattle.slots.proofs.Entries.{slot_back, direct_fits as direct-most, gossip_fits as gossip-most, direct_long as direct-count, gossip_long as gossip-count}
+use Rattle.slots.proofs.Entries.{slot_back, direct_fits as direct_most, gossip_fits as gossip_most, direct_long as direct_count, gossip_long as gossip_count}
 use Rattle.slots.proofs.Goodness.{good_entry, good_renamed}
 use Rattle.slots.proofs.Made.{entry_back, slot_sound, slot_long}
 use Rattle.merge.specs.Merging.{merged}
@@ -70,10 +70,10 @@ module _ (s o : List ℕ) (m : Merges s o) where
 
   -- the keys of the other slot
   pub direct_room : direct_length o ≤ 2048
-  direct_room = direct-most o m.other_long other_parts
+  direct_room = direct_most o m.other_long other_parts
 
   pub gossip_room : gossip_length o ≤ 2048
-  gossip_room = gossip-most o m.other_long other_parts
+  gossip_room = gossip_most o m.other_long other_parts
 
   module _ (n : Head) (e : n ≡ head_of o) where
     direct_long : n.direct_length ≡ direct_length o
@@ -111,10 +111,10 @@ module _ (s o : List ℕ) (m : Merges s o) where
     gossip_key_told = cut_out o 2344 n.gossip_length (gossip_length o) gossip_long gossip_room
 
     pub direct_key_room : length (take (296 + n.direct_length - 296) (drop 296 o)) ≤ key_limit
-    direct_key_room = rw (direct_key, direct-count o m.other_long other_parts) direct_room
+    direct_key_room = rw (direct_key, direct_count o m.other_long other_parts) direct_room
 
     pub gossip_key_room : length (take (2344 + n.gossip_length - 2344) (drop 2344 o)) ≤ key_limit
-    gossip_key_room = rw (gossip_key_told, gossip-count o m.other_long other_parts) gossip_room
+    gossip_key_room = rw (gossip_key_told, gossip_count o m.other_long other_parts) gossip_room
 
   module _ (g : (i : ℕ) → Fits w8 (get_or s i 0)) where
     -- a slot is that of its entry

@@ -53,7 +53,7 @@ use Rattle.update.specs.Message.{Message, GoodMessage, has_room, applied, entry_
 use Rattle.update.proofs.Room.{stands_present, newcomer_not}
 use Rattle.update.proofs.Applying.{applied_sound, applied_octets, applied_entry}
 use Rattle.fields.specs.Fields as fields
-use Rattle.outer.specs.Outer as outer-specs
+use Rattle.outer.specs.Outer as outer_specs
 use Rattle.keys.specs.Keys as keys
 use Rattle.slots.specs.Slot.{key_limit}
 use Rattle.message.specs.Message as message
@@ -105,7 +105,7 @@ pub record Reads (c : Call) (m : Message) : Type 0 where
   pub brings : message_of key_limit c.receipt c.outer c.payload c.setting ≡ m
 
 reads : Reads older (bringing "foo" 1000) × Reads younger (bringing "bar" 2000)
-unfolding message_rows message_of first_of is_some or_else message.payload_in settings.taken message.message_by message.direct_by bind octets.lower octets.lowered octets.same_name octets.same_octets octets.starts_with blank tokens.past tokens.kind_of tokens.control runs.belongs runs.run tokens.after_quote base64.decode base64.follow base64.before base64.at_end base64.grouped base64.closed base64.sign_of tests.without header.fields_of header.fields header.fields_within in_front header.unfolded header.over header.of_ending header.opens_field header.raw_length header.closes header.is_report tests.every pieces.on_first pieces.pieces pieces.before pieces.behind ascii·address.atom ascii·address.local_part ascii·address.free_ends labels.label_octet labels.label_form labels.fits labels.label labels.labelled address.domain address.domain_form address.address_form address.plain address.canonical pieces.from lowering.lower_text lowering.lower_points lowering.lower_point utf8.points utf8.tails utf8.lead_of utf8.encoded utf8.encoded_one list.opening_of holds list.run_token list.quoted_token list.token_at list.first_token grammar.after_address grammar.after list.listed_by list.listed list.addresses only_one date.effective_date attributes.trimmed_front attributes.trimmed_back attributes.trimmed attributes.name_of attributes.attribute attributes.attribute_of steps.with_address steps.with_preference steps.step keyfield.said_with keyfield.if_last keyfield.said_from keyfield.said_of keyfield.limited keyfield.key_of keyfield.with_key keyfield.field_by keyfield.field_of keyfield.naming keyfield.valid_for keyfield.chosen keyfield.valid_fields keyfield.counted fields.fields_in fields.is_kind fields.values_of outer-specs.canonical_of outer-specs.sender_by outer-specs.sender_in outer-specs.any_report outer-specs.is_reported outer-specs.date_by outer-specs.date_in keys.counted_in keys.accepted keys.gossip_in pieces.following pieces.joined
+unfolding message_rows message_of first_of is_some or_else message.payload_in settings.taken message.message_by message.direct_by bind octets.lower octets.lowered octets.same_name octets.same_octets octets.starts_with blank tokens.past tokens.kind_of tokens.control runs.belongs runs.run tokens.after_quote base64.decode base64.follow base64.before base64.at_end base64.grouped base64.closed base64.sign_of tests.without header.fields_of header.fields header.fields_within in_front header.unfolded header.over header.of_ending header.opens_field header.raw_length header.closes header.is_report tests.every pieces.on_first pieces.pieces pieces.before pieces.behind ascii·address.atom ascii·address.local_part ascii·address.free_ends labels.label_octet labels.label_form labels.fits labels.label labels.labelled address.domain address.domain_form address.address_form address.plain address.canonical pieces.from lowering.lower_text lowering.lower_points lowering.lower_point utf8.points utf8.tails utf8.lead_of utf8.encoded utf8.encoded_one list.opening_of holds list.run_token list.quoted_token list.token_at list.first_token grammar.after_address grammar.after list.listed_by list.listed list.addresses only_one date.effective_date attributes.trimmed_front attributes.trimmed_back attributes.trimmed attributes.name_of attributes.attribute attributes.attribute_of steps.with_address steps.with_preference steps.step keyfield.said_with keyfield.if_last keyfield.said_from keyfield.said_of keyfield.limited keyfield.key_of keyfield.with_key keyfield.field_by keyfield.field_of keyfield.naming keyfield.valid_for keyfield.chosen keyfield.valid_fields keyfield.counted fields.fields_in fields.is_kind fields.values_of outer_specs.canonical_of outer_specs.sender_by outer_specs.sender_in outer_specs.any_report outer_specs.is_reported outer_specs.date_by outer_specs.date_in keys.counted_in keys.accepted keys.gossip_in pieces.following pieces.joined
 reads = (record { in_order = refl; brings = refl }, record { in_order = refl; brings = refl })
 
 free_octets : AllOctets free

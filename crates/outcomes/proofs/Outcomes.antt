@@ -21,7 +21,7 @@ use Rattle.process.proofs.Outcomes.{refused_untouched as unprocessed}
 use Rattle.recommend.specs.declared.Quick.{Quick}
 use Rattle.recommend.specs.declared.Recommended.{Recommended}
 use Rattle.recommend.proofs.Range.{quick_whole}
-use Rattle.names.specs.Names.{autocrypt as autocryptName, gossip as gossip_name}
+use Rattle.names.specs.Names.{autocrypt as autocrypt_name, gossip as gossip_name}
 use Rattle.write.specs.declared.Written.{Written}
 use Rattle.write.specs.declared.Written.TheVariants.{Refused as NotWritten}
 use Rattle.write.proofs.Outcomes.{refused_untouched as unwritten}
@@ -162,7 +162,7 @@ entry_refusal table slot numbers refusal left h = h.1 ∙ unshown table slot num
 pub write_autocrypt_refusal : (address key : List ℕ) (is_mutual : Bool) (out : List ℕ) (refusal : Refusal) (left : List ℕ)
     → AllOf (WriteAutocrypt address key is_mutual out (NotWritten refusal) left) → left ≡ out
 write_autocrypt_refusal address key is_mutual out refusal left h =
-    h.1 ∙ unwritten autocryptName address is_mutual key out refusal (sym h.0)
+    h.1 ∙ unwritten autocrypt_name address is_mutual key out refusal (sym h.0)
 
 pub write_gossip_refusal : (address key out : List ℕ) (refusal : Refusal) (left : List ℕ)
     → AllOf (WriteGossip address key out (NotWritten refusal) left) → left ≡ out

@@ -25,7 +25,7 @@ use Rattle.settings.specs.declared.Gossip.{Gossip}
 use Rattle.recommend.specs.Recommending.{recommended_of, looked_up_of, target_part_of, target_key_of}
 use Rattle.recommend.specs.declared.Quick.{Quick}
 use Rattle.recommend.specs.declared.Recommended.{Recommended}
-use Rattle.names.specs.Names.{autocrypt as autocryptName, gossip as gossip_name}
+use Rattle.names.specs.Names.{autocrypt as autocrypt_name, gossip as gossip_name}
 use Rattle.write.specs.Writing.{written_of, left_by_writing}
 use Rattle.write.specs.declared.Written.{Written}
 use Rattle.display.specs.Displaying.{displayed_of, left_by_displaying}
@@ -82,7 +82,7 @@ TargetKey table recipients is_mutual reply place r =
 -- W1, W6: what `write_autocrypt` answers, and the output that it leaves
 abbrev pub WriteAutocrypt : List ℕ → List ℕ → Bool → List ℕ → Written → List ℕ → List (Type 0)
 WriteAutocrypt address key is_mutual out r left =
-    Meets (written_of autocryptName address is_mutual key (length out)) (left_by_writing autocryptName address is_mutual key out) r left
+    Meets (written_of autocrypt_name address is_mutual key (length out)) (left_by_writing autocrypt_name address is_mutual key out) r left
 
 -- W1, W6: what `write_gossip` answers, and the output that it leaves; it has no preference (W3)
 abbrev pub WriteGossip : List ℕ → List ℕ → List ℕ → Written → List ℕ → List (Type 0)

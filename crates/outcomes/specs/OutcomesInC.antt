@@ -14,7 +14,7 @@ use Rattle.inspect.specs.Inspecting.{table_rows, refused_showing, left_by_showin
 use Rattle.convert.specs.Converting.{refused_converting, left_by_converting}
 use Rattle.process.specs.Processing.{refused_processing, left_by_processing}
 use Rattle.recommend.specs.Recommending.{recommended_of, quick_of, target_part_of}
-use Rattle.names.specs.Names.{autocrypt as autocryptName, gossip as gossip_name}
+use Rattle.names.specs.Names.{autocrypt as autocrypt_name, gossip as gossip_name}
 use Rattle.write.specs.Writing.{written_of, left_by_writing}
 use Rattle.display.specs.Displaying.{displayed_of, left_by_displaying}
 use Rattle.lint.specs.Linting.{linted_of, left_by_linting}
@@ -60,7 +60,7 @@ VienghulacTargetKey table recipients is_mutual reply place r = (r ≡ part_in_nu
 -- W1, W6, R34: what `vienghulac_write_autocrypt` answers, and the output that it leaves
 abbrev pub VienghulacWriteAutocrypt : List ℕ → List ℕ → Bool → List ℕ → Written → List ℕ → List (Type 0)
 VienghulacWriteAutocrypt address key is_mutual out r left =
-    Meets (written_in_numbers (written_of autocryptName address is_mutual key (length out))) (left_by_writing autocryptName address is_mutual key out) r left
+    Meets (written_in_numbers (written_of autocrypt_name address is_mutual key (length out))) (left_by_writing autocrypt_name address is_mutual key out) r left
 
 -- W1, W6, R34: what `vienghulac_write_gossip` answers, and the output that it leaves
 abbrev pub VienghulacWriteGossip : List ℕ → List ℕ → List ℕ → Written → List ℕ → List (Type 0)

@@ -33,7 +33,7 @@ use Rattle.fields.specs.Answers.{value_at, value_in}
 use Rattle.fields.specs.declared.Kind.TheVariants.{From}
 use Rattle.fields.specs.declared.Only.{Only}
 use Rattle.fields.specs.declared.Only.TheVariants.{One, Other}
-use Rattle.fields.proofs.Values.{fields_octets, only_octets as value-octets}
+use Rattle.fields.proofs.Values.{fields_octets, only_octets as value_octets}
 use Rattle.fields.proofs.Single.{value_is, value_none, valued}
 use Rattle.outer.specs.Outer.{canonical_of, sender_by, sender_in}
 use Rattle.outer.specs.Answers.{sender_of, left_by_sender}
@@ -71,7 +71,7 @@ pub sender_octets : (s a : List ℕ) → AllOctets s → sender_in (fields_in s)
 sender_octets s a o e =
     let v : List ℕ = (value (fields_in s) a e).0 in
     let b : List ℕ = (given (fields_in s) a e).0 in
-    let h : AllOctets v = value-octets From (fields_in s) v (fields_octets s o) (value (fields_in s) a e).1.0 in
+    let h : AllOctets v = value_octets From (fields_in s) v (fields_octets s o) (value (fields_in s) a e).1.0 in
     rw (given (fields_in s) a e).1.1 (canonical_octets b (only_octets v b (sym (given (fields_in s) a e).1.0) h))
 
 module _ (s : List ℕ) (k : Only) (fs : List FieldText) (p : value_in s k ≡ only_one (values_of From fs)) where

@@ -3,7 +3,7 @@
 #![tactic(auto)]
 
 ghost use Rattle.std.specs.Prelude.{◌^◌, ◌<◌, ◌≡◌};
-ghost use Rattle.punycode.specs.Punycode.{digit as digit_of, value as valueAs, adapt as adaptOf};
+ghost use Rattle.punycode.specs.Punycode.{digit as digit_of, value as value_as, adapt as adapt_of};
 ghost use Rattle.punycode.specs.Steps.{value_of, Threshold, Halved};
 
 // What an octet is worth as a digit; or it is none.
@@ -32,7 +32,7 @@ fn wide(x: u8) -> u64
 
 // The digit of an octet. Most are small letters, so they are asked for first.
 pub fn value_of(c: u8) -> Value
-    ensures { result ≡ value_of (valueAs c) }
+    ensures { result ≡ value_of (value_as c) }
 {
     if b'a' <= c {
         if c <= b'z' {
@@ -80,7 +80,7 @@ fn halved(delta: u64, first: bool) -> u64
 // The bias behind the number `delta`, when there are so many code points.
 pub fn adapt(delta: u64, points: u64, first: bool) -> u64
     requires { (delta < 2 ^ 56) × (0 < points) }
-    ensures { result ≡ adaptOf delta points first }
+    ensures { result ≡ adapt_of delta points first }
 {
     let part = halved(delta, first);
     let mut d = part + part / points;

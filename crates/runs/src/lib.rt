@@ -3,7 +3,7 @@
 #![tactic(auto)]
 
 ghost use Rattle.std.specs.Prelude.{◌+◌, ◌≡◌, drop};
-ghost use Rattle.runs.specs.Runs.{digit as digit_of, letter as letterOf, belongs, run_length};
+ghost use Rattle.runs.specs.Runs.{digit as digit_of, letter as letter_of, belongs, run_length};
 
 // The classes of octets that make runs: blanks (L1); what a field's name is made of (B7); digits and letters (D4); what
 // atoms are made of (L1), what labels (L7), and what whole addresses (L12).
@@ -31,7 +31,7 @@ fn digit(x: u8) -> bool
 }
 
 fn letter(x: u8) -> bool
-    ensures { result ≡ letterOf x }
+    ensures { result ≡ letter_of x }
 {
     ((b'A' <= x) & (x <= b'Z')) | ((b'a' <= x) & (x <= b'z'))
 }

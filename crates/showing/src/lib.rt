@@ -4,7 +4,7 @@
 
 ghost use Rattle.std.specs.Prelude.{◌<◌, ◌≤◌, ◌≡◌, true, ◌&&◌, length, drop};
 ghost use Rattle.octets.specs.Puts.{Puts, PutsText};
-ghost use Rattle.punycode.specs.Punycode.{decode as decodeOf};
+ghost use Rattle.punycode.specs.Punycode.{decode as decode_of};
 ghost use Rattle.pieces.specs.Pieces.{before};
 ghost use Rattle.labels.specs.Labels.{label_form, label};
 ghost use Rattle.address.specs.Address.{plain};
@@ -48,7 +48,7 @@ fn has_form(text: &[u8], form: &[u8]) -> bool
 // Writes the text that a code stands for, into room for the longest one: 59 code points of four octets.
 fn put_decoded(code: &[u8], out: &mut [u8]) -> Laid
     requires { length code.now ≤ 59 }
-    ensures { PutsText out.old out.new 0 (text_of (decodeOf code.now)) result }
+    ensures { PutsText out.old out.new 0 (text_of (decode_of code.now)) result }
 {
     let mut points = [0u32; 59];
     match decoder::decode(code, &mut points) {
@@ -72,7 +72,7 @@ fn put_either(text: &[u8], form: &[u8], out: &mut [u8], at: usize) -> Laid
 fn put_opened(s: &[u8], out: &mut [u8], at: usize) -> Laid
     requires at_in_bounds { at ≤ length out.old }
     requires in_bounds { (4 ≤ length s.now) × (length s.now ≤ 63) }
-    ensures { Puts out.old out.new at (shown_by s.now (decodeOf (drop 4 s.now))) result }
+    ensures { Puts out.old out.new at (shown_by s.now (decode_of (drop 4 s.now))) result }
 {
     let mut text = [0u8; 236];
     match put_decoded(&s[4..], &mut text) {

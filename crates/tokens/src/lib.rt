@@ -4,7 +4,7 @@
 
 ghost use Rattle.std.specs.Prelude.{suc, ◌+◌, ◌<◌, ◌≡◌, false, drop};
 ghost use Rattle.tokens.specs.Tokens.{control, kind_of, depth, skipped, after_quote};
-ghost use Rattle.tokens.specs.Answers.{reached, takes as takesOf, step_in, opened, Opening, Passed};
+ghost use Rattle.tokens.specs.Answers.{reached, takes as takes_of, step_in, opened, Opening, Passed};
 
 // Comments may stand one inside the other so deep, the outermost at 1 (L2).
 const DEPTH: usize = 16;
@@ -59,7 +59,7 @@ fn kind_of(closing: u8, x: u8) -> OctetKind
 
 // Does an octet stand at the place `at` that a backslash before it may take? A control octet is none (L5).
 fn takes(s: &[u8], at: usize) -> bool
-    ensures { result ≡ takesOf (drop at s.now) }
+    ensures { result ≡ takes_of (drop at s.now) }
 {
     if s.len() <= at {
         return false;

@@ -42,7 +42,7 @@ use Rattle.keyfield.specs.Field.{limited, key_of, field_of}
 use Rattle.keyfield.proofs.ReadBack.{value_of, read_back_key}
 use Rattle.writer.specs.Writing.{preference, field_text, written}
 use Rattle.trip.proofs.Folded.{folded_raw, folded_value}
-use Rattle.names.specs.Names.{autocrypt as autocryptName, gossip as gossip_name}
+use Rattle.names.specs.Names.{autocrypt as autocrypt_name, gossip as gossip_name}
 use Rattle.write.specs.Writing.{written_of, left_by_writing}
 use Rattle.write.specs.declared.Written.TheVariants.{Done}
 use Rattle.write.proofs.Outcomes.{Wrote, done_wrote}
@@ -170,10 +170,10 @@ module _ (name address key out : List ℕ) (m : Bool) (octets : AllOctets key) (
   output_reads_back named some_name = rw output_opens (written_reads_back address key m done_writable name named some_name)
 
 module _ (address key out : List ℕ) (octets : AllOctets key) (n : ℕ) where
-  pub autocrypt_reads_back : (m : Bool) → Done n ≡ written_of autocryptName address m key (length out)
-      → ReadsBack autocryptName address key m (take n (left_by_writing autocryptName address m key out))
+  pub autocrypt_reads_back : (m : Bool) → Done n ≡ written_of autocrypt_name address m key (length out)
+      → ReadsBack autocrypt_name address key m (take n (left_by_writing autocrypt_name address m key out))
   unfolding run belongs blank
-  autocrypt_reads_back m done = output_reads_back autocryptName address key out m octets n done refl (omega arith)
+  autocrypt_reads_back m done = output_reads_back autocrypt_name address key out m octets n done refl (omega arith)
 
   pub gossip_reads_back : Done n ≡ written_of gossip_name address false key (length out)
       → ReadsBack gossip_name address key false (take n (left_by_writing gossip_name address false key out))

@@ -39,7 +39,7 @@ use Rattle.runs.specs.Runs.{belongs, run}
 use Rattle.settings.specs.Settings.{taken}
 use Rattle.process.specs.Processing.{refused_processing, left_by_processing}
 use Rattle.settings.specs.declared.Gossip.{Gossip}
-use Rattle.names.specs.Names.{autocrypt as autocryptName, gossip as gossip_name}
+use Rattle.names.specs.Names.{autocrypt as autocrypt_name, gossip as gossip_name}
 use Rattle.write.specs.Writing.{autocrypt_field, gossip_field, written_of, left_by_writing}
 use Rattle.write.specs.declared.Written.TheVariants.{Done as Wrote}
 use Rattle.trip.specs.RoundTrip.{ReadsBack, Writable, Holding, behind, others}
@@ -65,7 +65,7 @@ module _ (sender v : List ℕ) (f : Field) (valid : valid_for key_limit sender v
       ∙ ap (λ (fs : List Field). f ∷ fs) apart.1
 
 -- the field that counts in a block that holds octets which are read back for the sender, and no other valid field
-module _ (a k octets outer : List ℕ) (m : Bool) (r : ReadsBack autocryptName a k m octets) (h : Holding outer octets) where
+module _ (a k octets outer : List ℕ) (m : Bool) (r : ReadsBack autocrypt_name a k m octets) (h : Holding outer octets) where
   abbrev read_field : Field
   read_field = record { address = canonical a; is_mutual = m; key = k }
 
@@ -80,7 +80,7 @@ module _ (a k octets outer : List ℕ) (m : Bool) (r : ReadsBack autocryptName a
       let before : List (List ℕ) = values_of Autocrypt h.before in
       let after : List (List ℕ) = values_of Autocrypt (behind h) in
       let values : values_of Autocrypt (fields_in outer) ≡ before ++ (v ∷ after) =
-      ap (values_of Autocrypt) (holding_fields autocryptName a k octets m r outer h (fields_in outer) e)
+      ap (values_of Autocrypt) (holding_fields autocrypt_name a k octets m r outer h (fields_in outer) e)
       ∙ values_append Autocrypt h.before (r.found ∷ behind h)
       ∙ ap (λ (vs : List (List ℕ)). before ++ vs) (values_first Autocrypt r.found (behind h) is_autocrypt) in
       let none_else : valid_fields key_limit (canonical a) (before ++ after) ≡ [] = ap (valid_fields key_limit (canonical a)) (sym (values_append Autocrypt h.before (behind h))) ∙ alone in
@@ -129,7 +129,7 @@ module _ (t : List ℕ) (receipt : ℕ) (outer payload : List ℕ) (setting : Go
   addressed_so : (b : List ℕ) (e : Entry) → entry_in left b ≡ some e → e.address ≡ b
   addressed_so b e q = (entry_good left b left_sound left_octets e q).1
 
-  module _ (a k octets : List ℕ) (m : Bool) (r : ReadsBack autocryptName a k m octets) (h : Holding outer octets)
+  module _ (a k octets : List ℕ) (m : Bool) (r : ReadsBack autocrypt_name a k m octets) (h : Holding outer octets)
       (from : sender_in (fields_in outer) ≡ some (canonical a)) (alone : valid_fields key_limit (canonical a) (values_of Autocrypt (others h)) ≡ []) where
     sender_is : through.sender ≡ canonical a
     sender_is = let q : some through.sender ≡ some (canonical a) = sym through.sent ∙ from in cc
@@ -190,7 +190,7 @@ module _ (t : List ℕ) (receipt : ℕ) (outer payload : List ℕ) (setting : Go
       → sender_in (fields_in outer) ≡ some (canonical a) → valid_fields key_limit (canonical a) (values_of Autocrypt (others h)) ≡ []
       → HasDirect (entry_in t (canonical a)) (canonical a) (record { timestamp = date; key = k; «mutual» = m }) (entry_in left (canonical a))
   unfolding autocrypt_field run belongs blank
-  autocrypt_processed a k m w h = direct_read a k (autocrypt_field a m k) m (written_reads_back a k m w autocryptName refl (omega arith)) h
+  autocrypt_processed a k m w h = direct_read a k (autocrypt_field a m k) m (written_reads_back a k m w autocrypt_name refl (omega arith)) h
 
   pub gossip_processed : (b k : List ℕ) → Writable b k → (h : Holding payload (gossip_field b k)) → taken setting ≡ true
       → among (canonical b) (recipients_in (fields_in outer)) ≡ true → none_about (canonical b) (gossip_in key_limit (recipients_in (fields_in outer)) (behind h)) ≡ true
@@ -200,12 +200,12 @@ module _ (t : List ℕ) (receipt : ℕ) (outer payload : List ℕ) (setting : Go
 
   -- what a writer that answers 0 leaves in front of the output
   module _ (out : List ℕ) (n : ℕ) where
-    pub autocrypt_answered : (a k : List ℕ) (m : Bool) → AllOctets k → Wrote n ≡ written_of autocryptName a m k (length out)
-        → (h : Holding outer (take n (left_by_writing autocryptName a m k out)))
+    pub autocrypt_answered : (a k : List ℕ) (m : Bool) → AllOctets k → Wrote n ≡ written_of autocrypt_name a m k (length out)
+        → (h : Holding outer (take n (left_by_writing autocrypt_name a m k out)))
         → sender_in (fields_in outer) ≡ some (canonical a) → valid_fields key_limit (canonical a) (values_of Autocrypt (others h)) ≡ []
         → HasDirect (entry_in t (canonical a)) (canonical a) (record { timestamp = date; key = k; «mutual» = m }) (entry_in left (canonical a))
     autocrypt_answered a k m o wrote h =
-        direct_read a k (take n (left_by_writing autocryptName a m k out)) m (autocrypt_reads_back a k out o n m wrote) h
+        direct_read a k (take n (left_by_writing autocrypt_name a m k out)) m (autocrypt_reads_back a k out o n m wrote) h
 
     pub gossip_answered : (b k : List ℕ) → AllOctets k → Wrote n ≡ written_of gossip_name b false k (length out)
         → (h : Holding payload (take n (left_by_writing gossip_name b false k out))) → taken setting ≡ true

@@ -18,7 +18,7 @@ use Rattle.address.proofs.Forming.{form_fits}
 use Rattle.slots.specs.Slot.{key_limit}
 use Rattle.writer.specs.Writing.{preference, written}
 use Rattle.writer.proofs.Parts.{preference_most, field_counted}
-use Rattle.names.specs.Names.{autocrypt as autocryptName, gossip as gossip_name}
+use Rattle.names.specs.Names.{autocrypt as autocrypt_name, gossip as gossip_name}
 use Rattle.write.specs.Writing.{autocrypt_field, gossip_field, field_room, writing_rows, refused_writing, written_of}
 use Rattle.refusals.specs.Refusals.{number_of}
 use Rattle.refusals.specs.Rows.{Gives, nothing, here, behind}
@@ -48,7 +48,7 @@ module _ (address key : List ℕ) (p : plain address ≡ true) (k : one_to key_l
 
   pub autocrypt_fits : (m : Bool) → length (autocrypt_field address m key) ≤ field_room
   unfolding autocrypt_field
-  autocrypt_fits m = written_most autocryptName m (omega arith)
+  autocrypt_fits m = written_most autocrypt_name m (omega arith)
 
   pub gossip_fits : length (gossip_field address key) ≤ field_room
   unfolding gossip_field
@@ -73,9 +73,9 @@ module _ (address key : List ℕ) (room : ℕ) (l : field_room ≤ room) where
         too_long (written name address m key) fits
         ((exactly (writing_rows address key (written name address m key) room) 12).0 (refused_is number_of 0 _ OutputLength (refused_row name address m key room OutputLength e)))
 
-  pub autocrypt_roomy : (m : Bool) → written_of autocryptName address m key room ≡ Refused OutputLength → ⊥
+  pub autocrypt_roomy : (m : Bool) → written_of autocrypt_name address m key room ≡ Refused OutputLength → ⊥
   unfolding autocrypt_field
-  autocrypt_roomy m = never autocryptName m (λ p k. autocrypt_fits address key p k m)
+  autocrypt_roomy m = never autocrypt_name m (λ p k. autocrypt_fits address key p k m)
 
   pub gossip_roomy : written_of gossip_name address false key room ≡ Refused OutputLength → ⊥
   unfolding gossip_field

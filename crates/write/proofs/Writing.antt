@@ -14,7 +14,7 @@ use lib.Dec.{leb}
 use lib.ListN.{length}
 use Rattle.octets.specs.Written.{onto}
 use Rattle.octets.specs.Tests.{one_to}
-use Rattle.address.specs.Answers.{written_of as fittedOf, onto_if_fits}
+use Rattle.address.specs.Answers.{written_of as fitted_of, onto_if_fits}
 use Rattle.address.specs.declared.Fitted.{Fitted}
 use Rattle.address.specs.declared.Fitted.TheVariants.{Length, NoRoom}
 use Rattle.address.proofs.Room.{written_length, written_no_room, onto_fits, onto_none}
@@ -33,7 +33,7 @@ pub key_good : (n : ℕ) → (n ≡ 0 → ⊥) → n ≤ 2048 → one_to key_lim
 key_good n e l = rw (le-leb 1 n (omega arith), le-leb n 2048 l)
 
 -- the answer of the lower writer
-module _ (field d : List ℕ) (k : Fitted) (e : k ≡ fittedOf field (length d)) where
+module _ (field d : List ℕ) (k : Fitted) (e : k ≡ fitted_of field (length d)) where
   module _ (m : ℕ) (q : k ≡ Length m) where
     pub field_fits : leb (length field) (length d) ≡ true
     field_fits = le-leb (length field) (length d) (written_length field (length d) m (sym q ∙ e)).1

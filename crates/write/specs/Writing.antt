@@ -6,7 +6,7 @@
 use Rattle.std.specs.Prelude.{ℕ, Bool, false, List, [], ◌∷◌, leb, length}
 use Rattle.std.proofs.Math.Option.{Option}
 use Rattle.octets.specs.Written.{onto}
-use Rattle.names.specs.Names.{autocrypt as autocryptName, gossip as gossip_name}
+use Rattle.names.specs.Names.{autocrypt as autocrypt_name, gossip as gossip_name}
 use Rattle.octets.specs.Tests.{one_to}
 use Rattle.refusals.specs.Rows.{Row, ◌unless◌, first_of, answered_by, unless_refused}
 use Rattle.refusals.specs.declared.Refusal.{Refusal}
@@ -19,7 +19,7 @@ use Rattle.write.specs.declared.Written.TheVariants.{Done, Refused}
 
 -- W2, W3: the Autocrypt field for an address, a preference and a key
 unfoldable pub autocrypt_field : List ℕ → Bool → List ℕ → List ℕ
-autocrypt_field address is_mutual key = written autocryptName address is_mutual key
+autocrypt_field address is_mutual key = written autocrypt_name address is_mutual key
 
 -- W3: the Autocrypt-Gossip field for an address and a key, which never has a preference
 unfoldable pub gossip_field : List ℕ → List ℕ → List ℕ

@@ -2,7 +2,7 @@
 #![tactic(auto)]
 
 ghost use Rattle.std.specs.Prelude.{◌≤◌, ◌≡◌, false, length};
-ghost use Rattle.names.specs.Names.{autocrypt as autocryptName, gossip as gossip_name};
+ghost use Rattle.names.specs.Names.{autocrypt as autocrypt_name, gossip as gossip_name};
 ghost use Rattle.write.specs.Writing.{written_of, left_by_writing};
 
 use refusals::Refusal;
@@ -44,8 +44,8 @@ fn write(name: &[u8], address: &[u8], mutual: bool, key: &[u8], out: &mut [u8]) 
 // is not a plain address and nothing else (R9), 11 where `key` has no octet or more than 2,048 (R11), 12 where `out` is
 // shorter than the field (R12). Then `out` stays as it was (R32). An `out` of 3,200 octets is always long enough (W6).
 pub fn write_autocrypt(address: &[u8], key: &[u8], mutual: bool, out: &mut [u8]) -> Written
-    ensures value { result ≡ written_of autocryptName address.now «mutual» key.now (length out.old) }
-    ensures out_after { out.new ≡ left_by_writing autocryptName address.now «mutual» key.now out.old }
+    ensures value { result ≡ written_of autocrypt_name address.now «mutual» key.now (length out.old) }
+    ensures out_after { out.new ≡ left_by_writing autocrypt_name address.now «mutual» key.now out.old }
 {
     write(b"Autocrypt", address, mutual, key, out)
 }

@@ -17,7 +17,7 @@ use Rattle.address.specs.Answers.{written_of, onto_if_fits}
 use Rattle.address.specs.declared.Fitted.{Fitted}
 use Rattle.address.specs.declared.Fitted.TheVariants.{Length, NoRoom}
 use Rattle.address.proofs.Room.{written_fits, written_none, onto_fits, onto_none}
-use Rattle.address.proofs.Forming.{form_fits, form_never, form_there, form_end as buffer-end}
+use Rattle.address.proofs.Forming.{form_fits, form_never, form_there, form_end as buffer_end}
 use Rattle.writer.specs.Writing.{field_text, written}
 
 -- `fit_field`
@@ -55,7 +55,7 @@ module _ (s : List ℕ) (plainly : plain s ≡ true) (g : Fitted) (e : g ≡ wri
     there = form_there s plainly 256 (omega arith) g e n q b out o l
 
     pub form_end : n ≤ length out
-    form_end = buffer-end s plainly 256 (omega arith) g e n q b out o l
+    form_end = buffer_end s plainly 256 (omega arith) g e n q b out o l
 
     pub form_most : length (take (n - 0) out) ≤ 256
     form_most = rw there (form_fits s plainly 256 (omega arith))

@@ -61,11 +61,11 @@ use Rattle.reader.proofs.Handed.TheLaws as S'
 use Rattle.reader.specs.contracts.Taken as K
 use Rattle.reader.proofs.Taken.TheLaws as K'
 use Rattle.reader.specs.contracts.Reader.new as new
-use Rattle.reader.proofs.Reader.new.Symbol as new-def
+use Rattle.reader.proofs.Reader.new.Symbol as new_def
 use Rattle.reader.proofs.Reader.new.Symbol.{name as #reader·new}
 use Rattle.reader.proofs.Reader.new.Met as new_thm
 use Rattle.reader.specs.contracts.Reader.next as next
-use Rattle.reader.proofs.Reader.next.Symbol as next-def
+use Rattle.reader.proofs.Reader.next.Symbol as next_def
 use Rattle.reader.proofs.Reader.next.Symbol.{name as #reader·next}
 use Rattle.reader.proofs.Reader.next.Met as next_thm
 use Rattle.reader.specs.contracts.take.Key.{name as #reader·take}
@@ -278,5 +278,5 @@ take_spec 𝓤 𝓛 𝓜 𝓡 =
     entered 𝓤 𝓛.H (triple_of 𝓛 taking.signature (taking.spec 𝓛 𝓜.mem 𝓡.run))
     (tables 𝓤 𝓛.H 𝓜 𝓡 code.env).C (tables 𝓤 𝓛.H 𝓜 𝓡 code.env).Λ #reader·take code.function (code.unfolded 𝓤 𝓛.H 𝓜 𝓡)
     (take_meets 𝓛 𝓜.mem 𝓡.run (tables_of 𝓤 𝓛.H 𝓜 (tables 𝓤 𝓛.H 𝓜 𝓡 code.env))
-    (cited 𝓤 𝓛.H (New 𝓛 𝓜.mem 𝓡.run) 𝓜 𝓡 code.env #reader·new new-def.routine code.calls-reader::Reader::new (new_thm.met 𝓤 𝓛 𝓜 𝓡))
-    (cited 𝓤 𝓛.H (Next 𝓛 𝓜.mem 𝓡.run) 𝓜 𝓡 code.env #reader·next next-def.routine code.calls-reader::Reader::next (next_thm.met 𝓤 𝓛 𝓜 𝓡)))
+    (cited 𝓤 𝓛.H (New 𝓛 𝓜.mem 𝓡.run) 𝓜 𝓡 code.env #reader·new new_def.routine code.calls-reader::Reader::new (new_thm.met 𝓤 𝓛 𝓜 𝓡))
+    (cited 𝓤 𝓛.H (Next 𝓛 𝓜.mem 𝓡.run) 𝓜 𝓡 code.env #reader·next next_def.routine code.calls-reader::Reader::next (next_thm.met 𝓤 𝓛 𝓜 𝓡)))

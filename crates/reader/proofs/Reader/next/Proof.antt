@@ -54,11 +54,11 @@ use Rattle.reader.proofs.Reader.TheLaws as T'
 use Rattle.reader.specs.contracts.Handed as S
 use Rattle.reader.proofs.Handed.TheLaws as S'
 use Rattle.reader.specs.contracts.hand_out as out
-use Rattle.reader.proofs.hand_out.Symbol as out-def
+use Rattle.reader.proofs.hand_out.Symbol as out_def
 use Rattle.reader.proofs.hand_out.Symbol.{name as #reader·hand-out}
 use Rattle.reader.proofs.hand_out.Met as out_thm
 use Rattle.reader.specs.contracts.place_behind as place
-use Rattle.reader.proofs.place_behind.Symbol as place-def
+use Rattle.reader.proofs.place_behind.Symbol as place_def
 use Rattle.reader.proofs.place_behind.Symbol.{name as #reader·place-behind}
 use Rattle.reader.proofs.place_behind.Met as place_thm
 use Rattle.reader.specs.contracts.Reader.next.Key.{name as #reader·next}
@@ -225,5 +225,5 @@ next_spec 𝓤 𝓛 𝓜 𝓡 =
     entered 𝓤 𝓛.H (triple_of 𝓛 next.signature (next.spec 𝓛 𝓜.mem 𝓡.run))
     (tables 𝓤 𝓛.H 𝓜 𝓡 code.env).C (tables 𝓤 𝓛.H 𝓜 𝓡 code.env).Λ #reader·next code.function (code.unfolded 𝓤 𝓛.H 𝓜 𝓡)
     (next_meets 𝓛 𝓜.mem 𝓡.run (tables_of 𝓤 𝓛.H 𝓜 (tables 𝓤 𝓛.H 𝓜 𝓡 code.env))
-    (cited 𝓤 𝓛.H (HandOut 𝓛 𝓜.mem 𝓡.run) 𝓜 𝓡 code.env #reader·hand-out out-def.routine code.calls-reader::hand-out (out_thm.met 𝓤 𝓛 𝓜 𝓡))
-    (cited 𝓤 𝓛.H (PlaceBehind 𝓛 𝓜.mem 𝓡.run) 𝓜 𝓡 code.env #reader·place-behind place-def.routine code.calls-reader::place-behind (place_thm.met 𝓤 𝓛 𝓜 𝓡)))
+    (cited 𝓤 𝓛.H (HandOut 𝓛 𝓜.mem 𝓡.run) 𝓜 𝓡 code.env #reader·hand-out out_def.routine code.calls-reader::hand-out (out_thm.met 𝓤 𝓛 𝓜 𝓡))
+    (cited 𝓤 𝓛.H (PlaceBehind 𝓛 𝓜.mem 𝓡.run) 𝓜 𝓡 code.env #reader·place-behind place_def.routine code.calls-reader::place-behind (place_thm.met 𝓤 𝓛 𝓜 𝓡)))
