@@ -1,10 +1,9 @@
 -- The name and the value of a piece. (`=` is 61.)
 --     known_empty, known_as          whether a name is unknown
---     name_as                        whether it is the one that is asked for
 --     called_none .. called_so       whether a piece has such a name
 --     value_none, value_some         where its value stands
 --     name_order, name_upto          and its name
---     the rulesets                   knowing for `is_unknown`, naming for `is_name`, calling for `is_called`, valuing for `value_at`
+--     the rulesets                   knowing for `is_unknown`, calling for `is_called`, valuing for `value_at`
 -- Assumes nothing.
 use Prim.Native.Nat.{ℕ, ◌+◌, ◌-◌, ◌<◌, ◌≤◌}
 use mathlib.Core.Path.{◌≡◌, refl, sym, ap, ◌∙◌}
@@ -39,11 +38,6 @@ known_as [] b g k h q e r = absurd (h refl)
 known_as (x ∷ s) b g k h q e r = r ∙ ap is_other (sym e ∙ q)
 
 pub ruleset knowing = (known_empty, known_as, rules)
-
-pub name_as : (s : List ℕ) (b : Bool) (what k : Called) → what ≡ k → b ≡ is_name k s → b ≡ is_name what s
-name_as s b what k e r = rw e r
-
-pub ruleset naming = (name_as, rules)
 
 module _ (s : List ℕ) (from to cut : ℕ) (w : Within s from to) (f : FirstAt s from to 61 cut) where
   pub called_none : (what : Called) → to ≤ cut → false ≡ is_called what (part s from to)

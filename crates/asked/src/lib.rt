@@ -43,6 +43,7 @@ fn is_unknown(name: &[u8]) -> bool
 }
 
 // Is it a name of those that are asked for? Names are compared octet by octet (F4).
+#[tactic(auto, unfolding(crate::specs::Asked::is_name))]
 fn is_name(name: &[u8], what: Called) -> bool
     ensures { result ≡ is_name what name.now }
 {

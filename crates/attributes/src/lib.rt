@@ -107,6 +107,7 @@ pub fn trim(s: &[u8], from: usize, to: usize) -> Bounds
 }
 
 // Which name it is. Names are compared octet by octet (F4).
+#[tactic(auto, using(crate::proofs::Naming::naming))]
 pub fn name_of(name: &[u8]) -> Name
     ensures { result ≡ name_of name.now }
 {

@@ -11,7 +11,6 @@ use mathlib.Core.Bool.{Bool, true, false, not}
 use mathlib.Core.List.{List, [], ◌∷◌}
 use native.Mathlib.Omega.{arith}
 use borrow.Author.Rules.{rules}
-use borrow.Author.Tests.{not-true, not-false}
 use lib.ListN.{length}
 use Rattle.refusals.specs.Rows.{first_of, answer_of}
 use Rattle.refusals.specs.declared.Refusal.TheVariants.{NoFreeSlot}
@@ -68,21 +67,21 @@ module _ (t sender key : List ℕ) (b : Brought) where
       unfolding addresses_of mail_of
       told = e ∙ beside_message t mail
 
-      refused : not c ≡ true → Refused NoFreeSlot ≡ answer_of (first_of (room_rows t mail))
+      refused : c ≡ false → Refused NoFreeSlot ≡ answer_of (first_of (room_rows t mail))
       unfolding room_rows
       refused q = denied_refuses Refused Done NoFreeSlot [] (Refused NoFreeSlot) (has_room t mail) c told q refl
 
-      done : not c ≡ false → Done ≡ answer_of (first_of (room_rows t mail))
+      done : c ≡ true → Done ≡ answer_of (first_of (room_rows t mail))
       unfolding room_rows
       done q = denied_passes Refused Done NoFreeSlot [] Done (has_room t mail) c told q (no_row Refused Done Done refl)
 
-      untouched : not c ≡ true → t ≡ delivered t mail
+      untouched : c ≡ false → t ≡ delivered t mail
       unfolding delivered
-      untouched q = rw (delivered, ← told, not-true c q)
+      untouched q = rw (delivered, ← told, q)
 
-      whole : not c ≡ false → (u : List ℕ) → u ≡ applied t mail → u ≡ delivered t mail
+      whole : c ≡ true → (u : List ℕ) → u ≡ applied t mail → u ≡ delivered t mail
       unfolding delivered
-      whole q u v = rw (delivered, ← told, not-false c q) v
+      whole q u v = rw (delivered, ← told, q) v
 
   module _ (limit : ℕ) (recipients payload : List ℕ) where
     pub put_all : (u v : List ℕ) → u ≡ put t sender (updated b.date (direct_from b.date key b.own))
@@ -90,38 +89,38 @@ module _ (t sender key : List ℕ) (b : Brought) where
     put_all u v x y = (rw x at y) ∙ put_heard (gossip_of limit recipients payload)
 
     module _ (c : Bool) (e : c ≡ room_beside t [] (sender ∷ gossiped_in limit recipients payload)) where
-      pub full_answered : not c ≡ true → Refused NoFreeSlot ≡ answer_of (first_of (room_rows t (mail_of sender key b (gossip_of limit recipients payload))))
+      pub full_answered : c ≡ false → Refused NoFreeSlot ≡ answer_of (first_of (room_rows t (mail_of sender key b (gossip_of limit recipients payload))))
       unfolding gossiped_in
       full_answered = refused (gossip_of limit recipients payload) c e
 
-      pub full_left : not c ≡ true → t ≡ delivered t (mail_of sender key b (gossip_of limit recipients payload))
+      pub full_left : c ≡ false → t ≡ delivered t (mail_of sender key b (gossip_of limit recipients payload))
       unfolding gossiped_in
       full_left = untouched (gossip_of limit recipients payload) c e
 
-      pub put_answered : not c ≡ false → Done ≡ answer_of (first_of (room_rows t (mail_of sender key b (gossip_of limit recipients payload))))
+      pub put_answered : c ≡ true → Done ≡ answer_of (first_of (room_rows t (mail_of sender key b (gossip_of limit recipients payload))))
       unfolding gossiped_in
       put_answered = done (gossip_of limit recipients payload) c e
 
-      pub put_left : not c ≡ false → (u : List ℕ) → u ≡ applied t (mail_of sender key b (gossip_of limit recipients payload))
+      pub put_left : c ≡ true → (u : List ℕ) → u ≡ applied t (mail_of sender key b (gossip_of limit recipients payload))
           → u ≡ delivered t (mail_of sender key b (gossip_of limit recipients payload))
       unfolding gossiped_in
       put_left = whole (gossip_of limit recipients payload) c e
 
   -- no gossip
   module _ (c : Bool) (e : c ≡ room_beside t [] (sender ∷ [])) where
-    pub alone_full : not c ≡ true → Refused NoFreeSlot ≡ answer_of (first_of (room_rows t (mail_of sender key b [])))
+    pub alone_full : c ≡ false → Refused NoFreeSlot ≡ answer_of (first_of (room_rows t (mail_of sender key b [])))
     unfolding gossip_addresses
     alone_full = refused [] c e
 
-    pub alone_untouched : not c ≡ true → t ≡ delivered t (mail_of sender key b [])
+    pub alone_untouched : c ≡ false → t ≡ delivered t (mail_of sender key b [])
     unfolding gossip_addresses
     alone_untouched = untouched [] c e
 
-    pub alone_answered : not c ≡ false → Done ≡ answer_of (first_of (room_rows t (mail_of sender key b [])))
+    pub alone_answered : c ≡ true → Done ≡ answer_of (first_of (room_rows t (mail_of sender key b [])))
     unfolding gossip_addresses
     alone_answered = done [] c e
 
-    pub alone_left : not c ≡ false → (u : List ℕ) → u ≡ put t sender (updated b.date (direct_from b.date key b.own))
+    pub alone_left : c ≡ true → (u : List ℕ) → u ≡ put t sender (updated b.date (direct_from b.date key b.own))
         → u ≡ delivered t (mail_of sender key b [])
     unfolding gossip_addresses heard_all
     alone_left q u v = whole [] c e q u (v ∙ put_heard [])

@@ -61,6 +61,7 @@ pub enum Only {
 }
 
 // Is a field of this name asked for? Names have no case (B11).
+#[tactic(auto, unfolding(crate::specs::Fields::is_kind))]
 pub fn is_kind(name: &[u8], kind: Kind) -> bool
     ensures { result ≡ kind_of kind name.now }
 {

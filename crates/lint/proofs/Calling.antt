@@ -17,7 +17,7 @@ use mathlib.Core.Option.{Option, some, none}
 use native.Mathlib.Nat.{sub-zero}
 use native.Mathlib.Omega.{arith}
 use borrow.Author.Rules.{rules}
-use borrow.Author.Tests.{leb-true, not-true, not-false}
+use borrow.Author.Tests.{leb-true}
 use lib.Dec.{leb}
 use lib.ListN.{length, take, drop}
 use Rattle.octets.specs.Options.{is_some, or_else}
@@ -132,15 +132,15 @@ module _ (outer : List ℕ) (survey : Survey) (payload text₀ : List ℕ) (h : 
       is_sender = rw sub-zero (left_is (sender_in (fields_in outer)) r t out d l n q)
 
       module _ (b : Bool) (p : b ≡ readable payload) where
-        pub payload_answered : (list : List ℕ) → not b ≡ true → Refused PayloadBlock ≡ linted_of outer payload (length list)
-        payload_answered list f = answered outer payload list PayloadBlock (first_payload outer payload (length list) outer_readable _ is_sender (sym p ∙ not-true b f))
+        pub payload_answered : (list : List ℕ) → b ≡ false → Refused PayloadBlock ≡ linted_of outer payload (length list)
+        payload_answered list f = answered outer payload list PayloadBlock (first_payload outer payload (length list) outer_readable _ is_sender (sym p ∙ f))
 
-        pub payload_left : (list : List ℕ) → not b ≡ true → list ≡ left_by_linting outer payload list
-        payload_left list f = left outer payload list PayloadBlock (first_payload outer payload (length list) outer_readable _ is_sender (sym p ∙ not-true b f))
+        pub payload_left : (list : List ℕ) → b ≡ false → list ≡ left_by_linting outer payload list
+        payload_left list f = left outer payload list PayloadBlock (first_payload outer payload (length list) outer_readable _ is_sender (sym p ∙ f))
 
-        pub sent : (text : List ℕ) → length text ≡ length text₀ → not b ≡ false → Sent outer survey payload (take (n - 0) (drop 0 out)) text
+        pub sent : (text : List ℕ) → length text ≡ length text₀ → b ≡ true → Sent outer survey payload (take (n - 0) (drop 0 out)) text
         sent text e f =
-            let y : readable payload ≡ true = sym p ∙ not-false b f in
+            let y : readable payload ≡ true = sym p ∙ f in
             record {
               surveyed = h.surveyed;
               sent = is_sender;

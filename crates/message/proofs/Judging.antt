@@ -9,7 +9,6 @@ use mathlib.Core.Bool.{Bool, true, false, not}
 use mathlib.Core.List.{List, [], ◌∷◌}
 use native.Mathlib.Omega.{arith}
 use borrow.Author.Rules.{rules}
-use borrow.Author.Tests.{not-true, not-false}
 use lib.ListN.{length}
 use Rattle.octets.specs.Options.{is_some, or_else}
 use Rattle.settings.specs.Settings.{taken}
@@ -34,32 +33,32 @@ empty_fields [] e = rw fields_empty
 empty_fields (x ∷ s) e = absurd (omega arith)
 
 module _ (payload : List ℕ) (g : Gossip) (u : Bool) (v : u ≡ taken g) where
-  pub judge_skipped : not u ≡ true → JudgedAs false payload g Passed
+  pub judge_skipped : u ≡ false → JudgedAs false payload g Passed
   unfolding JudgedAs payload_in
   judge_skipped w =
-      let skips : taken g ≡ false = sym v ∙ not-true u w in
+      let skips : taken g ≡ false = sym v ∙ w in
       record { no_report = refl; no_row = rw skips; fields = rw (payload_in, skips) }
 
-  module _ (w : not u ≡ false) where
+  module _ (w : u ≡ true) where
     takes : taken g ≡ true
-    takes = sym v ∙ not-false u w
+    takes = sym v ∙ w
 
     pub judge_empty : length payload ≡ 0 → JudgedAs false payload g Passed
     unfolding JudgedAs payload_in
     judge_empty e = record { no_report = refl; no_row = rw (takes, empty_readable payload e); fields = rw (payload_in, takes) (empty_fields payload e) }
 
     module _ (c : Bool) (e : c ≡ is_some (fields_of payload)) where
-      pub judge_unreadable : not c ≡ true → JudgedAs false payload g Unreadable
+      pub judge_unreadable : c ≡ false → JudgedAs false payload g Unreadable
       unfolding JudgedAs
       judge_unreadable z = record { no_report = refl; holds = rw takes (ap not (sym e) ∙ z) }
 
-      pub judge_searched : not c ≡ false → JudgedAs false payload g Searched
+      pub judge_searched : c ≡ true → JudgedAs false payload g Searched
       unfolding JudgedAs payload_in
       judge_searched z =
           record {
             takes = takes;
             passes = record { no_report = refl; no_row = rw takes (ap not (sym e) ∙ z); fields = rw (payload_in, takes) };
-            readably = sym e ∙ not-false c z;
+            readably = sym e ∙ z;
           }
 
 pub ruleset judging = (judge_skipped, judge_empty, judge_unreadable, judge_searched, rules)

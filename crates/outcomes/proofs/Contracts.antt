@@ -19,27 +19,27 @@ use Rattle.convert.specs.contracts.convert as convert
 use Rattle.process.specs.contracts.process as process
 use Rattle.inspect.specs.contracts.entry as entry
 use Rattle.recommend.specs.contracts.recommend as recommend
-use Rattle.recommend.specs.contracts.recommend_quick as recommend-quick
-use Rattle.recommend.specs.contracts.target_part as target-part
-use Rattle.recommend.specs.contracts.target_key as target_key_same
-use Rattle.write.specs.contracts.write_autocrypt as write-autocrypt
-use Rattle.write.specs.contracts.write_gossip as write-gossip
+use Rattle.recommend.specs.contracts.recommend_quick as recommend_quick
+use Rattle.recommend.specs.contracts.target_part as target_part
+use Rattle.recommend.specs.contracts.target_key as target_key
+use Rattle.write.specs.contracts.write_autocrypt as write_autocrypt
+use Rattle.write.specs.contracts.write_gossip as write_gossip
 use Rattle.display.specs.contracts.display as display
 use Rattle.lint.specs.contracts.lint as lint
-use Rattle.cabi.specs.contracts.tables.vienghulac_check as vienghulac-check
-use Rattle.cabi.specs.contracts.tables.vienghulac_convert as vienghulac-convert
-use Rattle.cabi.specs.contracts.messages.vienghulac_process as vienghulac-process
-use Rattle.cabi.specs.contracts.tables.vienghulac_entry as vienghulac-entry
-use Rattle.cabi.specs.contracts.recommending.vienghulac_recommend as vienghulac-recommend
-use Rattle.cabi.specs.contracts.recommending.vienghulac_recommend_quick as vienghulac-recommend-quick
-use Rattle.cabi.specs.contracts.recommending.vienghulac_target_key as vienghulac-target-key
-use Rattle.cabi.specs.contracts.writing.vienghulac_write_autocrypt as vienghulac-write-autocrypt
-use Rattle.cabi.specs.contracts.writing.vienghulac_write_gossip as vienghulac-write-gossip
-use Rattle.cabi.specs.contracts.writing.vienghulac_display as vienghulac-display
-use Rattle.cabi.specs.contracts.linting.vienghulac_lint as vienghulac-lint
+use Rattle.cabi.specs.contracts.tables.vienghulac_check as vienghulac_check
+use Rattle.cabi.specs.contracts.tables.vienghulac_convert as vienghulac_convert
+use Rattle.cabi.specs.contracts.messages.vienghulac_process as vienghulac_process
+use Rattle.cabi.specs.contracts.tables.vienghulac_entry as vienghulac_entry
+use Rattle.cabi.specs.contracts.recommending.vienghulac_recommend as vienghulac_recommend
+use Rattle.cabi.specs.contracts.recommending.vienghulac_recommend_quick as vienghulac_recommend_quick
+use Rattle.cabi.specs.contracts.recommending.vienghulac_target_key as vienghulac_target_key
+use Rattle.cabi.specs.contracts.writing.vienghulac_write_autocrypt as vienghulac_write_autocrypt
+use Rattle.cabi.specs.contracts.writing.vienghulac_write_gossip as vienghulac_write_gossip
+use Rattle.cabi.specs.contracts.writing.vienghulac_display as vienghulac_display
+use Rattle.cabi.specs.contracts.linting.vienghulac_lint as vienghulac_lint
 use Rattle.outcomes.specs.Outcomes.{Number, Index, Check, Convert, Process, Entry, Recommend, RecommendQuick, TargetPart, TargetKey, WriteAutocrypt, WriteGossip, Display, Lint}
 use Rattle.outcomes.specs.OutcomesInC.{VienghulacCheck, VienghulacConvert, VienghulacProcess, VienghulacEntry, VienghulacRecommend, VienghulacRecommendQuick, VienghulacTargetKey, VienghulacWriteAutocrypt, VienghulacWriteGossip, VienghulacDisplay, VienghulacLint}
-use Rattle.outcomes.specs.Contracts.{ensuring}
+use Rattle.outcomes.specs.Claims.{ensuring}
 
 -- in every model of the toolchain's logic
 module _ {M : Type 1} {𝓤 : Ura M} (𝓛 : Logic 𝓤) (mem : Memory → SProp 𝓤) (run : Routine → Fun 𝓤) where
@@ -68,27 +68,27 @@ module _ {M : Type 1} {𝓤 : Ura M} (𝓛 : Logic 𝓤) (mem : Memory → SProp
       ≡ ensuring 𝓤 𝓛 recommend.ended (λ κs a r e. Recommend a.0.now a.1.0.now a.1.1.0 a.1.1.1.0 r)
   recommend_contract = refl
 
-  pub recommend_quick_contract : recommend-quick.spec 𝓛 mem run
-      ≡ ensuring 𝓤 𝓛 recommend-quick.ended (λ κs a r e. RecommendQuick a.0.now a.1.0.now a.1.1.0 a.1.1.1.0 r)
+  pub recommend_quick_contract : recommend_quick.spec 𝓛 mem run
+      ≡ ensuring 𝓤 𝓛 recommend_quick.ended (λ κs a r e. RecommendQuick a.0.now a.1.0.now a.1.1.0 a.1.1.1.0 r)
   recommend_quick_contract = refl
 
-  pub target_part_contract : target-part.spec 𝓛 mem run
-      ≡ ensuring 𝓤 𝓛 target-part.ended
+  pub target_part_contract : target_part.spec 𝓛 mem run
+      ≡ ensuring 𝓤 𝓛 target_part.ended
       (λ κs a r e. TargetPart a.0.now a.1.0.now a.1.1.0 a.1.1.1.0 a.1.1.1.1.0 r)
   target_part_contract = refl
 
-  pub target_key_contract : target_key_same.spec 𝓛 mem run
-      ≡ ensuring 𝓤 𝓛 target_key_same.ended
+  pub target_key_contract : target_key.spec 𝓛 mem run
+      ≡ ensuring 𝓤 𝓛 target_key.ended
       (λ κs a r e. TargetKey a.0.now a.1.0.now a.1.1.0 a.1.1.1.0 a.1.1.1.1.0 r.now)
   target_key_contract = refl
 
-  pub write_autocrypt_contract : write-autocrypt.spec 𝓛 mem run
-      ≡ ensuring 𝓤 𝓛 write-autocrypt.ended
+  pub write_autocrypt_contract : write_autocrypt.spec 𝓛 mem run
+      ≡ ensuring 𝓤 𝓛 write_autocrypt.ended
       (λ κs a r e. WriteAutocrypt a.0.now a.1.0.now a.1.1.0 a.1.1.1.0.now r e.1.1.1.0.now)
   write_autocrypt_contract = refl
 
-  pub write_gossip_contract : write-gossip.spec 𝓛 mem run
-      ≡ ensuring 𝓤 𝓛 write-gossip.ended (λ κs a r e. WriteGossip a.0.now a.1.0.now a.1.1.0.now r e.1.1.0.now)
+  pub write_gossip_contract : write_gossip.spec 𝓛 mem run
+      ≡ ensuring 𝓤 𝓛 write_gossip.ended (λ κs a r e. WriteGossip a.0.now a.1.0.now a.1.1.0.now r e.1.1.0.now)
   write_gossip_contract = refl
 
   pub display_contract : display.spec 𝓛 mem run
@@ -99,51 +99,51 @@ module _ {M : Type 1} {𝓤 : Ura M} (𝓛 : Logic 𝓤) (mem : Memory → SProp
       ≡ ensuring 𝓤 𝓛 lint.ended (λ κs a r e. Lint a.0.now a.1.0.now a.1.1.0.now r e.1.1.0.now)
   lint_contract = refl
 
-  pub vienghulac_check_contract : vienghulac-check.spec 𝓛 mem run ≡ ensuring 𝓤 𝓛 vienghulac-check.ended (λ κs a r e. VienghulacCheck a.0.now r)
+  pub vienghulac_check_contract : vienghulac_check.spec 𝓛 mem run ≡ ensuring 𝓤 𝓛 vienghulac_check.ended (λ κs a r e. VienghulacCheck a.0.now r)
   vienghulac_check_contract = refl
 
-  pub vienghulac_convert_contract : vienghulac-convert.spec 𝓛 mem run
-      ≡ ensuring 𝓤 𝓛 vienghulac-convert.ended (λ κs a r e. VienghulacConvert a.0.now r e.0.now)
+  pub vienghulac_convert_contract : vienghulac_convert.spec 𝓛 mem run
+      ≡ ensuring 𝓤 𝓛 vienghulac_convert.ended (λ κs a r e. VienghulacConvert a.0.now r e.0.now)
   vienghulac_convert_contract = refl
 
-  pub vienghulac_process_contract : vienghulac-process.spec 𝓛 mem run
-      ≡ ensuring 𝓤 𝓛 vienghulac-process.ended
+  pub vienghulac_process_contract : vienghulac_process.spec 𝓛 mem run
+      ≡ ensuring 𝓤 𝓛 vienghulac_process.ended
       (λ κs a r e. VienghulacProcess a.0.now a.1.0 a.1.1.0.now a.1.1.1.0.now a.1.1.1.1.0 r e.0.now)
   vienghulac_process_contract = refl
 
-  pub vienghulac_entry_contract : vienghulac-entry.spec 𝓛 mem run
-      ≡ ensuring 𝓤 𝓛 vienghulac-entry.ended (λ κs a r e. VienghulacEntry a.0.now a.1.0 a.1.1.0.now r e.1.1.0.now)
+  pub vienghulac_entry_contract : vienghulac_entry.spec 𝓛 mem run
+      ≡ ensuring 𝓤 𝓛 vienghulac_entry.ended (λ κs a r e. VienghulacEntry a.0.now a.1.0 a.1.1.0.now r e.1.1.0.now)
   vienghulac_entry_contract = refl
 
-  pub vienghulac_recommend_contract : vienghulac-recommend.spec 𝓛 mem run
-      ≡ ensuring 𝓤 𝓛 vienghulac-recommend.ended
+  pub vienghulac_recommend_contract : vienghulac_recommend.spec 𝓛 mem run
+      ≡ ensuring 𝓤 𝓛 vienghulac_recommend.ended
       (λ κs a r e. VienghulacRecommend a.0.now a.1.0.now a.1.1.0 a.1.1.1.0 r)
   vienghulac_recommend_contract = refl
 
-  pub vienghulac_recommend_quick_contract : vienghulac-recommend-quick.spec 𝓛 mem run
-      ≡ ensuring 𝓤 𝓛 vienghulac-recommend-quick.ended
+  pub vienghulac_recommend_quick_contract : vienghulac_recommend_quick.spec 𝓛 mem run
+      ≡ ensuring 𝓤 𝓛 vienghulac_recommend_quick.ended
       (λ κs a r e. VienghulacRecommendQuick a.0.now a.1.0.now a.1.1.0 a.1.1.1.0 r)
   vienghulac_recommend_quick_contract = refl
 
-  pub vienghulac_target_key_contract : vienghulac-target-key.spec 𝓛 mem run
-      ≡ ensuring 𝓤 𝓛 vienghulac-target-key.ended
+  pub vienghulac_target_key_contract : vienghulac_target_key.spec 𝓛 mem run
+      ≡ ensuring 𝓤 𝓛 vienghulac_target_key.ended
       (λ κs a r e. VienghulacTargetKey a.0.now a.1.0.now a.1.1.0 a.1.1.1.0 a.1.1.1.1.0 r)
   vienghulac_target_key_contract = refl
 
-  pub vienghulac_write_autocrypt_contract : vienghulac-write-autocrypt.spec 𝓛 mem run
-      ≡ ensuring 𝓤 𝓛 vienghulac-write-autocrypt.ended
+  pub vienghulac_write_autocrypt_contract : vienghulac_write_autocrypt.spec 𝓛 mem run
+      ≡ ensuring 𝓤 𝓛 vienghulac_write_autocrypt.ended
       (λ κs a r e. VienghulacWriteAutocrypt a.0.now a.1.0.now a.1.1.0 a.1.1.1.0.now r e.1.1.1.0.now)
   vienghulac_write_autocrypt_contract = refl
 
-  pub vienghulac_write_gossip_contract : vienghulac-write-gossip.spec 𝓛 mem run
-      ≡ ensuring 𝓤 𝓛 vienghulac-write-gossip.ended
+  pub vienghulac_write_gossip_contract : vienghulac_write_gossip.spec 𝓛 mem run
+      ≡ ensuring 𝓤 𝓛 vienghulac_write_gossip.ended
       (λ κs a r e. VienghulacWriteGossip a.0.now a.1.0.now a.1.1.0.now r e.1.1.0.now)
   vienghulac_write_gossip_contract = refl
 
-  pub vienghulac_display_contract : vienghulac-display.spec 𝓛 mem run
-      ≡ ensuring 𝓤 𝓛 vienghulac-display.ended (λ κs a r e. VienghulacDisplay a.0.now a.1.0.now r e.1.0.now)
+  pub vienghulac_display_contract : vienghulac_display.spec 𝓛 mem run
+      ≡ ensuring 𝓤 𝓛 vienghulac_display.ended (λ κs a r e. VienghulacDisplay a.0.now a.1.0.now r e.1.0.now)
   vienghulac_display_contract = refl
 
-  pub vienghulac_lint_contract : vienghulac-lint.spec 𝓛 mem run
-      ≡ ensuring 𝓤 𝓛 vienghulac-lint.ended (λ κs a r e. VienghulacLint a.0.now a.1.0.now a.1.1.0.now r e.1.1.0.now)
+  pub vienghulac_lint_contract : vienghulac_lint.spec 𝓛 mem run
+      ≡ ensuring 𝓤 𝓛 vienghulac_lint.ended (λ κs a r e. VienghulacLint a.0.now a.1.0.now a.1.1.0.now r e.1.1.0.now)
   vienghulac_lint_contract = refl

@@ -1,4 +1,4 @@
-pub mod Contracts
+pub mod Claims
 pub mod Outcomes
 pub mod OutcomesInC
 pub mod Skipping

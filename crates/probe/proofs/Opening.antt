@@ -7,7 +7,6 @@ use mathlib.Core.Path.{◌≡◌, sym, ◌∙◌}
 use mathlib.Core.Bool.{Bool, true, false, not}
 use mathlib.Core.List.{List}
 use Prim.Native.Nat.{ℕ}
-use borrow.Author.Tests.{not-false}
 use Rattle.address.specs.Address.{plain, is_canonical}
 use Rattle.slots.specs.declared.Spelling.TheVariants.{Canonical}
 use Rattle.table.specs.Tagged.{Tagged}
@@ -21,5 +20,5 @@ opened t tags r h e = (h.opens e).tagged
 pub canonical : (s : List ℕ) (b : Bool) → b ≡ true → b ≡ is_canonical s → is_canonical s ≡ true
 canonical s b t e = sym e ∙ t
 
-pub plainly : (s : List ℕ) (b : Bool) → not b ≡ false → b ≡ plain s → plain s ≡ true
-plainly s b n e = sym e ∙ not-false b n
+pub plainly : (s : List ℕ) (b : Bool) → b ≡ true → b ≡ plain s → plain s ≡ true
+plainly s b n e = sym e ∙ n

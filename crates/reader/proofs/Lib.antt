@@ -1,4 +1,3 @@
-mod Held
 pub mod Handing
 pub mod Numbering
 mod Worked

@@ -103,6 +103,7 @@ pub fn take(block: &[u8], at: usize) -> Taken
 }
 
 // The field of the number `k`, from 0, of a block: what a reader at its beginning hands out after `k` others (B14).
+#[tactic(auto, using(crate::proofs::Handing::reading_on))]
 pub fn field_number(block: &[u8], k: usize) -> Handed
     ensures { result ≡ handed_after k block.now 0 }
 {

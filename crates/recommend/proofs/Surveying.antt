@@ -12,7 +12,7 @@ use mathlib.Core.Option.{Option, some, none}
 use native.Mathlib.Omega.{arith}
 use native.Mathlib.Numerals.{add-one}
 use borrow.Author.Rules.{rules}
-use borrow.Author.Tests.{not-true, not-false, lt-leb, le-leb}
+use borrow.Author.Tests.{lt-leb, le-leb}
 use lib.ListN.{length, length-append, length-map}
 use mir.Syntax.{w64}
 use mir.Val.{Fits}
@@ -116,9 +116,9 @@ module _ (t s : List ℕ) (m reply : Bool) where
           more = map-append (advice_in t m reply) h.front (between s from to ∷ [])
 
           -- A12: behind the first disable an address is only read
-          pub survey_passed : not b ≡ false → Surveying t s m reply least (count + 1) looked next
+          pub survey_passed : b ≡ true → Surveying t s m reply least (count + 1) looked next
           survey_passed y =
-              let disabled : least ≡ Disable = disable_is least (sym f ∙ not-false b y) in
+              let disabled : least ≡ Disable = disable_is least (sym f ∙ y) in
               let low : overall found ≡ Disable = sym h.so_far ∙ disabled in
               record {
                 front = one_more;
@@ -130,7 +130,7 @@ module _ (t s : List ℕ) (m reply : Bool) where
               }
 
           pub survey_looked :
-              not b ≡ true → (one low : Advice) → one ≡ advice_in t m reply (between s from to) → low ≡ lower_of least one
+              b ≡ false → (one low : Advice) → one ≡ advice_in t m reply (between s from to) → low ≡ lower_of least one
               → Surveying t s m reply low (count + 1) (count + 1) next
           unfolding advised
           survey_looked n one low e g =
@@ -138,7 +138,7 @@ module _ (t s : List ℕ) (m reply : Bool) where
               ap (λ (n : ℕ). n + 1) (h.many ∙ sym (length-map h.front (advice_in t m reply))) ∙ add-one (length found) in
               let nobody : any_disable found ≡ false =
               by_test (any_disable found)
-              (λ y. absurd (false≢true (sym (not-true b n) ∙ f ∙ rw (h.so_far ∙ any_overall found y))))
+              (λ y. absurd (false≢true (sym n ∙ f ∙ rw (h.so_far ∙ any_overall found y))))
               (λ z. z) in
               record {
                 front = one_more;

@@ -23,7 +23,7 @@ use mathlib.Core.List.{List, [], ◌∷◌, ◌++◌}
 use mathlib.Core.Option.{Option, some, none}
 use native.Mathlib.Omega.{arith}
 use borrow.Author.Rules.{rules}
-use borrow.Author.Tests.{eq-eqb, not-true, not-false}
+use borrow.Author.Tests.{eq-eqb}
 use lib.Dec.{eqb}
 use Rattle.refusals.specs.Refusals.{number_of}
 use Rattle.refusals.specs.Rows.{Row, ◌when◌, ◌unless◌, first_of, answered_by, answer_of, number_in, Gives, nothing, here, behind, some_holds}
@@ -161,15 +161,15 @@ module _ {A : Type 0} (f : Refusal → A) (d : A) (r : Refusal) (rest : List Row
     pub told_passes : c ≡ false → x ≡ answered_by (first_of rest) f d → x ≡ answered_by (first_of ((r when b) ∷ rest)) f d
     told_passes t h = when_passes b (sym e ∙ t) h
 
-    pub denied_refuses : not c ≡ true → x ≡ f r → x ≡ answered_by (first_of ((r unless b) ∷ rest)) f d
-    denied_refuses t h = unless_refuses b (sym e ∙ not-true c t) h
+    pub denied_refuses : c ≡ false → x ≡ f r → x ≡ answered_by (first_of ((r unless b) ∷ rest)) f d
+    denied_refuses t h = unless_refuses b (sym e ∙ t) h
 
-    pub denied_passes : not c ≡ false → x ≡ answered_by (first_of rest) f d → x ≡ answered_by (first_of ((r unless b) ∷ rest)) f d
-    denied_passes t h = unless_passes b (sym e ∙ not-false c t) h
+    pub denied_passes : c ≡ true → x ≡ answered_by (first_of rest) f d → x ≡ answered_by (first_of ((r unless b) ∷ rest)) f d
+    denied_passes t h = unless_passes b (sym e ∙ t) h
 
 -- what the test that was passed says
-pub not_denied : (b c : Bool) → c ≡ b → not c ≡ false → b ≡ true
-not_denied b c e t = sym e ∙ not-false c t
+pub not_denied : (b c : Bool) → c ≡ b → c ≡ true → b ≡ true
+not_denied b c e t = sym e ∙ t
 
 -- rows that were answered as a whole, in front of others
 module _ {A : Type 0} (f : Refusal → A) (d : A) (rows rest : List Row) (k : Answer) (e : k ≡ answer_of (first_of rows)) (x : A) where

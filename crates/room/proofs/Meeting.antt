@@ -9,7 +9,6 @@ use mathlib.Core.Path.{◌≡◌, sym, ap, ◌∙◌}
 use mathlib.Core.Bool.{Bool, true, false, not}
 use mathlib.Core.List.{List, [], ◌∷◌}
 use native.Mathlib.Omega.{arith}
-use borrow.Author.Tests.{not-true, not-false}
 use lib.ListN.{length, take, drop, length-append}
 use Rattle.octets.specs.Tests.{every}
 use Rattle.octets.proofs.Every.{every_append}
@@ -111,22 +110,22 @@ module _ (t tags : List ℕ) (free : ℕ) (known numbers spots : List ℕ) (at :
         }
 
   module _ (b : Bool) (e : b ≡ is_new t (in_roll at known) a) where
-    pub meet_known : not b ≡ true → MetAs t (in_roll at known) a known (Seated at)
+    pub meet_known : b ≡ false → MetAs t (in_roll at known) a known (Seated at)
     unfolding MetAs with_new
-    meet_known y = rw (with_new, ← e, not-true b y)
+    meet_known y = rw (with_new, ← e, y)
 
-    module _ (y : not b ≡ false) where
+    module _ (y : b ≡ true) where
       pub meet_full : free - at.many ≡ 0 → (out : List ℕ) → MetAs t (in_roll at known) a out Full
       unfolding MetAs
       meet_full g out =
           record {
-            new = sym e ∙ not-false b y;
+            new = sym e ∙ y;
             full = omega (arith, g, m.rolls.shared, m.rolls.counted, m.rolls.kept.count);
           }
 
       pub meet_added : (out : List ℕ) (r : Rolled) → Grew known at (a ∷ []) out r → MetAs t (in_roll at known) a out (Seated r)
       unfolding MetAs with_new
-      meet_added out r w = rw (with_new, ← e, not-false b y) w.grown
+      meet_added out r w = rw (with_new, ← e, y) w.grown
 
 pub meet_none : (t : List ℕ) (free : ℕ) (known numbers spots : List ℕ) → RollsAs t free known numbers spots Full
 unfolding RollsAs

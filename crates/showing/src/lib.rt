@@ -82,6 +82,7 @@ fn put_opened(s: &[u8], out: &mut [u8], at: usize) -> Laid
 }
 
 // Writes what is shown of a label's form. What is longer than any label is shown as it is.
+#[tactic(auto, using(crate::proofs::Making::putting_shown))]
 fn put_shown(s: &[u8], out: &mut [u8], at: usize) -> Laid
     requires { at ≤ length out.old }
     ensures { Puts out.old out.new at (shown s.now) result }

@@ -28,7 +28,7 @@ use Rattle.update.proofs.Putting.{keyless_open, keyed_open, heard_open}
 -- as the code has it: f, u and tags are what `place` answered and left
 module _ (t a u tags : List ℕ) (w : Open u tags) (eu : u ≡ begun t a) (s : checked t ≡ Sound) (c : is_canonical a ≡ true) (o : (j : ℕ) → Fits w8 (get_or a j 0))
     (p : (j : ℕ) → Fits w8 (get_or t j 0)) (f : Found) (i : ℕ) (ef : f ≡ found (begun t a) a) (ei : f ≡ At i) (date : ℕ) (h : date ≤ time_limit)
-    (b : Bool) (hb : not b ≡ true) (v : List ℕ) where
+    (b : Bool) (hb : b ≡ false) (v : List ℕ) where
   placed : Open (begun t a) tags
   placed = rw eu at w
 

@@ -16,7 +16,6 @@ use mathlib.Core.Option.{Option, some, none}
 use mathlib.Core.List.{List}
 use native.Mathlib.Nat.{le-max_right}
 use borrow.Author.Rules.{rules}
-use borrow.Author.Tests.{not-true, not-false}
 use mir.Syntax.{w8}
 use mir.Val.{Fits}
 use lib.Dec.{ltb}
@@ -172,17 +171,17 @@ module _ (t a u : List ℕ) (f : Found) (i : ℕ) (ef : f ≡ found (begun t a) 
           ∙ rw q (entry_over (begun t a) a i here (begun_sound t a c (given_octets a o) s) octets))
 
       module _ (date : ℕ) (b : Bool) where
-        pub left_older : (brought : Option Direct) → b ≡ younger date (entry_of (slot_at u i)).direct → not b ≡ false → u ≡ put t a (updated date brought)
-        left_older brought e h = left_alone (updated date brought) (updated_older date (entry_of (slot_at u i)) brought (sym e ∙ not-false b h))
+        pub left_older : (brought : Option Direct) → b ≡ younger date (entry_of (slot_at u i)).direct → b ≡ true → u ≡ put t a (updated date brought)
+        left_older brought e h = left_alone (updated date brought) (updated_older date (entry_of (slot_at u i)) brought (sym e ∙ h))
 
-        pub left_unheard : (key : List ℕ) → b ≡ younger_gossip date (entry_of (slot_at u i)).gossip → not b ≡ false → u ≡ put t a (heard date key)
-        left_unheard key e h = left_alone (heard date key) (heard_older date (entry_of (slot_at u i)) key (sym e ∙ not-false b h))
+        pub left_unheard : (key : List ℕ) → b ≡ younger_gossip date (entry_of (slot_at u i)).gossip → b ≡ true → u ≡ put t a (heard date key)
+        left_unheard key e h = left_alone (heard date key) (heard_older date (entry_of (slot_at u i)) key (sym e ∙ h))
 
-  module _ (date : ℕ) (b : Bool) (h : not b ≡ true) where
+  module _ (date : ℕ) (b : Bool) (h : b ≡ false) where
     module _ (e : b ≡ younger date (entry_of (slot_at u i)).direct) where
       pub seen_raised : (v : List ℕ) → v ≡ with_slot u i (slot_of (seen_by date (entry_of (slot_at u i)))) → v ≡ put t a (updated date none)
       unfolding with_field
-      seen_raised v ev = written (updated date none) v (ev ∙ rw (updated_now date (entry_of (slot_at u i)) none (sym e ∙ not-true b h)))
+      seen_raised v ev = written (updated date none) v (ev ∙ rw (updated_now date (entry_of (slot_at u i)) none (sym e ∙ h)))
 
       pub field_set : (key : List ℕ) (m : Bool) (v : List ℕ)
           → v ≡ with_slot u i (slot_of (with_direct (record { timestamp = date; key = key; «mutual» = m }) (seen_by date (entry_of (slot_at u i)))))
@@ -190,11 +189,11 @@ module _ (t a u : List ℕ) (f : Found) (i : ℕ) (ef : f ≡ found (begun t a) 
       unfolding with_field
       field_set key m v ev =
           let d : Direct = record { timestamp = date; key = key; «mutual» = m } in
-          written (updated date (some d)) v (ev ∙ rw (updated_now date (entry_of (slot_at u i)) (some d) (sym e ∙ not-true b h)))
+          written (updated date (some d)) v (ev ∙ rw (updated_now date (entry_of (slot_at u i)) (some d) (sym e ∙ h)))
 
     pub gossip_set : b ≡ younger_gossip date (entry_of (slot_at u i)).gossip → (key v : List ℕ)
         → v ≡ with_slot u i (slot_of (with_gossip (record { timestamp = date; key = key }) (entry_of (slot_at u i)))) → v ≡ put t a (heard date key)
-    gossip_set e key v ev = written (heard date key) v (ev ∙ rw (heard_now date (entry_of (slot_at u i)) key (sym e ∙ not-true b h)))
+    gossip_set e key v ev = written (heard date key) v (ev ∙ rw (heard_now date (entry_of (slot_at u i)) key (sym e ∙ h)))
 
 pub nowhere : (t a u : List ℕ) (f : Found) (change : Entry → Entry) → f ≡ found (begun t a) a → u ≡ begun t a → f ≡ Nothing → u ≡ put t a change
 nowhere t a u f change ef eu en = eu ∙ sym (put_nothing t a change (sym ef ∙ en))

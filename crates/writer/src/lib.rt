@@ -28,6 +28,7 @@ fn append(out: &mut [u8], at: usize, text: &[u8]) -> usize
     at + text.len()
 }
 
+#[tactic(auto, using(crate::proofs::Parts::preferring))]
 fn append_preference(out: &mut [u8], at: usize, mutual: bool) -> usize
     requires { at + length (preference «mutual») ≤ length out.old }
     ensures value { result ≡ at + length (preference «mutual») }
@@ -41,6 +42,7 @@ fn append_preference(out: &mut [u8], at: usize, mutual: bool) -> usize
 }
 
 // Writes name and address to the front of `out`, and answers the place behind them.
+#[tactic(auto, using(crate::proofs::Placing::opening_up))]
 fn put_opening(name: &[u8], address: &[u8], out: &mut [u8]) -> usize
     requires { length (opening name.now address.now) ≤ length out.old }
     ensures value { result ≡ 0 + length (opening name.now address.now) }
@@ -52,6 +54,7 @@ fn put_opening(name: &[u8], address: &[u8], out: &mut [u8]) -> usize
 }
 
 // Writes what stands behind the address, from the place `at` on.
+#[tactic(auto, using(crate::proofs::Placing::attributing))]
 fn put_attributes(mutual: bool, key: &[u8], out: &mut [u8], at: usize)
     requires { at + length (attributes «mutual» key.now) ≤ length out.old }
     ensures { out.new ≡ put_at out.old at (attributes «mutual» key.now) }

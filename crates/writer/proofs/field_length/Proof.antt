@@ -7,4 +7,4 @@ pub field_length_spec : {M : Type 1} → fn.Statement.statement M
 field_length_spec =
     fn.Tie.close (fn.Tie.spec (λ c. search counting) (λ c. search counting) (λ c. search counting)
     (λ c. search counting) (λ c. search counting) (λ c. search counting)
-    (λ c. sum_fits _ _ c.lines-length.ensures _ (omega arith) (omega arith)) (λ c. search counting))
+    (λ c. sum_fits _ _ c.lines_length.ensures _ (omega arith) (omega arith)) (λ c. search counting))
