@@ -43,6 +43,7 @@ pub fn put_number(out: &mut [u8], at: usize, n: u64, end: u8) -> usize
 }
 
 // Writes a time, or a hyphen where there is none (W9), and a space behind it.
+#[tactic(auto, using(crate::proofs::Placing::choosing))]
 pub fn put_time(out: &mut [u8], at: usize, is_there: bool, seconds: u64) -> usize
     requires { Room out.old at (ended (time_text (present is_there seconds)) 32) }
     ensures { Put out.old out.new at (ended (time_text (present is_there seconds)) 32) result }
@@ -55,6 +56,7 @@ pub fn put_time(out: &mut [u8], at: usize, is_there: bool, seconds: u64) -> usiz
 }
 
 // Writes the preference, `mutual` or `none` (W8), and a space behind it.
+#[tactic(auto, using(crate::proofs::Placing::choosing))]
 pub fn put_preference(out: &mut [u8], at: usize, mutual: bool) -> usize
     requires { Room out.old at (ended (preference_text «mutual») 32) }
     ensures { Put out.old out.new at (ended (preference_text «mutual») 32) result }

@@ -1,3 +1,4 @@
+pub mod Names
 pub mod Values
 pub mod Finding
 pub mod Walking

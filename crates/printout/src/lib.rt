@@ -83,6 +83,7 @@ fn put_lines(t: &[u8], out: &mut [u8]) -> usize
 }
 
 // Writes what the listing program prints for its input to the front of `out`, and answers how long it is.
+#[tactic(auto, using(crate::proofs::Printing::printing))]
 pub fn print(input: &[u8], out: &mut [u8; ROOM]) -> usize
     ensures value { (result ≡ length (printed input.now)) × (result ≤ length out.new) }
     ensures out_after { out.new ≡ onto (printed input.now) out.old }

@@ -1,8 +1,0 @@
--- `columns::put_time` meets its contract: the laws of `Placing` answer every need. Assumes nothing.
-use Rattle.columns.proofs.Placing.{choosing}
-use Rattle.columns.proofs.put_time as fn
-
-pub put_time_spec : {M : Type 1} → fn.Statement.statement M
-put_time_spec =
-    fn.Tie.close (fn.Tie.spec (λ c. search choosing) (λ c. search choosing) (λ c. search choosing)
-    (λ c. search choosing) (λ c. search choosing) (λ c. search choosing) (λ c. search choosing))
