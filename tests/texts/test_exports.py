@@ -2,9 +2,7 @@
 
 A larger struct is answered by way of a hidden pointer, which the code expects where x86-64 passes it and a caller on
 aarch64 passes elsewhere. What is larger goes into lent numbers. The rule is held of the shipped exports, of the header that
-declares them, and of the tests' own exports.
-
-Each shipped export passes its arguments to the function of the crate cabi that has its name, and has the contract of that one.
+declares them, and of the tests' own exports. The shipped ones stand in the crate cexports, and what they answer in cabi.
 """
 import re
 import unittest
@@ -12,8 +10,8 @@ from pathlib import Path
 
 ROOT = Path(__file__).resolve().parents[2]
 HEADER = ROOT / "include" / "vienghulac.h"
-# The crates of exports, each with those whose structs it answers.
-CRATES = {"cexports": ("cabi", "cexports"), "probe": ("probe",)}
+SHIPPED = "cexports"
+CRATES = {SHIPPED: (SHIPPED, "cabi"), "probe": ("probe",)}  # with those that declare the structs
 LIMIT = 16
 WIDTHS = {"u8": 1, "u16": 2, "u32": 4, "u64": 8, "usize": 8, "i8": 1, "i16": 2, "i32": 4, "i64": 8, "isize": 8}
 C_WIDTHS = {"uint8_t": 1, "uint16_t": 2, "uint32_t": 4, "uint64_t": 8, "size_t": 8}
@@ -82,19 +80,6 @@ def faults(structs: Structs, exports: dict[str, str], widths: dict[str, int]) ->
     return [f"{name}: {words}" for name, words in found.items() if words]
 
 
-def functions(text: str) -> dict[str, tuple[str, str]]:
-    """The functions of the C interface: what each takes, answers and promises, on one line, and what it does."""
-    found = re.findall(r'pub (?:extern "C" )?fn (vienghulac_\w+)(\(.*?)\n\{\n(.*?)\n\}', without_comments(text), flags=re.DOTALL)
-    return {name: (re.sub(r",? ?\)", ")", " ".join(said.split()).replace("( ", "(")), " ".join(does.split())) for name, said, does in found}
-
-
-def other_contracts(exports: str, library: str) -> list[str]:
-    """The exports that do not just call the function of their name, or that have another contract."""
-    ours, theirs = functions(exports), functions(library)
-    thin = {name: re.fullmatch(rf"\w+::{name}\([\w, ]*\)", does) for name, (_, does) in ours.items()}
-    return [name for name, (said, _) in ours.items() if not thin[name] or name not in theirs or theirs[name][0] != said]
-
-
 def crate(name: str) -> str:
     return "\n".join(path.read_text() for path in sorted((ROOT / "crates" / name / "src").rglob("*.rt")))
 
@@ -102,34 +87,27 @@ def crate(name: str) -> str:
 class Exports(unittest.TestCase):
     def test_crates(self):
         for name, beside in CRATES.items():
-            text = crate(name)
-            structs, exports = declared("\n".join(crate(one) for one in beside))
-            self.assertEqual(len(exports), text.count("#[unsafe(no_mangle)]"), f"{name}: an export was not read")
+            text = "\n".join(crate(one) for one in beside)
+            structs, exports = declared(text)
+            self.assertGreater(len(exports), 10, name)
+            self.assertEqual(len(exports), without_comments(text).count("no_mangle"), f"{name}: an export was not read")
             self.assertEqual(faults(structs, exports, WIDTHS), [], name)
-
-    def test_contracts(self):
-        self.assertEqual(other_contracts(crate("cexports"), crate("cabi")), [])
-        self.assertEqual(set(functions(crate("cexports"))), set(functions(crate("cabi"))))
 
     def test_header(self):
         structs, exports = declared_in_c(HEADER.read_text())
-        self.assertEqual(set(exports), set(declared(crate("cexports"))[1]), "the header's functions are the crate's")
+        self.assertEqual(set(exports), set(declared(crate(SHIPPED))[1]), "the header's functions are the crate's")
         self.assertEqual(faults(structs, exports, C_WIDTHS), [])
 
     def test_rule(self):
         """The rule itself, on declarations that keep it and that break it."""
-        right = '#[repr(C)]\n#[derive(Clone, Copy)]\npub struct S { pub a: u32, pub b: u64 }\npub extern "C" fn f(x: &[u8]) -> S\n    ensures { x }\n{ g(x) }'
+        right = '#[repr(C)]\npub struct S { pub a: u32, pub b: u64 }\npub extern "C" fn f(x: &[u8]) -> S\n    ensures { x }\n{ g(x) }'
         self.assertEqual(faults(*declared(right), WIDTHS), [])
+        derived = right.replace("pub struct", "#[derive(Clone, Copy)]\npub struct").replace("ensures", "ensures value")
+        self.assertEqual(declared(derived), declared(right))
         for wrong in ("a: u64, pub b: u64, pub c: u8", "a: u8, pub b: u64, pub c: u8", "a: f64, pub b: u64", "a: bool"):
             text = right.replace("a: u32, pub b: u64", wrong)
             self.assertEqual(len(faults(*declared(text), WIDTHS)), 1, wrong)
         self.assertEqual(len(faults(*declared(right.replace("-> S", "-> T")), WIDTHS)), 1)
-        library = "// It.\npub fn vienghulac_f(\n    x: &[u8],\n    y: bool,\n) -> S\n    ensures { a }\n{\n    g(x)\n}\n"
-        export = 'pub extern "C" fn vienghulac_f(x: &[u8], y: bool) -> S\n    ensures { a }\n{\n    m::vienghulac_f(x, y)\n}\n'
-        self.assertEqual(other_contracts(export, library), [])
-        for wrong in (export.replace("{ a }", "{ b }"), export.replace("y: bool", "y: u8"), export.replace("m::vienghulac_f", "m::other"),
-                      export.replace("vienghulac_f", "vienghulac_h")):
-            self.assertEqual(len(other_contracts(wrong, library)), 1, wrong)
         c = "/* void h(void); */ typedef struct {\n    uint32_t a, b;\n    uint64_t c;\n} s;\ns f(const uint8_t *x,\n    size_t n);\nvoid g(bool b);"
         self.assertEqual(declared_in_c(c), ({"s": ["uint32_t", "uint32_t", "uint64_t"]}, {"f": "s", "g": "void"}))
         self.assertEqual(faults(*declared_in_c(c), C_WIDTHS), [])
