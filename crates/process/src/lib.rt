@@ -66,6 +66,7 @@ fn deliver_carrying(
 }
 
 // Refusals 3 to 8, with room for the values of the blocks that are read.
+#[tactic(auto, using(crate::proofs::Processing::telling, crate::proofs::Processing::reading_alone))]
 fn process_with(
     table: &mut [u8],
     tags: &mut [u32; Slot::MOST],
