@@ -25,6 +25,7 @@ const SHORT: usize = 8192;
 const MOST_RECIPIENTS: usize = header::LIMIT / 4;
 
 // Refusal 8 for a message whose payload is searched (R8): gossip counts that is about its recipients.
+#[tactic(auto, using(crate::proofs::Processing::rolling))]
 fn deliver_carrying(
     table: &mut [u8],
     tags: &mut [u32; Slot::MOST],
@@ -65,6 +66,7 @@ fn deliver_carrying(
 }
 
 // Refusals 3 to 8, with room for the values of the blocks that are read.
+#[tactic(auto, using(crate::proofs::Processing::telling, crate::proofs::Processing::reading_alone))]
 fn process_with(
     table: &mut [u8],
     tags: &mut [u32; Slot::MOST],

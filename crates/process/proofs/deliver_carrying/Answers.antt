@@ -1,0 +1,9 @@
+use Rattle.recipients.proofs.RecipientRoll.{gathered_tags}
+use Rattle.process.proofs.Processing.{rolling}
+use Rattle.process.proofs.deliver_carrying.Goals as goal
+
+pub gather-rolled-requires : goal.gather-rolled-requires
+gather-rolled-requires c = search rolling
+
+pub slice_bounds-deliver-end-2 : goal.slice_bounds-deliver-end-2
+slice_bounds-deliver-end-2 c = search gathered_tags
