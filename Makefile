@@ -21,7 +21,7 @@ test:
 
 lib:
 	@tools/install build
-	@tools/build-lib cabi vienghulac $(MACHINES)
+	@tools/build-lib cexports vienghulac $(MACHINES)
 
 probe:
 	@tools/install build
@@ -49,4 +49,4 @@ install: build/libvienghulac.so
 	sed 's|@PREFIX@|$(PREFIX)|; s|@VERSION@|$(VERSION)|' include/vienghulac.pc.in >"$(INTO)/lib/pkgconfig/vienghulac.pc"
 
 clean:
-	rm -rf build target
+	rm -rf build crates/*/out

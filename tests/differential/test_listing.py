@@ -1,6 +1,4 @@
 """W7 to W10: crate printout and the listing program against the independent program."""
-import platform
-import shutil
 import subprocess
 import unittest
 from pathlib import Path
@@ -68,20 +66,16 @@ class Printout(unittest.TestCase):
         self.assertEqual(len(self.same(tables.table_of(held))), 14 * (254 + 3 * 12 + 2 * 4 + 6 + 7))
 
 
-def program(name: str) -> list[str]:
-    """How a program of the repository is run: by the toolchain's own loader, and by its emulator where it brings one."""
-    kit = Path(shutil.which("rt")).resolve().parents[1]
-    tools = kit / "on" / platform.machine() / "toolchain"
-    emulator = tools / "bin" / "qemu-x86_64"
-    loader = [str(tools / "lib" / "ld-linux-x86-64.so.2"), "--library-path", str(tools / "lib")]
-    return [str(emulator)] * emulator.exists() + loader + [str(ROOT / "target" / "bin" / name)]
+def program(name: str) -> Path:
+    """A program of the repository, as `rt ci` leaves it."""
+    return ROOT / "crates" / name / "out" / name
 
 
 class Program(unittest.TestCase):
     def test_program(self):
         cases = Cases(SEED)
         command = program("listing")
-        self.assertTrue(Path(command[-1]).exists(), "rt check builds the programs")
+        self.assertTrue(command.exists(), "rt ci builds the programs")
         answers = set()
         for _ in range(400):
             given = cases.listing_input()

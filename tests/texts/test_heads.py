@@ -5,7 +5,7 @@ from pathlib import Path
 
 CRATES = Path(__file__).resolve().parents[2] / "crates"
 LISTED = re.compile(r"--     (\S.*?)(?:  +\S.*)?$")
-NAME = re.compile(r"[A-Za-z_][\w′-]*")
+NAME = re.compile(r"[A-Za-z_◌][\w'◌-]*")
 
 
 def names(text: str) -> list:
@@ -28,8 +28,8 @@ class Heads(unittest.TestCase):
         self.assertEqual({file: missing(text) for file, text in texts.items() if missing(text)}, {})
 
     def test_rule(self):
-        text = "-- About.\n--     here, gone    two\n--     one .. two    more\nuse A.{b}\n\nhere : ℕ\none : ℕ\ntwo = one\n"
-        self.assertEqual(missing(text), ["gone"])
+        text = "-- About.\n--     here, gone, so-far    two\n--     one .. ◌two◌, x'    more\nuse A.{b}\n\nhere : ℕ\nso_far : ℕ\none : ℕ\n◌two◌ = one\n"
+        self.assertEqual(missing(text), ["gone", "so-far", "x'"])
 
 
 if __name__ == "__main__":

@@ -1,4 +1,4 @@
-"""The documents name only what exists. These forms are read, in docs/, in the README and in CONTRIBUTING:
+"""The documents name only what exists. These forms are read, in docs/ but for docs/PORT.md, in the README and in CONTRIBUTING:
 
     places      crate/specs/File, crate/proofs/File, tests/..: the file or folder is there (`.antt` may be left out)
     parts       `crate/proofs/File: a`; `crate/proofs/File`: `a`, `b`; `a` of `crate/proofs/File`; `a`, `b` (`crate/specs/File`); and
@@ -22,25 +22,33 @@ from pathlib import Path
 
 ROOT = Path(__file__).resolve().parents[2]
 CRATES = sorted(path.name for path in (ROOT / "crates").iterdir() if path.is_dir())
-DOCS = [*sorted((ROOT / "docs").glob("*.md")), ROOT / "README.md", ROOT / "CONTRIBUTING.md"]
+BESIDE = ROOT / "docs/PORT.md"  # has the names of before beside those of today, as docs/changes/ has the names of its time
+DOCS = [*sorted({*(ROOT / "docs").glob("*.md")} - {BESIDE}), ROOT / "README.md", ROOT / "CONTRIBUTING.md"]
 SOURCES = ("crates", "include", "python", "tests", "bench", "tools")
-FOREIGN = {"EmailPolicy", "day-name", "py3-none-PLATFORM", "x86_64"}
+FOREIGN = {"EmailPolicy", "day-name", "py3-none-PLATFORM", "rattle-kit-13f", "x86_64"}
 
 CRATE = r"(?!crate/)[a-z][a-z0-9]*"
 INSIDE = rf"{CRATE}/(?:specs|proofs|src|must-fail)\b(?:/[\w+.]*\w)*"
 PLACE = rf"(?<![\w/*])(?:{INSIDE}|(?:%s)/[a-z][\w/.-]*\w)" % "|".join(SOURCES)
 LIST = r"`[^`]+`(?:(?:, | and | or )`[^`]+`)*"
 WORD = r"[^\W\d][\w']*(?:-\w+)*"
+LISTED = r"^(\w+)(?: staticlib)?:(.*)$"
 
 
 # What there is.
+
+
+def files_in(folder: str) -> list:
+    """What stands below a folder, but for what `rt` leaves in the folder out/ of a crate."""
+    made = {ROOT / "crates" / crate / "out" for crate in CRATES}
+    return [path for path in sorted((ROOT / folder).rglob("*")) if not made & {path, *path.parents}]
 
 
 @lru_cache(None)
 def source(*folders: str) -> str:
     """The sources in these folders, without comments; this file is none of them."""
     comments = {".rt": r"//.*", ".antt": r"^ *--.*", ".py": r"^ *#.*", ".h": r"\Z", ".c": r"\Z"}
-    files = [file for folder in folders for file in sorted((ROOT / folder).rglob("*")) if file.suffix in comments]
+    files = [file for folder in folders for file in files_in(folder) if file.suffix in comments]
     texts = [re.sub(comments[file.suffix], "", file.read_text(), flags=re.MULTILINE) for file in files if file.name != Path(__file__).name]
     return "\n".join(texts)
 
@@ -48,7 +56,7 @@ def source(*folders: str) -> str:
 @lru_cache(None)
 def words_of(*folders: str) -> set:
     """Every word of the sources, and what files are called, edits among them."""
-    files = {path.stem for folder in folders for path in (ROOT / folder).rglob("*")}
+    files = {path.stem for folder in folders for path in files_in(folder)}
     return files | set(re.findall(WORD, source(*folders)))
 
 
@@ -76,7 +84,8 @@ def defines(path: str, name: str) -> bool:
 
 def declares(crate: str, name: str) -> bool:
     """Do the sources of a crate declare this, or pass it on?"""
-    return re.search(rf"\b(?:fn|const|struct|enum|mod) {name}\b|\bpub use \w+::{name};", source(f"crates/{crate}/src")) is not None
+    passed_on = rf"\bpub use \w+::(?:\{{[^{{}}]*\b)?{name}\b"
+    return re.search(rf"\b(?:fn|const|struct|enum|mod) {name}\b|{passed_on}", source(f"crates/{crate}/src")) is not None
 
 
 def in_type(owner: str, name: str) -> bool:
@@ -167,8 +176,7 @@ def arrows(text: str) -> dict:
 
 def needed(text: str) -> dict:
     """What crates.txt says of each crate, of the crates here and without what one of the others uses as well."""
-    lines = [line.partition(":") for line in text.splitlines() if not line.startswith("#")]
-    uses = {crate: set(used.split()) & set(CRATES) for crate, _, used in lines}
+    uses = {crate: set(used.split()) & set(CRATES) for crate, used in re.findall(LISTED, text, re.MULTILINE)}
 
     @lru_cache(None)
     def below(crate: str) -> set:
@@ -215,7 +223,7 @@ class Names(unittest.TestCase):
         text = (ROOT / "docs/ARCHITECTURE.md").read_text()
         used = (ROOT / "crates.txt").read_text()
         self.assertEqual(sorted(in_list(text)), CRATES)
-        self.assertEqual(sorted(re.findall(r"^(\w+):", used, re.MULTILINE)), CRATES)
+        self.assertEqual(sorted(crate for crate, _ in re.findall(LISTED, used, re.MULTILINE)), CRATES)
         self.assertEqual(arrows(text), needed(used))
 
     def test_rule(self):
@@ -224,7 +232,7 @@ class Names(unittest.TestCase):
         picture = "```text\n+-- a box --+\n|  table -> slots, tags   slots -> octets  |\n|  octets    tags |\n+---+\n```\n|  no -> no |\n"
         drawn = {"table": {"slots", "tags"}, "slots": {"octets"}, "octets": set(), "tags": set()}
         self.assertEqual(arrows(picture), drawn)
-        self.assertEqual(needed("# a line\noctets:\ntags:\nslots: octets io\ntable: tags octets slots\n"), drawn)
+        self.assertEqual(needed("# a line\noctets:\ntags:\nslots: octets io\ntable staticlib: tags octets slots\n"), drawn)
         for form, right, *wrong in (
             (places, "see `table/specs/Table`", "see `table/specs/Tables`", "see tables/specs/Table", "tests/texts/test_name.py"),
             (parts, "`table/specs/Table: whole`", "`table/specs/Table: hole`", "`slots/specs/Slot: whole`"),
@@ -238,7 +246,7 @@ class Names(unittest.TestCase):
             (functions, "`tokens`: `comment` and `content`", "`tokens`: `comment` and `contents`"),
             (named_edits, "(must-fail `twice_unseen`)", "(must-fail `twice_seen`)", "(must-fail slots `twice_unseen`)"),
             (named_edits, "lookup `twice_unseen`", "slots `twice_unseen`", "lookups `twice_unseen`", "(slots, `twice_unseen`)"),
-            (words, "`has_room`, `applied-entry`, `hasRoom`, `HasDirect`", "`has_rooms`", "`applied-entries`", "`hasRooms`", "`HasDirects`"),
+            (words, "`has_room`, `prefer-encrypt`, `assertEqual`, `HasDirect`", "`has_rooms`", "`applied-entry`", "`hasRoom`", "`HasDirects`"),
             (statements, "    pub fn number(refusal: Refusal) -> u32", "    pub fn number(refusal: Refusal) -> u64"),
         ):
             self.assertTrue(form(right), right)

@@ -25,22 +25,22 @@ def only(pattern: str, file: str) -> int:
 
 class Header(unittest.TestCase):
     def test_slot(self):
-        self.assertEqual(macro("VIENGHULAC_SLOT"), defined("slotLength", "slots/specs/Slot.antt"))
+        self.assertEqual(macro("VIENGHULAC_SLOT"), defined("slot_length", "slots/specs/Slot.antt"))
 
     def test_slots(self):
-        self.assertEqual(macro("VIENGHULAC_SLOTS"), defined("mostSlots", "table/specs/Table.antt"))
+        self.assertEqual(macro("VIENGHULAC_SLOTS"), defined("most_slots", "table/specs/Table.antt"))
 
     def test_numbers(self):
-        self.assertEqual(macro("VIENGHULAC_NUMBERS"), defined("shownCount", "entry/specs/Shown.antt"))
+        self.assertEqual(macro("VIENGHULAC_NUMBERS"), defined("shown_count", "entry/specs/Shown.antt"))
 
     def test_field(self):
-        self.assertEqual(macro("VIENGHULAC_FIELD"), defined("fieldRoom", "write/specs/Writing.antt"))
+        self.assertEqual(macro("VIENGHULAC_FIELD"), defined("field_room", "write/specs/Writing.antt"))
 
     def test_display(self):
-        self.assertEqual(macro("VIENGHULAC_DISPLAY"), defined("displayRoom", "display/specs/Displaying.antt"))
+        self.assertEqual(macro("VIENGHULAC_DISPLAY"), defined("display_room", "display/specs/Displaying.antt"))
 
     def test_faults(self):
-        self.assertEqual(macro("VIENGHULAC_FAULTS"), defined("faultRoom", "lint/specs/Linting.antt"))
+        self.assertEqual(macro("VIENGHULAC_FAULTS"), defined("fault_room", "lint/specs/Linting.antt"))
 
 
 if __name__ == "__main__":

@@ -22,8 +22,8 @@ class Words(unittest.TestCase):
     def setUp(self):
         """Each number with its words, as the definitions have them."""
         text = (ROOT / "crates/refusals/specs/Refusals.antt").read_text()
-        numbers = dict(re.findall(r"^numberOf (.+) = (\d+)$", text, re.MULTILINE))
-        words = dict(re.findall(r'^wordsOf (.+) = "(.*)"$', text, re.MULTILINE))
+        numbers = dict(re.findall(r"^number_of (.+) = (\d+)$", text, re.MULTILINE))
+        words = dict(re.findall(r'^words_of (.+) = "(.*)"$', text, re.MULTILINE))
         self.assertEqual(list(numbers), list(words))
         self.defined = {int(numbers[name]): words[name] for name in numbers}
         self.assertEqual(list(self.defined), list(range(1, len(words) + 1)))

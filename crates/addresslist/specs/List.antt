@@ -1,8 +1,8 @@
 -- SCOPE, L8 to L18: lists of addresses. A list is read from its front, a token at a time, and the grammar (crate `grammar`) says
 -- which token may stand where.
---     opening_of, run_token .. first_token  tokens
---     listed, addresses                    the addresses of a list, none where it is unreadable
---     among                                an address is one of some
+--     opening_of, run_token .. first_token    tokens
+--     listed, addresses                       the addresses of a list, none where it is unreadable
+--     among                                   an address is one of some
 use Rattle.std.specs.Prelude.{ℕ, zero, suc, Bool, true, false, cond, ◌||◌, List, [], ◌∷◌, eqb, length, take, drop}
 use Rattle.std.proofs.Math.Option.{Option, some, none}
 use Rattle.octets.specs.Octets.{octet, same_octets}

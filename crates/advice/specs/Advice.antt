@@ -1,15 +1,15 @@
 -- SCOPE, page A: advice and target keys over entries. Which slots they stand in does not matter (C10).
---     patience, stale          35 days
---     direct_of, gossip_of     the keys of an entry that may be used
---     rated                    the advice for an entry before reply and preferences
---     raised, advice_for       the advice for a recipient
---     target_of                 the key to encrypt to
---     overall                  the advice for a whole list
+--     patience, stale            35 days
+--     direct_of, gossip_of       the keys of an entry that may be used
+--     rated                      the advice for an entry before reply and preferences
+--     raised, advice_for         the advice for a recipient
+--     target_of                  the key to encrypt to
+--     overall                    the advice for a whole list
 --     is_disable, first_disable  how many recipients of a list are looked up
---     DisableAt                where the first disable stands
---     advice_in, target_in     the advice and the key for an address, by what a table holds of it
---     advised, targets         the advice and the key for each address of a list
---     entries_for              what a table holds of each of them
+--     DisableAt                  where the first disable stands
+--     advice_in, target_in       the advice and the key for an address, by what a table holds of it
+--     advised, targets           the advice and the key for each address of a list
+--     entries_for                what a table holds of each of them
 use Rattle.std.specs.Prelude.{ℕ, suc, ◌+◌, ◌-◌, ◌≤◌, ◌≡◌, Bool, true, false, ◌&&◌, ◌||◌, List, [], ◌∷◌, map, ltb, take, get_or}
 use Rattle.std.proofs.Math.Option.{Option, some, none}
 use Rattle.octets.specs.Options.{or_else}

@@ -1,11 +1,11 @@
 -- SCOPE, page A, from entries to what the code reads and hands out: numbers of an entry, and parts of the table.
---     rated_as              the advice by the numbers of an entry
---     lower_of              the lower of two
---     no_part                the empty part
---     key_part, target_part  where the key to encrypt to lies in the table: for an entry, and for an address
---     target_at             where that of the address at a place of a list lies
---     octets_at             the octets of a part
---     Within                a part ends within the table
+--     rated_as                the advice by the numbers of an entry
+--     lower_of                the lower of two
+--     no_part                 the empty part
+--     key_part, target_part   where the key to encrypt to lies in the table: for an entry, and for an address
+--     target_at               where that of the address at a place of a list lies
+--     octets_at               the octets of a part
+--     Within                  a part ends within the table
 use Rattle.std.specs.Prelude.{ℕ, zero, suc, ◌+◌, ◌≤◌, true, false, List, [], ◌∷◌, length, take, drop}
 use Rattle.heads.specs.declared.Head.{Head}
 use Rattle.address.specs.Address.{canonical}

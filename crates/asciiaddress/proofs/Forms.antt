@@ -1,6 +1,6 @@
 -- Whether a text is its own canonical form: what the loops know that look for capitals, and the answers of the code.
 --     small_is                             an octet that is no capital is its own lower case
---     Small s all i                        what a loop knows that looks for one; small-begin .. small-end are its steps
+--     Small s all i                        what a loop knows that looks for one; small_begin .. small_end are its steps
 --     ascii_is                             an octet that is ASCII, besides
 --     small_steady .. small_broken         whether a local part is in lower case
 --     at_within, left_part, right_part     the two sides, by the place of the "@"

@@ -1,9 +1,9 @@
 -- SCOPE, L6, L7: what plain addresses are made of, and the rule for labels in ASCII; T16: the old rule, which knew no others.
---     longest, longest_local, longest_label  the limits
---     atom, local_part                       what stands before the `@`
---     free_ends                              what no label has at its ends
---     ascii_label, ascii_domain, ascii_plain  a plain address whose labels are ASCII
---     ascii_form, was_canonical              its form by the old rule; one that is its own
+--     longest, longest_local, longest_label     the limits
+--     atom, local_part                          what stands before the `@`
+--     free_ends                                 what no label has at its ends
+--     ascii_label, ascii_domain, ascii_plain    a plain address whose labels are ASCII
+--     ascii_form, was_canonical                 its form by the old rule; one that is its own
 use Rattle.std.specs.Prelude.{ℕ, ◌-◌, Bool, not, ◌&&◌, List, leb, eqb, length, get_or}
 use Rattle.octets.specs.Octets.{octet, same_octets, lowered}
 use Rattle.octets.specs.Tests.{every, one_to}

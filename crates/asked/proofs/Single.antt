@@ -1,5 +1,5 @@
 -- The one piece of a name that has no other, by the first such piece and whether one is behind it.
---     only_none, only_more, only_one_lem  its value, or that there is none such
+--     only_none, only_more, only_one_lem    its value, or that there is none such
 -- Assumes nothing.
 use Prim.Native.Nat.{ℕ}
 use mathlib.Core.Path.{◌≡◌, refl, sym, ap, ◌∙◌}

@@ -1,9 +1,9 @@
 -- From the definitions of Asked.antt to what the code answers (SCOPE, O6 to O9). An answer gives places of the value.
---     ValueAs               where the value of a piece stands
+--     ValueAs                 where the value of a piece stands
 --     saying_from, rest_from  the values of the pieces of a name from a place on, and behind the piece that ends at a place
 --     last_from, last_behind  whether the last piece has the name, from a place on and behind the piece that ends at a place
---     FoundAt, FoundAs      the first of these pieces
---     NamedAt, NamedAs      where the one address stands
+--     FoundAt, FoundAs        the first of these pieces
+--     NamedAt, NamedAs        where the one address stands
 use Rattle.std.specs.Prelude.{ℕ, ◌+◌, ◌≤◌, ◌≡◌, Bool, true, cond, List, [], ◌∷◌, ltb, length}
 use Rattle.std.proofs.Math.Option.{some, none}
 use Rattle.octets.specs.Octets.{octet}

@@ -1,10 +1,10 @@
 -- SCOPE, O6 to O9: what is asked of the value of an Autocrypt or Autocrypt-Gossip field, whatever spoils it.
 --     is_empty, last_of                 nothing is in a list; the last of some pieces
---     is_unknown, is_name, is_called  the name of a piece
---     value_of, values_called, saying  the values of the pieces of a name, in order
---     occurs                          there is such a piece
---     named_by, named                  the one address, in canonical form
---     is_base64, has_key_data         key data that is last, and Base64
+--     is_unknown, is_name, is_called    the name of a piece
+--     value_of, values_called, saying   the values of the pieces of a name, in order
+--     occurs                            there is such a piece
+--     named_by, named                   the one address, in canonical form
+--     is_base64, has_key_data           key data that is last, and Base64
 use Rattle.std.specs.Prelude.{ℕ, Bool, true, false, not, cond, ◌&&◌, List, [], ◌∷◌}
 use Rattle.std.proofs.Math.Option.{Option, some, none}
 use Rattle.octets.specs.Octets.{octet, same_octets, without_blanks}

@@ -1,6 +1,6 @@
 -- SCOPE, F2 to F5: one piece of the value of an Autocrypt or Autocrypt-Gossip field.
 --     trimmed_front, trimmed_back, trimmed   a name or a value without the blanks around it
---     name_of                                 which attribute a name stands for
+--     name_of                                which attribute a name stands for
 --     Attribute, attribute, attribute_of     what one piece says
 use Rattle.std.specs.Prelude.{ℕ, true, false, cond, List, [], ◌∷◌, reverse}
 use Rattle.octets.specs.Octets.{ascii, octet, same_octets, starts_with, blank}

@@ -1,11 +1,11 @@
 -- SCOPE, R33, R34, G1, A1, A6, A12 and O1: answers in numbers, as C has them.
---     in_numbers                       the number of a refusal, and the index that comes with 2; 0 and 0 where there is none
---     written_in_numbers               the length of the field; a refusal has none, and 0 stands for that
---     setting_of                        the gossip setting
---     advice_number, advice_in_numbers  the advice, 0 where the call refuses
---     quick_in_numbers                 the advice and how many recipients were looked up
---     part_in_numbers                  a part of the table
---     linted_in_numbers                how many faults there are, 0 where the call refuses
+--     in_numbers                          the number of a refusal, and the index that comes with 2; 0 and 0 where there is none
+--     written_in_numbers                  the length of the field; a refusal has none, and 0 stands for that
+--     setting_of                          the gossip setting
+--     advice_number, advice_in_numbers    the advice, 0 where the call refuses
+--     quick_in_numbers                    the advice and how many recipients were looked up
+--     part_in_numbers                     a part of the table
+--     linted_in_numbers                   how many faults there are, 0 where the call refuses
 use Rattle.std.specs.Prelude.{ℕ, true, false, eqb}
 use Rattle.refusals.specs.Refusals.{number_of, index_of}
 use Rattle.refusals.specs.declared.Answer.{Answer as Refusing}

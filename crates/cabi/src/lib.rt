@@ -1,6 +1,5 @@
-// The C interface, as include/vienghulac.h declares it: each export hands its arguments to the function of the library
-// that its comment names, and puts the answer into numbers. A slice is a pointer and a length in C. What no call can check
-// is the caller's to see to (C18).
+// The C interface, as include/vienghulac.h declares it: each function of that name hands its arguments to the function of the
+// library that its comment names, and puts the answer into numbers. The crate cexports has these functions under their C names.
 #![tactic(auto)]
 
 pub mod linting; // vienghulac_lint

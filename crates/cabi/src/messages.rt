@@ -26,8 +26,7 @@ fn setting_of(gossip: u8) -> Gossip
 // `gossip` is 1 to take gossip, 2 to skip it, any other number for unset, which skips it too (G1). Answers 0, or the number
 // of the refusal, 1 to 8 in the order of testing (U2), and with 2 the slot's index (R33). With a refusal the table stays as
 // it was (R32).
-#[unsafe(no_mangle)]
-pub extern "C" fn vienghulac_process(
+pub fn vienghulac_process(
     table: &mut [u8],
     receipt: u64,
     outer: &[u8],

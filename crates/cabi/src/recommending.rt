@@ -10,13 +10,7 @@ use crate::numbers::{Advice, Part, Quick};
 // addresses, not folded, `mutual` the user's own preference, and `reply` is 1 for a reply to an encrypted mail, else 0.
 // Answers 0 with an advice: 1 disable, 2 discourage, 3 available, 4 encrypt. Or it answers the number of the refusal, 1, 2
 // or 10 in the order of testing, with the slot's index where it is 2, and 0 for the advice.
-#[unsafe(no_mangle)]
-pub extern "C" fn vienghulac_recommend(
-    table: &[u8],
-    recipients: &[u8],
-    mutual: bool,
-    reply: bool,
-) -> Advice
+pub fn vienghulac_recommend(table: &[u8], recipients: &[u8], mutual: bool, reply: bool) -> Advice
     ensures { result ≡ advice_in_numbers (recommended_of table.now recipients.now «mutual» reply) }
 {
     numbers::advice_in_numbers(autocrypt::recommend(table, recipients, mutual, reply))
@@ -25,8 +19,7 @@ pub extern "C" fn vienghulac_recommend(
 // `recommend_quick` of the library: the same for the same arguments, and how many recipients were looked up (A12). That is
 // the place of the first with disable, from 1, and the length of the list where nobody has it (A13); with a refusal it is
 // 0, like the advice.
-#[unsafe(no_mangle)]
-pub extern "C" fn vienghulac_recommend_quick(
+pub fn vienghulac_recommend_quick(
     table: &[u8],
     recipients: &[u8],
     mutual: bool,
@@ -41,8 +34,7 @@ pub extern "C" fn vienghulac_recommend_quick(
 // length of a part of the table (A6). The other arguments are those of `vienghulac_recommend`. Both numbers are 0 where
 // the recipient has no key, where the place is past the list, and where `vienghulac_recommend` refuses (A7). The part is
 // no copy, and means what it meant until the next call that writes the table (A11).
-#[unsafe(no_mangle)]
-pub extern "C" fn vienghulac_target_key(
+pub fn vienghulac_target_key(
     table: &[u8],
     recipients: &[u8],
     mutual: bool,

@@ -2,7 +2,7 @@
 --     leaps_more, walked            the leap days up to a year, by its quotients, and the walk over the years
 --     years_closed, months_closed   the days before a March year, and in it before a month
 --     march-..                      the year in which a month lies
---     counted                       the code's sum is the count; enough, years-fit, days-fit: no step of it wraps
+--     counted                       the code's sum is the count; enough, years_fit, days_fit: no step of it wraps
 --     closed_count                  the whole count in one equation, for all years from 1900 on
 -- Assumes nothing.
 use Prim.Native.Nat.{ℕ, zero, suc, ◌+◌, ◌-◌, ◌*◌, ◌/◌, ◌%◌, ◌≤◌, ◌<◌}

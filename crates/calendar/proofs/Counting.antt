@@ -1,5 +1,5 @@
 -- The calendar: leap years, the lengths of the months, and how many days there can be.
---     leap-.., leapDay-..     the tests of a year, and what the definition says
+--     leap_.., leap_day_..    the tests of a year, and what the definition says
 --     each_month              what is computed for the twelve months
 --     month-..                the length of a month
 --     month_length_small, year_bound, month_bound, day_bound    bounds, so that no sum wraps

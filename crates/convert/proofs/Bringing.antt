@@ -4,7 +4,7 @@
 --     settle_seeks .. settled_own   where its form stands, and what is done
 --     form_never .. form_brought    its form, made in a buffer
 --     bring_free, bring_used        slot i as a whole
---     the rulesets                  absorbing, settling, bringing-used and bringing, for the functions of these names
+--     the rulesets                  absorbing, settling, bringing_used and bringing, for the functions of these names
 -- Assumes nothing.
 use Prim.Native.Nat.{ℕ, ◌+◌, ◌-◌, ◌*◌, ◌<◌, ◌≤◌}
 use mathlib.Core.Path.{◌≡◌, sym, ap, ◌∙◌}

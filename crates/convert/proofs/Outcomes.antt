@@ -6,7 +6,7 @@
 --     done_was_sound, was_sound_done  and 0 exactly for tables that were sound by the old rule
 --     done_sound, done_octets, done_entry    the table is then sound, and has the merged entries (C19)
 --     sound_untouched                 a sound table stays as it is (T19)
---     the rulesets                    converting-old, for `convert_old`; converting, for `convert`
+--     the rulesets                    converting_old, for `convert_old`; converting, for `convert`
 -- Assumes nothing.
 use Prim.Native.Nat.{ℕ}
 use mathlib.Core.Path.{◌≡◌, sym, ◌∙◌}

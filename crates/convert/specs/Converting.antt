@@ -1,10 +1,10 @@
 -- SCOPE, T16 to T18: a table of the old rule brought to the canonical form in force.
---     form_of, has_form          the form that the address of a slot gets; a used slot with this form
+--     form_of, has_form         the form that the address of a slot gets; a used slot with this form
 --     joined, gathered          what the first n slots have of a form, merged in slot order
 --     leads                     the lowest slot of its group
 --     slot_for, converted_at    the slot of an entry, or a free one; slot i once the first n are converted
---     table_of, converted        a table by its slots; the whole table converted
---     converting_rows .. left_by_converting  the call: its refusals, and the table that it leaves
+--     table_of, converted       a table by its slots; the whole table converted
+--     converting_rows .. left_by_converting    the call: its refusals, and the table that it leaves
 use Rattle.std.specs.Prelude.{ℕ, zero, suc, Bool, true, false, not, ◌&&◌, List, [], ◌++◌}
 use Rattle.std.proofs.Math.Option.{Option, some, none}
 use Rattle.octets.specs.Octets.{same_octets}

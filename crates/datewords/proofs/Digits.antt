@@ -2,7 +2,7 @@
 --     value_is, nothing_is       an answer of the code, and the number that the definition gives
 --     digit-..                   one digit
 --     Valued                     the loop's invariant: the number of the octets passed, then the definition of what is left
---     only-if-..                 where a definition has an answer, its tests hold
+--     only_if_..                 where a definition has an answer, its tests hold
 --     number_below, number_small     how large a number of so many digits is
 -- Assumes nothing.
 use Prim.Native.Nat.{ℕ, suc, ◌+◌, ◌-◌, ◌*◌, ◌^◌, ◌≤◌, ◌<◌}

@@ -1,7 +1,7 @@
 -- SCOPE, D3 to D12: the words of a Date, which are its tokens, and what each means at the place where it stands. A value is read
 -- from its front, a token at a time.
 --     opening_of, first_token   tokens
---     number_of, place_in         runs of digits, and names
+--     number_of, place_in       runs of digits, and names
 --     meant                     what a token means at each place of a date
 use Rattle.std.specs.Prelude.{ℕ, ◌+◌, ◌-◌, ◌*◌, ◌/◌, ◌%◌, Bool, true, false, ◌&&◌, List, [], ◌∷◌, leb, eqb, length, get_or, take, drop}
 use Rattle.std.proofs.Math.Option.{Option, some, none, bind}

@@ -1,7 +1,7 @@
 -- L23 as the decoder goes. Below, d is the lent memory as it came and e as it is left, and a decoder s says how far it is.
 --     Front, behind_of               how long the front of a text is, and where the numbers begin behind it
 --     Copied, Foreign, Basics        what copying the front comes to
---     run_from                        what the rest of a text comes to
+--     run_from                       what the rest of a text comes to
 --     Fine, Steps, Lands             the bounds that a decoder keeps, and what may be asked for under them
 --     Landing, Lost, Landed          what a number that ends comes to
 --     Going, Gone, Stepped           what one octet comes to

@@ -1,6 +1,6 @@
 -- SCOPE, T14: what a slot of the table holds, told as eleven numbers.
 --     shown_count       how many
---     start_of, placed   start and length of a part of a slot, in the table: 0 and 0 where it is empty
+--     start_of, placed  start and length of a part of a slot, in the table: 0 and 0 where it is empty
 --     told              the numbers of a slot: used or not, what octets 4 and 8 to 31 say, and where its three parts lie
 --     used_at           is there such a slot, and is it used?
 --     shown_at          the numbers of the slot at an index: zeros where it is free or past the end

@@ -1,7 +1,7 @@
 -- The numbers of faults written one after the other.
 --     kind_as, kind_none          `has_kind`: each kind, and no kind (the ruleset asking)
---     there_place .. none_laid    `put_fault`: a fault that is there, and one that is not (laying-one)
---     Laid                        `put_flaws`: the faults of the kinds below a number are written (laying-all)
+--     there_place .. none_laid    `put_fault`: a fault that is there, and one that is not (laying_one)
+--     Laid                        `put_flaws`: the faults of the kinds below a number are written (laying_all)
 --     laid_begin .. laid_all      the loop's steps
 -- Assumes nothing.
 use Prim.Native.Nat.{ℕ, ◌+◌, ◌-◌, ◌≤◌, ◌<◌}

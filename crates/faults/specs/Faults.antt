@@ -1,10 +1,10 @@
 -- SCOPE, O2 to O4: faults, and the kinds that a field has.
---     Fault                        a block, a place and a kind
+--     Fault                          a block, a place and a kind
 --     no_valid .. gossip_preference  the kinds
---     no_flaws, has_kind           which of them a field has
---     kinds_below, kinds           these in their order
---     faults_at                    the faults of the field at a place of a block
---     numbers_of                   faults as numbers, three for each
+--     no_flaws, has_kind             which of them a field has
+--     kinds_below, kinds             these in their order
+--     faults_at                      the faults of the field at a place of a block
+--     numbers_of                     faults as numbers, three for each
 use Rattle.std.specs.Prelude.{ℕ, zero, suc, Bool, false, cond, List, [], ◌∷◌, ◌++◌, eqb}
 use Rattle.faults.specs.declared.Flaws.{Flaws}
 

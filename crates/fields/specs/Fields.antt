@@ -1,6 +1,6 @@
 -- The fields of a block, and those that are asked for (SCOPE, B11 and B12).
 --     fields_in           the fields of a readable block
---     is_kind, values_of   the fields that are asked for
+--     is_kind, values_of  the fields that are asked for
 use Rattle.std.specs.Prelude.{ℕ, Bool, true, false, ◌||◌, List, [], ◌∷◌}
 use Rattle.octets.specs.Octets.{ascii, same_name}
 use Rattle.octets.specs.Options.{or_else}

@@ -1,6 +1,6 @@
 -- One walk over a block: whether it is readable (SCOPE, B1 and B8), and where the fields stand that are asked for (B12).
---     span_past, survey_new, survey_past  what the walk keeps, field by field
---     SpanAs, SurveyAs, SurveyedAs       what holds of it at the end
+--     span_past, survey_new, survey_past    what the walk keeps, field by field
+--     SpanAs, SurveyAs, SurveyedAs          what holds of it at the end
 use Rattle.std.specs.Prelude.{ℕ, ◌≡◌, Bool, true, false, List, [], eqb}
 use Rattle.octets.specs.Options.{is_some}
 use Rattle.header.specs.Header.{readable}

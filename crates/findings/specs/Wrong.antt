@@ -1,5 +1,5 @@
 -- SCOPE, O3: when a fault is there, kind by kind. It is said by the fields themselves, and not by a list of faults.
---     field_at        the field at a place, counted from 1
+--     field_at       the field at a place, counted from 1
 --     fields_on      the fields of a block
 --     fault          a block, a place and a kind
 --     LookedAt       a field that is looked at

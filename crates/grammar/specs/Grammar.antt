@@ -1,6 +1,6 @@
 -- SCOPE, L9, L10 and L13 to L15: the grammar of lists, which token may stand at each of its places.
 --     after_address                 behind an address
---     at_place .. at_behind, after   behind any other token, at each place of the grammar
+--     at_place .. at_behind, after  behind any other token, at each place of the grammar
 --     may_end                       where a list may end
 use Rattle.std.specs.Prelude.{Bool, true, false, not}
 use Rattle.grammar.specs.declared.Sort.{Sort}

@@ -1,6 +1,6 @@
 -- From the rule on key data, F9 of SCOPE, to the code's places: what the functions answer.
 --     NextLetter       what `next_letter` answers
---     step_of           what a text goes on with whose next four characters are a group
+--     step_of          what a text goes on with whose next four characters are a group
 --     NextGroup        what `next_group` answers
 --     WholeGroup       what `whole_group` answers
 use Rattle.std.specs.Prelude.{ℕ, ◌+◌, ◌<◌, ◌≤◌, ◌≡◌, List, [], ◌∷◌, length, drop}

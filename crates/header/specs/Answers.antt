@@ -1,6 +1,6 @@
 -- From the texts of `Header` to the places that the code answers (SCOPE, B14).
 --     fields_from, step_at  the fields from a place on, and what stands there
---     field_at               the field that stands at given places
+--     field_at              the field that stands at given places
 use Rattle.std.specs.Prelude.{ℕ, ◌+◌, ◌-◌, true, false, List, take, drop}
 use Rattle.std.proofs.Math.Option.{Option}
 use Rattle.runs.specs.Runs.{run_length}

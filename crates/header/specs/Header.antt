@@ -3,10 +3,10 @@
 --     limit                     how long a block may be
 --     of_ending, over           line endings; the end of a block
 --     closes, raw_length        the end of a field, its continuations included
---     opens_field, name_of ..    a field at the beginning of a text
+--     opens_field, name_of ..   a field at the beginning of a text
 --     unfolded                  a value without its line endings
 --     FieldText, fields         the fields of a block, its length aside
---     fields_of, readable        the fields of a block, or none where it is unreadable
+--     fields_of, readable       the fields of a block, or none where it is unreadable
 --     is_report                 is a Content-Type a report?
 -- Field names are compared by `same_name` of the crate octets (B11). What names are made of, and blanks, are classes of the crate
 -- runs.

@@ -1,11 +1,11 @@
 -- A head that was written reads back, behind any mark and whatever follows; and what was read is written as it stood.
---     Fit             each number fits its octets
---     bits_low        the bits are below 16
---     head_kept       the numbers of a head that was written
---     clear_kept      what must be clear is clear in it
---     head_octets_lem  and it is made of octets
---     bits_back       the bits that were read, written again
---     octets_back     so the whole head
+--     Fit                each number fits its octets
+--     bits_low           the bits are below 16
+--     head_kept          the numbers of a head that was written
+--     clear_kept         what must be clear is clear in it
+--     head_octets_lem    and it is made of octets
+--     bits_back          the bits that were read, written again
+--     octets_back        so the whole head
 -- Assumes nothing.
 use Prim.Native.Nat.{ℕ, ◌+◌, ◌*◌, ◌/◌, ◌%◌, ◌<◌, ◌≤◌}
 use mathlib.Core.Path.{◌≡◌, refl, sym, ap, ◌∙◌}

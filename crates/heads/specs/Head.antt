@@ -3,12 +3,12 @@
 --     part                       the octets from one place to another, both included
 --     head_length, time_limit    how far a head goes, and the latest time
 --     address_length .. gossip_length  the numbers, in the order in which they stand
---     head_of                     all of them, as the code's own `Head`
+--     head_of                    all of them, as the code's own `Head`
 --     empty_head                 those of an entry that holds an address only
 --     clear                      what is zero in every head
---     seen_sound, direct_sound, gossip_sound  the conditions on last seen and on the two halves
---     head_address .. head_gossip            what the writers change
---     bits_of .. head_octets      the 38 octets of a head
+--     seen_sound, direct_sound, gossip_sound    the conditions on last seen and on the two halves
+--     head_address .. head_gossip               what the writers change
+--     bits_of .. head_octets     the 38 octets of a head
 use Rattle.std.specs.Prelude.{ℕ, ◌+◌, ◌-◌, ◌/◌, ◌%◌, max, Bool, true, false, not, cond, ◌&&◌, ◌||◌, List, ◌++◌, leb, ltb, eqb, get_or, take, drop}
 use Rattle.octets.specs.Octets.{all_zero}
 use Rattle.octets.specs.Numbers.{number, digits}

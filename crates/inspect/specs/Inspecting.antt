@@ -1,9 +1,9 @@
 -- SCOPE, T13 and T14: a table looked at. Refusals 1 and 2, which every call on a table begins with, and one entry by its slot.
---     is_sound, broken_slot         what the check answers: nothing is wrong; the lowest slot that is
---     table_rows_by, table_rows     rows 1 and 2, by either rule; by the one in force
---     OpensBy, Opens                the answer on them, with the tags of the table where neither holds
---     showing_rows, refused_showing  one entry by its slot: rows 1, 2 and 12
---     left_by_showing               what the lent numbers hold afterwards. What they say is said by the crate `entry`
+--     is_sound, broken_slot           what the check answers: nothing is wrong; the lowest slot that is
+--     table_rows_by, table_rows       rows 1 and 2, by either rule; by the one in force
+--     OpensBy, Opens                  the answer on them, with the tags of the table where neither holds
+--     showing_rows, refused_showing   one entry by its slot: rows 1, 2 and 12
+--     left_by_showing                 what the lent numbers hold afterwards. What they say is said by the crate `entry`
 use Rattle.std.specs.Prelude.{ℕ, ◌≡◌, Bool, true, false, List, [], ◌∷◌, ◌++◌, leb, length}
 use Rattle.std.proofs.Math.Option.{Option}
 use Rattle.octets.specs.Written.{onto}

@@ -1,7 +1,7 @@
 -- C6: what a written value reads as. (`;` is 59.)
 --     key_trimmed                      trimming key data does not change its key
---     value_of                          the value that is written for an address, a preference and the text of a key
---     read-back, read_back_key         it is the field of that address in canonical form, that preference, and the key that the text stands for
+--     value_of                         the value that is written for an address, a preference and the text of a key
+--     read_back, read_back_key         it is the field of that address in canonical form, that preference, and the key that the text stands for
 -- Assumes nothing.
 use Prim.Native.Nat.{ℕ}
 use mathlib.Core.Path.{◌≡◌, refl, sym, ap, ◌∙◌}

@@ -1,6 +1,6 @@
 -- From the rules of page F to what the code answers and leaves in lent memory. An answer gives places of the value; what they show stands between
 -- them.
---     whole_of              what is answered where the key data stands
+--     whole_of             what is answered where the key data stands
 --     said_at, Scans       what the whole value says, as an answer shows it
 --     Opens                a key opens lent memory
 --     KeyAs                the answer on a key alone

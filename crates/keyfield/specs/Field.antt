@@ -1,8 +1,8 @@
 -- SCOPE, page F: what the value of an Autocrypt or Autocrypt-Gossip field says, unfolded. How many octets a key may have is said by `limit`, which
 -- is 2,048 for the slots of a table.
---     Said, said_of             what the whole value says, its key data still a text
---     limited, key_of           the key that key data stands for
---     Field, field_of           what a field says that is valid in form; none where it is spoiled
+--     Said, said_of            what the whole value says, its key data still a text
+--     limited, key_of          the key that key data stands for
+--     Field, field_of          what a field says that is valid in form; none where it is spoiled
 --     valid_for                what it says where it names the sender
 --     chosen                   what values come to, in order, those left out that come to nothing
 --     valid_fields, counted    the field that counts, among all Autocrypt fields of a message

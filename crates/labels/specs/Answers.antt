@@ -1,8 +1,8 @@
 -- From L7 and L22 of SCOPE to what the code answers on labels.
 --     judged             a label as it stands, without its form
---     code_of             the Punycode of code points, where there are any
+--     code_of            the Punycode of code points, where there are any
 --     fitting            a form that is not too long
---     label_of            the form of a label; what is no label has none
+--     label_of           the form of a label; what is no label has none
 use Rattle.std.specs.Prelude.{ℕ, Bool, cond, ◌&&◌, List, leb, length}
 use Rattle.std.proofs.Math.Option.{Option, some, none}
 use Rattle.octets.specs.Tests.{every}

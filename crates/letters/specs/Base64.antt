@@ -1,7 +1,7 @@
 -- SCOPE, F9: Base64 by RFC 4648, section 4. A text is a list of characters' codes.
 --     letter           the character of a value
---     sign_of           what a character stands for
---     group_of          what four characters stand for
+--     sign_of          what a character stands for
+--     group_of         what four characters stand for
 --     decode           the octets of a padded text with zero unused bits, or none
 --     octets_in        the octets, where there are some
 --     encode           the padded text of octets

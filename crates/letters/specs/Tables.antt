@@ -1,6 +1,6 @@
 -- Tables of the alphabet (SCOPE, F9), as code has them.
 --     Letters          a table that has the letter of each value
---     code_of, Signs    a sign as a number, and a table that has the number of each octet's sign
+--     code_of, Signs   a sign as a number, and a table that has the number of each octet's sign
 --     Low              a sign whose value, if it has one, is below 64
 use Rattle.std.specs.Prelude.{ℕ, ◌<◌, ◌≡◌, List, get_or}
 use Rattle.letters.specs.Base64.{letter, sign_of}

@@ -1,11 +1,11 @@
 -- What is known between the stages of looking a mail over (SCOPE, O1). Only the crate's own contracts speak of it.
---     faults_by, faults_with     the faults of a mail: with or without that of no valid field, and as it is
---     listed_of, left_by_listing  what row 12 leaves to be answered and written
---     Roomy                      there is room for the values of the blocks
---     Walked                     the outer block is readable
---     Sent                       the sender is known, and the payload is readable
---     Readied                    the recipients are known
---     PassedAs                   what a pass over both blocks answers and leaves
+--     faults_by, faults_with        the faults of a mail: with or without that of no valid field, and as it is
+--     listed_of, left_by_listing    what row 12 leaves to be answered and written
+--     Roomy                         there is room for the values of the blocks
+--     Walked                        the outer block is readable
+--     Sent                          the sender is known, and the payload is readable
+--     Readied                       the recipients are known
+--     PassedAs                      what a pass over both blocks answers and leaves
 use Rattle.std.specs.Prelude.{ℕ, ◌≤◌, min, ◌≡◌, Bool, true, List, ◌++◌, length}
 use Rattle.std.proofs.Math.Option.{some}
 use Rattle.octets.specs.Written.{onto}

@@ -31,6 +31,7 @@ const MOST_RECIPIENTS: usize = header::LIMIT / 4;
 
 // Looks both blocks over, and writes what is wrong to the list, as far as it goes. `valid` says whether the mail has a valid
 // Autocrypt field, as far as the caller knows; the answer says whether it has one.
+#[tactic(auto, using(crate::proofs::Passing::passing))]
 fn pass(
     outer: &[u8],
     payload: &[u8],

@@ -1,7 +1,7 @@
 -- What is wrong with one field.
 --     gossip_flawed                   `judge_gossip`: by what is asked of the value
 --     field_own .. field_other        `judge`: an Autocrypt field that counts, a gossip field, and any other
---     the rulesets                    judging-own, judging-gossip and judging, for `judge_own`, `judge_gossip` and `judge`
+--     the rulesets                    judging_own, judging_gossip and judging, for `judge_own`, `judge_gossip` and `judge`
 -- Assumes nothing.
 use Prim.Native.Nat.{ℕ, ◌-◌}
 use mathlib.Core.Path.{◌≡◌, sym, ◌∙◌}

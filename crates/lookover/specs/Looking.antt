@@ -1,12 +1,12 @@
 -- SCOPE, O2 to O9: what is wrong with the fields of a mail.
---     is_outer, side_number     the two blocks
---     is_valid                  a valid Autocrypt value
---     names_only, lists         a value with the sender's address, and with that of a recipient
---     own_flaws, gossip_flaws   what is wrong with a value of each name
---     is_own, flaws_of, valid_in  an Autocrypt field that counts, what is wrong with a field of a block, and whether it is a valid one
---     faults_from, valid_behind  the faults of fields from a place on, and whether one of these is valid
---     faults_in                 the faults of a block
---     missing, faults_of        those of both blocks
+--     is_outer, side_number        the two blocks
+--     is_valid                     a valid Autocrypt value
+--     names_only, lists            a value with the sender's address, and with that of a recipient
+--     own_flaws, gossip_flaws      what is wrong with a value of each name
+--     is_own, flaws_of, valid_in   an Autocrypt field that counts, what is wrong with a field of a block, and whether it is a valid one
+--     faults_from, valid_behind    the faults of fields from a place on, and whether one of these is valid
+--     faults_in                    the faults of a block
+--     missing, faults_of           those of both blocks
 use Rattle.std.specs.Prelude.{ℕ, ◌+◌, Bool, true, false, not, cond, ◌&&◌, ◌||◌, List, [], ◌∷◌, ◌++◌}
 use Rattle.std.proofs.Math.Option.{Option, some, none}
 use Rattle.octets.specs.Octets.{same_octets}

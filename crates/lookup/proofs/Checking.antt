@@ -7,7 +7,7 @@
 --     Judged how t n i                      the answer on n slots, at most 256, is that on those from i on
 --     judge_begin .. judges_next        the loop's steps
 --     checks_length .. checks_sound     the three answers, with the tags
---     the rulesets                      tagging, for `tag_at`; being-right, for `is_right`; looking-lower, for `in_lower`; judging, for `check`
+--     the rulesets                      tagging, for `tag_at`; being_right, for `is_right`; looking_lower, for `in_lower`; judging, for `check`
 -- Assumes nothing.
 use Prim.Native.Nat.{ℕ, ◌+◌, ◌-◌, ◌%◌, ◌<◌, ◌≤◌}
 use mathlib.Core.Path.{◌≡◌, sym, ap, ◌∙◌}

@@ -1,6 +1,6 @@
 -- SCOPE, T15 and T3: what a table has of an address, as the code hands it out: the numbers of its entry, and where the entry's keys begin.
---     held_at    of a slot
---     held_of    of an address
+--     held_at   of a slot
+--     held_of   of an address
 use Rattle.std.specs.Prelude.{ℕ, ◌+◌, ◌*◌, List}
 use Rattle.heads.specs.Head.{head_of}
 use Rattle.slots.specs.Slot.{slot_length, direct_at, gossip_at}

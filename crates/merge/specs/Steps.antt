@@ -1,6 +1,6 @@
 -- The steps in which the code merges two entries (T18), one for each part of an entry.
---     with_seen, with_later_gossip, with_later_direct  the entry, with one part of the other where that is later
---     Merges                                        what is asked for: a sound slot, and another that was sound by the old rule
+--     with_seen, with_later_gossip, with_later_direct    the entry, with one part of the other where that is later
+--     Merges                                             what is asked for: a sound slot, and another that was sound by the old rule
 use Rattle.std.specs.Prelude.{ℕ, ◌≡◌, true, List, length}
 use Rattle.heads.specs.Entry.{Direct, Gossip, Entry}
 use Rattle.slots.specs.Slot.{slot_length, sound_by, sound}

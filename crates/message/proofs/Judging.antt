@@ -50,14 +50,14 @@ module _ (payload : List ℕ) (g : Gossip) (u : Bool) (v : u ≡ taken g) where
     module _ (c : Bool) (e : c ≡ is_some (fields_of payload)) where
       pub judge_unreadable : c ≡ false → JudgedAs false payload g Unreadable
       unfolding JudgedAs
-      judge_unreadable z = record { no_report = refl; holds = rw takes (ap not (sym e) ∙ z) }
+      judge_unreadable z = record { no_report = refl; holds = rw takes (ap not (sym e ∙ z)) }
 
       pub judge_searched : c ≡ true → JudgedAs false payload g Searched
       unfolding JudgedAs payload_in
       judge_searched z =
           record {
             takes = takes;
-            passes = record { no_report = refl; no_row = rw takes (ap not (sym e) ∙ z); fields = rw (payload_in, takes) };
+            passes = record { no_report = refl; no_row = rw takes (ap not (sym e ∙ z)); fields = rw (payload_in, takes) };
             readably = sym e ∙ z;
           }
 

@@ -4,7 +4,7 @@
 --     read_unsent .. read_sent    refusal 5, and what is known of the sender
 --     sent_again .. read_bad      refusals 6 and 7
 --     read_alone, read_carrying   what the message brings
---     the rulesets                opening, for `read`; sending and asking, for `read_on`; judged-on and reading, for `read_sent`
+--     the rulesets                opening, for `read`; sending and asking, for `read_on`; judged_on and reading, for `read_sent`
 -- Assumes nothing.
 use Prim.Native.Nat.{ℕ, ◌-◌, ◌<◌, ◌≤◌}
 use mathlib.Core.Path.{◌≡◌, sym, ◌∙◌}

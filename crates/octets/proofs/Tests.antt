@@ -1,8 +1,8 @@
 -- Tests and what they say.
---     by_test                the two ways that a test can go
---     and_left, and_right    what an "and" that holds says
---     same_bool              two tests that were compared
---     all_below, all_below_lem  a test that passes at each number below another, by computing it
+--     by_test                     the two ways that a test can go
+--     and_left, and_right         what an "and" that holds says
+--     same_bool                   two tests that were compared
+--     all_below, all_below_lem    a test that passes at each number below another, by computing it
 -- Assumes nothing.
 use Prim.Native.Nat.{ℕ, zero, suc, ◌<◌, ◌≤◌}
 use mathlib.Core.Path.{◌≡◌, refl, sym}

@@ -8,8 +8,8 @@
 --     same_octets  the two lists are equal octet by octet, as a test
 --     lower        the small letter of an ASCII capital; any other octet is its own
 --     lowered      a list with each ASCII capital made small
---     same_name     equal but for the case of ASCII letters, as a test
---     starts_with   the first list opens the second
+--     same_name    equal but for the case of ASCII letters, as a test
+--     starts_with  the first list opens the second
 --     all_zero     nothing but zeros
 use Rattle.std.specs.Prelude.{ℕ, ◌+◌, ◌<◌, Bool, true, false, cond, ◌&&◌, ◌||◌, List, [], ◌∷◌, map, leb, eqb, get_or}
 use Prim.Native.Char.{Char, code}

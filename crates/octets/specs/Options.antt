@@ -1,5 +1,5 @@
 -- What may be absent, and lists, over any type.
---     is_some, or_else    whether it is there, and what stands for it where it is not
+--     is_some, or_else  whether it is there, and what stands for it where it is not
 --     in_front          an element in front of a list that may be absent
 --     only_one          the element of a list of exactly one
 --     IfSome, Each      what holds of it where it is there, and of each element of a list

@@ -1,5 +1,5 @@
 -- What lent memory holds after a write.
---     put_at    the list d with w written over it from the place `at` on
+--     put_at   the list d with w written over it from the place `at` on
 --     onto     d with w written over its beginning
 use Rattle.std.specs.Prelude.{ℕ, ◌+◌, List, ◌++◌, length, take, drop}
 

@@ -1,5 +1,5 @@
 -- C11, of two messages and one entry: which of them comes first does not matter, where they agree.
---     share_of, entry_share    what a message brings one address, and that this is all that it does to its entry
+--     share_of, entry_share   what a message brings one address, and that this is all that it does to its entry
 --     entry_keeps             a message keeps what is known of an entry
 --     entry_swap              two messages in either order
 -- Assumes nothing.

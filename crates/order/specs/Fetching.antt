@@ -3,7 +3,7 @@
 --     after, fetched_in    the table after one message, and after all of a list
 --     fits, all_fit_in     none of them is refused for room (8)
 --     slot_form            the form of slots
---     fetched, all_fit      both of slots
+--     fetched, all_fit     both of slots
 --     Agreeing             two messages that bring an address something at one date bring it the same
 --     SayTheSame           two tables of slots that hold the same of every address, and answer the same
 -- What a call brings is a message, or none where the call is refused by 3 to 7: no table is asked for that.

@@ -1,7 +1,7 @@
 -- SCOPE, W7 to W10: what the listing program prints.
 --     line                    columns as a line
---     line_of                  the line of an entry
---     slot_text, lines_from    the line of a slot, where it has one, and those of some slots
+--     line_of                 the line of an entry
+--     slot_text, lines_from   the line of a slot, where it has one, and those of some slots
 --     listing, printed        what is printed for a table by the answer of its check, and for any input
 --     line_room, room         room that a line, and all that is printed, never exceeds
 use Rattle.std.specs.Prelude.{ℕ, zero, suc, ◌+◌, ◌*◌, true, false, List, [], ◌∷◌, ◌++◌, leb, length}

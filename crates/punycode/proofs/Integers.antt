@@ -2,7 +2,7 @@
 --     value_digit                 the digit of a digit's octet
 --     some_same, value_below      a digit is below 36
 --     Within, threshold_within    a threshold lies between 1 and 26
---     first_digit, left-over      a digit that is not the last, and what is left behind it
+--     first_digit, left_over      a digit that is not the last, and what is left behind it
 --     integer_last, integer_more  one digit is written
 --     by_threshold                a number of one digit, or a smaller one behind its first digit
 --     integer_any, integer_some   what bounds the turns does not matter; there is a digit

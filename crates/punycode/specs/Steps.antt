@@ -1,5 +1,5 @@
 -- L23 as the code has it: what the functions of one digit and of one bias answer.
---     value_of      the digit of an octet, as an answer
+--     value_of     the digit of an octet, as an answer
 --     Threshold    a threshold, with its bounds
 --     Halved       what adapting begins with
 use Rattle.std.specs.Prelude.{ℕ, ◌/◌, ◌≤◌, ◌≡◌, Bool, cond}

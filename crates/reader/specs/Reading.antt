@@ -4,7 +4,7 @@
 --     handed_after             what is handed out after so many others
 --     opened, moved_on         a reader at the beginning of a block, and behind what it handed out
 --     taken_at                 what is handed out at a place, and where the reader goes on
---     text_of, field_of          the field that is handed out, and the field of a number of a list
+--     text_of, field_of        the field that is handed out, and the field of a number of a list
 use Rattle.std.specs.Prelude.{ℕ, zero, suc, List, [], ◌∷◌}
 use Rattle.std.proofs.Math.Option.{Option, some, none}
 use Rattle.std.specs.Borrow.{Bor}

@@ -1,7 +1,7 @@
 -- SCOPE, page R: each refusal's number, its words, and the index that comes with it.
---     number_of    the number of a refusal
---     words_of     the words of a refusal: the C header, the README and the Python package say the same
---     index_of     the index of the slot that refusal 2 is about; 0 with all others
+--     number_of   the number of a refusal
+--     words_of    the words of a refusal: the C header, the README and the Python package say the same
+--     index_of    the index of the slot that refusal 2 is about; 0 with all others
 use Rattle.std.specs.Prelude.{ℕ}
 use Prim.Native.String.{String}
 use Rattle.refusals.specs.declared.Refusal.{Refusal}

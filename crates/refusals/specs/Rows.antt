@@ -1,12 +1,12 @@
 -- SCOPE, R31: a call's refusals are a list of rows in the order of testing, each a refusal and its test; the first row that holds
 -- decides.
---     Row, _when_, _unless_    a refusal that is given where a test holds, or where it does not
---     first_of                  the refusal of the first row that holds; none where no row does
---     answered_by              what comes of a call: one thing if it is refused, another if it is not
+--     Row, ◌when◌, ◌unless◌      a refusal that is given where a test holds, or where it does not
+--     first_of                   the refusal of the first row that holds; none where no row does
+--     answered_by                what comes of a call: one thing if it is refused, another if it is not
 --     answer_of, unless_refused  the answer of a call with nothing else to say; what a call leaves that writes nothing where it is refused
---     number_in                 the number of a refusal, or 0 where there is none
---     Gives                    the row of a number holds and none before it; for 0, no row holds
---     some_holds               is there a row with this number that holds?
+--     number_in                  the number of a refusal, or 0 where there is none
+--     Gives                      the row of a number holds and none before it; for 0, no row holds
+--     some_holds                 is there a row with this number that holds?
 use Rattle.std.specs.Prelude.{ℕ, ◌≡◌, Bool, true, false, not, ◌&&◌, ◌||◌, List, [], ◌∷◌, eqb}
 use Rattle.std.proofs.Math.Option.{Option, some, none}
 use Rattle.refusals.specs.Refusals.{number_of}

@@ -1,6 +1,6 @@
 -- From W12 of SCOPE to what the code writes.
---     text_of         code points as a text, where there are any
---     either_of       a text where it is a label with just this form, else the form
+--     text_of        code points as a text, where there are any
+--     either_of      a text where it is a label with just this form, else the form
 --     shown_labels   the labels of a domain as they are shown, with the dots between them
 --     shown_form     what is shown of an address in canonical form
 use Rattle.std.specs.Prelude.{ℕ, cond, ◌&&◌, List, ◌∷◌, ◌++◌, map}

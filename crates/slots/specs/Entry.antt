@@ -1,6 +1,6 @@
 -- SCOPE, page T: the entry of a used slot, and the slot of an entry (T7).
---     entry_of                  the entry of a slot
---     padded, areas, slot_of    a text in its room, the three of an entry, and the whole slot
+--     entry_of                 the entry of a slot
+--     padded, areas, slot_of   a text in its room, the three of an entry, and the whole slot
 --     GoodKey .. Good          good entries, with the key limit of slots
 use Rattle.std.specs.Prelude.{ℕ, ◌-◌, List, ◌++◌, length, replicate}
 use Rattle.std.proofs.Math.Option.{Option}

@@ -1,12 +1,12 @@
 -- SCOPE, page T: one slot of 4,392 octets, what stands where in it, and when it is free or sound. The numbers of octets 2 to 39 are its head, by
 -- the crate heads.
---     slot_length, address_room, key_limit, mark  the limits and the mark
---     address_at .. gossip_area  where the address and the keys stand
---     address_of .. gossip_key_of  the address and the keys
---     free, free_slot            every octet is zero; the slot that is so
+--     slot_length, address_room, key_limit, mark    the limits and the mark
+--     address_at .. gossip_area     where the address and the keys stand
+--     address_of .. gossip_key_of   the address and the keys
+--     free, free_slot               every octet is zero; the slot that is so
 --     marked, spelled, zero_padding     the conditions of a sound slot, besides those on its head
---     sound_by                   all of them; that the address stands in no lower slot is the table's to say
---     sound                      with the spelling of addresses that is in force
+--     sound_by                      all of them; that the address stands in no lower slot is the table's to say
+--     sound                         with the spelling of addresses that is in force
 use Rattle.std.specs.Prelude.{ℕ, Bool, ◌&&◌, List, take, drop, replicate}
 use Rattle.octets.specs.Octets.{ascii, same_octets, all_zero}
 use Rattle.asciiaddress.specs.Ascii.{was_canonical}

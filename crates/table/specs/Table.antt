@@ -1,5 +1,5 @@
 -- SCOPE, page T: a table of 1 to 256 slots, when it is sound, and where an address stands in it.
---     slots, slot_at            its slots: how many, and the one at an index
+--     slots, slot_at           its slots: how many, and the one at an index
 --     with_slot                the table with one slot replaced
 --     unused                   a slot without the mark
 --     has_address              a used slot whose address this is

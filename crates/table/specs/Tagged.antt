@@ -1,5 +1,5 @@
 -- The tags of a table, which whoever opens it keeps beside it: a number of 32 bits for each slot, compared before octets are. No rule speaks of them.
---     tag_at             that of a slot: the tag of its address; 0 where it is not used
+--     tag_at            that of a slot: the tag of its address; 0 where it is not used
 --     TaggedTo t tags n the tags of the first n slots are there, in room for those of a whole table
 --     Tagged            those of all slots
 --     OpenBy            a sound table with its tags, by either rule

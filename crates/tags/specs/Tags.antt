@@ -1,8 +1,8 @@
 -- What is compared before addresses are: a number of 32 bits, made of the address. No caller sees it, so no rule of SCOPE is about
 -- it.
---     first_tag, with_octet, tag_after  it begins as 5381, and for each octet it is taken 33 times and the octet added, within 32 bits
---     tag_of                            the tag of an address
---     in_first                         is a number one of the first n of a list?
+--     first_tag, with_octet, tag_after    it begins as 5381, and for each octet it is taken 33 times and the octet added, within 32 bits
+--     tag_of                              the tag of an address
+--     in_first                            is a number one of the first n of a list?
 use Rattle.std.specs.Prelude.{ℕ, zero, suc, ◌+◌, ◌*◌, ◌%◌, ◌^◌, Bool, false, ◌||◌, List, [], ◌∷◌, ◌==◌, slice_index}
 
 -- the tag of no octets

@@ -3,7 +3,7 @@
 --     skipping_begin .. skipping_end    the loop's steps
 --     stays                        an octet that is neither blank nor "(" is where what is left begins
 --     skipped_suffix               what is left is a part of the text
---     skip_to                      an answer `To n`: what is left is the text from n on, and n is not before `at`; skip-left says the first alone
+--     skip_to                      an answer `To n`: what is left is the text from n on, and n is not before `at`; skip_left says the first alone
 --     skip_unreadable              an answer Unreadable: nothing is left
 -- Assumes nothing.
 use Prim.Native.Nat.{ℕ, suc, zero, ◌+◌, ◌<◌, ◌≤◌}

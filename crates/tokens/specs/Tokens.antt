@@ -1,7 +1,7 @@
 -- SCOPE, L1 to L5 and L11: blanks and comments, which lists and dates have (D5, D6), and quoted strings, which lists have. A reader
 -- takes the octets that are left and gives the octets that are left behind what it read, or none where the text is unreadable.
 --     control              control octets
---     kind_of               what an octet is inside a comment or a quoted string
+--     kind_of              what an octet is inside a comment or a quoted string
 --     past, skipped        behind spaces, tabs and comments
 --     after_quote          behind a quoted string
 use Rattle.std.specs.Prelude.{ℕ, zero, suc, Bool, true, false, cond, not, ◌&&◌, ◌||◌, List, [], ◌∷◌, ltb, eqb}

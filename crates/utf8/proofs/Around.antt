@@ -4,7 +4,7 @@
 --     first_greek .. first_rest      an octet from C0 on
 --     by_ascii .. by_first           any octet
 --     before_first .. small_is       the neighbours of a place in a text
---     the rulesets                   seconds, firsts, lowering-at and around
+--     the rulesets                   seconds, firsts, lowering_at and around
 -- Assumes nothing.
 use Prim.Native.Nat.{ℕ, suc, ◌+◌, ◌-◌, ◌<◌, ◌≤◌}
 use mathlib.Core.Path.{◌≡◌, sym, ap, ◌∙◌}

@@ -1,7 +1,7 @@
 -- Whether a text stays as it is, told by each octet and the one before it.
 --     ascii_stays, second_stays, first_stays    one octet, by its range
 --     stays_same                                all of a text
---     Steady s all a i                          what a loop knows that goes through one; steady-begin .. steady-end are its steps
+--     Steady s all a i                          what a loop knows that goes through one; steady_begin .. steady_end are its steps
 -- Assumes nothing.
 use Prim.Native.Nat.{ℕ, ◌+◌, ◌<◌, ◌≤◌}
 use mathlib.Core.Path.{◌≡◌, refl, sym, ap, ◌∙◌}

@@ -2,7 +2,7 @@
 --     bits_begin .. bits_end          the steps of a loop that puts octets together
 --     small_begin .. small_end        the steps of a loop that writes lower case
 --     put_text, put_broken            what is written where the text is well formed, and where not
---     the rulesets                    gathering, making-ascii, writing-small and putting-text
+--     the rulesets                    gathering, making_ascii, writing_small and putting_text
 -- Assumes nothing.
 use Prim.Native.Nat.{ℕ, suc, zero, ◌+◌, ◌<◌, ◌≤◌}
 use mathlib.Core.Path.{◌≡◌, refl, sym, ap, ◌∙◌}

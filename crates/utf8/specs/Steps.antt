@@ -1,7 +1,7 @@
 -- L20 and L21 as the code goes, an octet a turn. What these say of a text as a whole is proved from the definitions of Utf8
 -- and Lowering, and nobody has to believe it.
 --     all_ascii                   nothing but ASCII
---     second_of, first_of           the two octets of a code point below U+0800, each by the other
+--     second_of, first_of         the two octets of a code point below U+0800, each by the other
 --     lower_at                    any octet, by the one before it and the one behind it
 --     octetwise, small_at         so each octet of a text; the one at a place
 --     moves, stays_behind         does an octet become another, by the one before it? Does none in a text?

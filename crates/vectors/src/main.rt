@@ -7,7 +7,8 @@
 //     y TEXT   a year (D9): of each month, the days from 1 January 1900 to its first day, and its length (D8); or no year
 //     p TEXT   the Punycode of the code points of a text in UTF-8, put into lower case (L21, L23); or ill-formed, or no room
 //     u TEXT   the code points that a Punycode text decodes to (L23), as octets of UTF-8 in hexadecimal; or nothing, or no room
-// What it must print stands in `stdout`, as the independent program printed it.
+// What it must print stands in `stdout`, as the independent program printed it. A read or a write that fails ends it with that
+// error.
 #![tactic(auto)]
 
 ghost use Rattle.std.specs.Prelude.{◌≤◌, ◌≡◌, true, length};
@@ -18,18 +19,20 @@ use codepoints::Read;
 use datewords::meaning;
 use datewords::meaning::{Meaning, Place};
 use decoder::Decoded;
-use libc::STDOUT_FILENO;
 use octets::Laid;
+use std::io;
+
+// How many octets of cases are read.
+const MOST_INPUT: usize = 65536;
+
+// How many octets a key or its lines may have.
+const MOST_KEY: usize = 4096;
 
 // How many code points a case may have. Their code has room for as many octets.
 const MOST_POINTS: usize = 256;
 
 // Four octets for each of them (L20).
 const MOST_OCTETS: usize = 1024;
-
-fn print(text: &[u8]) {
-    io::write_all(STDOUT_FILENO, text);
-}
 
 // The place of the line's end that follows the place `at`, or the end of the text.
 fn line_end(s: &[u8], at: usize) -> usize
@@ -46,153 +49,148 @@ fn line_end(s: &[u8], at: usize) -> usize
     i
 }
 
-fn wide(x: u8) -> u64 {
-    x as u64
-}
-
-fn print_octets(s: &[u8]) {
-    let mut i = 0;
-    while i < s.len() {
-        io::print_hex(STDOUT_FILENO, wide(s[i]), 2);
-        i += 1;
+fn print_octets(rt: &impl Print, s: &[u8]) -> io::Result<()> {
+    for x in s {
+        print!(rt; "{x:02x}")?;
     }
-    print(b"\n");
+    rt.write_all(b"\n")
 }
 
-fn run_decode(text: &[u8]) {
-    let mut out = io::buffer();
+fn run_decode(rt: &impl Print, text: &[u8]) -> io::Result<()> {
+    let mut out = [0u8; MOST_KEY];
     match keydata::decode(text, &mut out) {
-        keydata::Decoded::Octets(n) => print_octets(&out[0..n]),
-        keydata::Decoded::Refused => print(b"spoiled\n"),
+        keydata::Decoded::Octets(n) => print_octets(rt, &out[0..n]),
+        keydata::Decoded::Refused => rt.write_all(b"spoiled\n"),
     }
 }
 
-fn run_lines(text: &[u8]) {
-    let mut out = io::buffer();
-    if 4096 < keylines::lines_length(text) {
-        return print(b"no room\n");
+fn run_lines(rt: &impl Print, text: &[u8]) -> io::Result<()> {
+    let mut out = [0u8; MOST_KEY];
+    if MOST_KEY < keylines::lines_length(text) {
+        return rt.write_all(b"no room\n");
     }
     let n = keylines::write_lines(text, &mut out, 0);
-    print(&out[0..n]);
+    rt.write_all(&out[0..n])
 }
 
-fn print_number(n: u64) {
-    io::print_decimal(STDOUT_FILENO, n);
-    print(b"\n");
+fn print_number(rt: &impl Print, n: u64) -> io::Result<()> {
+    println!(rt; "{n}")
 }
 
-fn print_place(r: tokens::Reached) {
+fn print_place(rt: &impl Print, r: tokens::Reached) -> io::Result<()> {
     match r {
-        tokens::Reached::To(n) => print_number(n as u64),
-        tokens::Reached::Unreadable => print(b"unreadable\n"),
+        tokens::Reached::To(n) => print_number(rt, n as u64),
+        tokens::Reached::Unreadable => rt.write_all(b"unreadable\n"),
     }
 }
 
-fn run_date(text: &[u8]) {
+fn run_date(rt: &impl Print, text: &[u8]) -> io::Result<()> {
     match date::date(text) {
-        date::Dated::Available(n) => print_number(n),
-        date::Dated::Unavailable => print(b"unavailable\n"),
+        date::Dated::Available(n) => print_number(rt, n),
+        date::Dated::Unavailable => rt.write_all(b"unavailable\n"),
     }
 }
 
-fn print_month(year: u64, month: u64)
+fn print_month(rt: &impl Print, year: u64, month: u64) -> io::Result<()>
     requires le_year { (1900 ≤ year) × (year ≤ 9999) }
     requires le_month { (1 ≤ month) × (month ≤ 12) }
 {
-    io::print_decimal(STDOUT_FILENO, calendar::day_count(year, month, 1));
-    print(b" ");
-    print_number(calendar::month_length(year, month));
+    let days = calendar::day_count(year, month, 1);
+    let length = calendar::month_length(year, month);
+    println!(rt; "{days} {length}")
 }
 
-fn print_year(year: u64)
+fn print_year(rt: &impl Print, year: u64) -> io::Result<()>
     requires { (1900 ≤ year) × (year ≤ 9999) }
 {
     let mut month = 1;
     while month <= 12 {
-        print_month(year, month);
+        print_month(rt, year, month)?;
         month += 1;
     }
+    Ok(())
 }
 
-fn run_year(text: &[u8]) {
+fn run_year(rt: &impl Print, text: &[u8]) -> io::Result<()> {
     match meaning::meant(Place::Year, text) {
-        Meaning::Value(year) => print_year(year),
-        Meaning::Nothing => print(b"no year\n"),
+        Meaning::Value(year) => print_year(rt, year),
+        Meaning::Nothing => rt.write_all(b"no year\n"),
     }
 }
 
-fn print_line(s: &[u8]) {
-    print(s);
-    print(b"\n");
+fn print_line(rt: &impl Print, s: &[u8]) -> io::Result<()> {
+    rt.write_all(s)?;
+    rt.write_all(b"\n")
 }
 
-fn print_code(points: &[u32])
+fn print_code(rt: &impl Print, points: &[u32]) -> io::Result<()>
     requires { Points 256 points.now }
 {
     let mut out = [0u8; MOST_POINTS];
     match coder::encode(points, &mut out) {
-        Laid::At(n) => print_line(&out[..n]),
-        Laid::NoRoom => print(b"no room\n"),
+        Laid::At(n) => print_line(rt, &out[..n]),
+        Laid::NoRoom => rt.write_all(b"no room\n"),
     }
 }
 
-fn run_code(text: &[u8]) {
+fn run_code(rt: &impl Print, text: &[u8]) -> io::Result<()> {
     let mut points = [0u32; MOST_POINTS];
     match codepoints::read_small(text, &mut points) {
-        Read::Points(n) => print_code(&points[..n]),
-        Read::Bad => print(b"ill-formed\n"),
-        Read::Full => print(b"no room\n"),
+        Read::Points(n) => print_code(rt, &points[..n]),
+        Read::Bad => rt.write_all(b"ill-formed\n"),
+        Read::Full => rt.write_all(b"no room\n"),
     }
 }
 
-fn print_text(points: &[u32])
+fn print_text(rt: &impl Print, points: &[u32]) -> io::Result<()>
     requires { scalars points.now ≡ true }
 {
     let mut out = [0u8; MOST_OCTETS];
     match codepoints::write(points, &mut out, 0) {
-        Laid::At(n) => print_octets(&out[..n]),
-        Laid::NoRoom => print(b"no room\n"),
+        Laid::At(n) => print_octets(rt, &out[..n]),
+        Laid::NoRoom => rt.write_all(b"no room\n"),
     }
 }
 
-fn run_points(text: &[u8]) {
+fn run_points(rt: &impl Print, text: &[u8]) -> io::Result<()> {
     if MOST_POINTS < text.len() {
-        return print(b"no room\n");
+        return rt.write_all(b"no room\n");
     }
     let mut points = [0u32; MOST_POINTS];
     match decoder::decode(text, &mut points) {
-        Decoded::Points(n) => print_text(&points[..n]),
-        Decoded::Nothing => print(b"nothing\n"),
+        Decoded::Points(n) => print_text(rt, &points[..n]),
+        Decoded::Nothing => rt.write_all(b"nothing\n"),
     }
 }
 
-fn run(line: &[u8]) {
+fn run(rt: &impl Print, line: &[u8]) -> io::Result<()> {
     if line.len() < 2 {
-        return;
+        return Ok(());
     }
     let kind = line[0];
     let text = &line[2..];
     match kind {
-        b'b' => run_decode(text),
-        b'e' => run_lines(text),
-        b'k' => print_place(tokens::skip(text, 0)),
-        b'q' => print_place(tokens::quoted(text, 1)),
-        b'd' => run_date(text),
-        b'y' => run_year(text),
-        b'p' => run_code(text),
-        b'u' => run_points(text),
-        _ => print(b"?\n"),
+        b'b' => run_decode(rt, text),
+        b'e' => run_lines(rt, text),
+        b'k' => print_place(rt, tokens::skip(text, 0)),
+        b'q' => print_place(rt, tokens::quoted(text, 1)),
+        b'd' => run_date(rt, text),
+        b'y' => run_year(rt, text),
+        b'p' => run_code(rt, text),
+        b'u' => run_points(rt, text),
+        _ => rt.write_all(b"?\n"),
     }
 }
 
-fn main() {
-    let mut space = io::large_buffer();
-    let n = io::read_full(libc::STDIN_FILENO, &mut space);
+fn main(rt: HostRuntime) -> io::Result<()> {
+    let mut space = [0u8; MOST_INPUT];
+    let n = input::read_full(&mut rt.reader(), &mut space)?;
     let cases: &[u8] = &space[..n];
     let mut at = 0;
     while at < cases.len() {
         let end = line_end(cases, at);
-        run(&cases[at..end]);
+        run(&rt, &cases[at..end])?;
         at = end + 1;
     }
+    Ok(())
 }

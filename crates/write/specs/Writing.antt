@@ -2,7 +2,7 @@
 --     autocrypt_field, gossip_field  the two fields
 --     field_room                     room that neither exceeds
 --     writing_rows, refused_writing  rows 9, 11 and 12
---     written_of, left_by_writing     the answer, and what the output holds afterwards
+--     written_of, left_by_writing    the answer, and what the output holds afterwards
 use Rattle.std.specs.Prelude.{ℕ, Bool, false, List, [], ◌∷◌, leb, length}
 use Rattle.std.proofs.Math.Option.{Option}
 use Rattle.octets.specs.Written.{onto}

@@ -3,7 +3,7 @@
 --     room_name .. opening_put       name and address
 --     room_preference .. attributes_put    what stands behind them
 --     room_opening .. field_put      both
---     the rulesets                   opening-up, attributing, joining, for `put_opening`, `put_attributes` and `put_field`
+--     the rulesets                   opening_up, attributing, joining, for `put_opening`, `put_attributes` and `put_field`
 -- Assumes nothing.
 use Prim.Native.Nat.{ℕ, ◌+◌, ◌≤◌}
 use mathlib.Core.Path.{◌≡◌}

@@ -1,0 +1,6 @@
+-- answered here, and not left to the check, so that the edit `absent_time_as_zero` is refused by "no proof" and not by a limit
+use Rattle.columns.proofs.Placing.{choosing}
+use Rattle.columns.proofs.put_time.Goals as goal
+
+pub put_text-requires : goal.put_text-requires
+put_text-requires c = search choosing
