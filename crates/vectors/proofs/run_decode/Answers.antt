@@ -1,0 +1,7 @@
+use Rattle.std.proofs.Common.{sym, ◌∙◌, arith}
+use Rattle.keydata.proofs.Answered.{octets_answered}
+use Rattle.vectors.proofs.run_decode.Goals as goal
+
+pub slice_bounds-print_octets-end : goal.slice_bounds-print_octets-end
+slice_bounds-print_octets-end g c =
+    omega (arith, (octets_answered _ _ c.in-Octets.n (sym c.in-Octets.is ∙ c.decode.ensures.value)).2, c.decode.auto)
