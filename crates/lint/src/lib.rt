@@ -31,7 +31,6 @@ const MOST_RECIPIENTS: usize = header::LIMIT / 4;
 
 // Looks both blocks over, and writes what is wrong to the list, as far as it goes. `valid` says whether the mail has a valid
 // Autocrypt field, as far as the caller knows; the answer says whether it has one.
-#[tactic(auto, using(crate::proofs::Passing::passing))]
 fn pass(
     outer: &[u8],
     payload: &[u8],
@@ -156,6 +155,7 @@ fn lint_sent(
 }
 
 // Refusals 5, 7 and 12, with the outer block walked over.
+#[tactic(auto, using(crate::proofs::Calling::walking))]
 fn lint_walked(
     outer: &[u8],
     survey: Survey,

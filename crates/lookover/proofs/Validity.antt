@@ -59,7 +59,10 @@ said_as ignored = 4
 
 never_ignored : (what : Called) → eqb (called_as what) 4 ≡ false
 unfolding called_as
-never_ignored what = elim what [ Addr ↦ refl | PreferEncrypt ↦ refl | Keydata ↦ refl | Unknown ↦ refl ]
+never_ignored Addr = refl
+never_ignored PreferEncrypt = refl
+never_ignored Keydata = refl
+never_ignored Unknown = refl
 
 -- a name is what its attribute is called, whatever the value
 abbrev Alike : List ℕ → Type 0
@@ -67,15 +70,24 @@ Alike n = (what : Called) (v : List ℕ) → is_name what n ≡ eqb (called_as w
 
 name_addr : Alike names.addr
 unfolding is_name same_octets is_unknown is_empty is_other name_of attribute called_as said_as
-name_addr what v = elim what [ Addr ↦ refl | PreferEncrypt ↦ refl | Keydata ↦ refl | Unknown ↦ refl ]
+name_addr Addr v = refl
+name_addr PreferEncrypt v = refl
+name_addr Keydata v = refl
+name_addr Unknown v = refl
 
 name_prefer : Alike names.prefer_encrypt
 unfolding is_name same_octets is_unknown is_empty is_other name_of attribute called_as said_as
-name_prefer what v = elim what [ Addr ↦ refl | PreferEncrypt ↦ refl | Keydata ↦ refl | Unknown ↦ refl ]
+name_prefer Addr v = refl
+name_prefer PreferEncrypt v = refl
+name_prefer Keydata v = refl
+name_prefer Unknown v = refl
 
 name_key : Alike names.keydata
 unfolding is_name same_octets is_unknown is_empty is_other name_of attribute called_as said_as
-name_key what v = elim what [ Addr ↦ refl | PreferEncrypt ↦ refl | Keydata ↦ refl | Unknown ↦ refl ]
+name_key Addr v = refl
+name_key PreferEncrypt v = refl
+name_key Keydata v = refl
+name_key Unknown v = refl
 
 module _ (n : List ℕ) (a : same_octets n names.addr ≡ false) (p : same_octets n names.prefer_encrypt ≡ false) (k : same_octets n names.keydata ≡ false) where
   name_ignored : starts_with (ascii "_") n ≡ true → Alike n

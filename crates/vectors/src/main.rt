@@ -111,6 +111,7 @@ fn print_year(rt: &impl Print, year: u64) -> io::Result<()>
     Ok(())
 }
 
+#[tactic(auto, using(crate::proofs::Dating::dating))]
 fn run_year(rt: &impl Print, text: &[u8]) -> io::Result<()> {
     match meaning::meant(Place::Year, text) {
         Meaning::Value(year) => print_year(rt, year),
@@ -133,6 +134,7 @@ fn print_code(rt: &impl Print, points: &[u32]) -> io::Result<()>
     }
 }
 
+#[tactic(auto, using(crate::proofs::Coding::reading_code))]
 fn run_code(rt: &impl Print, text: &[u8]) -> io::Result<()> {
     let mut points = [0u32; MOST_POINTS];
     match codepoints::read_small(text, &mut points) {
@@ -152,6 +154,7 @@ fn print_text(rt: &impl Print, points: &[u32]) -> io::Result<()>
     }
 }
 
+#[tactic(auto, using(crate::proofs::Coding::reading_text))]
 fn run_points(rt: &impl Print, text: &[u8]) -> io::Result<()> {
     if MOST_POINTS < text.len() {
         return rt.write_all(b"no room\n");

@@ -1,5 +1,4 @@
--- What the loop of `vectors::main` keeps. Assumes nothing.
-use Rattle.std.proofs.Common.{length, ◌-◌, ◌≤◌}
+use Rattle.std.proofs.Common.{◌≤◌, ◌-◌, length}
 use Rattle.vectors.proofs.main.Given as goal
 
 abbrev pub invariant-loop-at : goal.invariant-loop-at

@@ -1,5 +1,4 @@
--- What the loop of `vectors::print_year` keeps. Assumes nothing.
-use Rattle.std.proofs.Common.{◌-◌, ◌≤◌}
+use Rattle.std.proofs.Common.{◌≤◌, ◌-◌}
 use Rattle.vectors.proofs.print_year.Given as goal
 
 abbrev pub invariant-loop-month : goal.invariant-loop-month

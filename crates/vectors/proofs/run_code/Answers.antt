@@ -1,4 +1,3 @@
--- The code points that `vectors::run_code` hands on are those that the coder takes, by the laws of `Coding`. Assumes nothing.
 use Rattle.vectors.proofs.Coding.{reading_code}
 use Rattle.vectors.proofs.run_code.Goals as goal
 
