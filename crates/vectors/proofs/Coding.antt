@@ -1,7 +1,6 @@
 -- Code points that are read into an array of the program, and what is written from them (L20, L21, L23).
 --     code_prefix .. code_points       those of a text, in lower case: as many as the coder takes
 --     text_prefix .. text_points       those that a code stands for: they may be written
---     written_prefix, written_count    what was written opens the array
 -- Assumes nothing.
 use Prim.Native.Nat.{ℕ, ◌≤◌}
 use mathlib.Core.Path.{◌≡◌, sym}
@@ -11,10 +10,6 @@ use native.Mathlib.Omega.{arith}
 use borrow.Author.Rules.{rules}
 use lib.ListN.{length, take}
 use lib.Seq.{length-take-le}
-use Rattle.octets.specs.Puts.{Written, Puts}
-use Rattle.octets.specs.declared.Laid.{Laid}
-use Rattle.octets.specs.declared.Laid.TheVariants.{At}
-use Rattle.octets.proofs.Puts.{wrote_long}
 use Rattle.utf8.specs.Utf8.{points, scalars}
 use Rattle.codepoints.specs.Reading.{small_of, Shown, Reads}
 use Rattle.codepoints.specs.declared.Read.{Read}
@@ -63,16 +58,3 @@ module _ (c p₀ p : List ℕ) (o : Decoded) (n : ℕ) (a : o ≡ Shows n) (q : 
   text_points = decode_scalars c (take n p) stands.text
 
 pub ruleset reading_text = (text_prefix, text_count, text_points, rules)
-
--- the memory d as it came, and e as w is written over it
-module _ (d e w : List ℕ) (r : Laid) (n : ℕ) (a : r ≡ At n) (h : Puts d e 0 w r) where
-  written : Written d 0 e n w []
-  written = rw a at h
-
-  pub written_prefix : n ≤ length e
-  written_prefix = omega (arith, wrote_long d 0 e n w [] written, written.room)
-
-  pub written_count : n ≡ length (take n e)
-  written_count = sym (length-take-le n e written_prefix)
-
-pub ruleset printing = (written_prefix, written_count, rules)
