@@ -7,7 +7,7 @@ use Prim.Native.Nat.{ℕ, ◌+◌, ◌-◌, ◌<◌, ◌≤◌}
 use mathlib.Core.Path.{◌≡◌, refl, sym, ap, ◌∙◌}
 use mathlib.Core.Bool.{true, ◌&&◌, and-true}
 use mathlib.Core.List.{List, [], ◌∷◌, ◌++◌, append-nil, append_assoc}
-use mathlib.Core.Option.{some, none}
+use Rattle.std.specs.Prelude.{Some, None}
 use mathlib.Core.Logic.{⊎_elim}
 use native.Mathlib.Omega.{arith}
 use borrow.Author.Rules.{rules}
@@ -76,14 +76,14 @@ join_begin d s from at l m =
     }
 
 -- a domain that has a form
-pub domain_of_lem : (t w : List ℕ) → domain_of t ≡ some w → (domain t ≡ true) × (w ≡ domain_form t)
+pub domain_of_lem : (t w : List ℕ) → domain_of t ≡ Some w → (domain t ≡ true) × (w ≡ domain_form t)
 unfolding domain_of
 domain_of_lem t w e =
     by_test (domain t)
-    (λ h. (h, let p : some w ≡ some (domain_form t) = sym e ∙ rw h in cc))
-    (λ h. absurd (let p : none ≡ some w = rw h at e in let z : ◌≡◌ {A = ℕ} 0 1 = cc in omega arith))
+    (λ h. (h, let p : Some w ≡ Some (domain_form t) = sym e ∙ rw h in cc))
+    (λ h. absurd (let p : None ≡ Some w = rw h at e in let z : ◌≡◌ {A = ℕ} 0 1 = cc in omega arith))
 
-pub of_domain : (t w : List ℕ) → domain t ≡ true → domain_form t ≡ w → domain_of t ≡ some w
+pub of_domain : (t w : List ℕ) → domain t ≡ true → domain_form t ≡ w → domain_of t ≡ Some w
 unfolding domain_of
 of_domain t w h e = rw (h, e)
 

@@ -13,7 +13,7 @@ use Prim.Native.Nat.{ℕ, ◌+◌, ◌-◌, ◌<◌, ◌≤◌}
 use mathlib.Core.Path.{◌≡◌, refl, sym, ap, ◌∙◌}
 use mathlib.Core.Bool.{Bool, true, false, false≢true}
 use mathlib.Core.List.{List, [], ◌∷◌, ◌++◌, append_assoc}
-use mathlib.Core.Option.{some, none}
+use Rattle.std.specs.Prelude.{Some, None}
 use native.Mathlib.Nat.{zero-add, sub-zero}
 use native.Mathlib.Omega.{arith}
 use borrow.Author.Rules.{rules}
@@ -59,16 +59,16 @@ use Rattle.address.proofs.Growing.{plain_long}
 use Rattle.address.proofs.Joining.{domain_of_lem, of_domain}
 
 module _ (s : List ℕ) where
-  pub form_of_lem : plain s ≡ true → form_of s ≡ some (canonical s)
+  pub form_of_lem : plain s ≡ true → form_of s ≡ Some (canonical s)
   unfolding form_of
   form_of_lem p = rw p
 
-  pub of_form : (w : List ℕ) → form_of s ≡ some w → (plain s ≡ true) × (w ≡ canonical s)
+  pub of_form : (w : List ℕ) → form_of s ≡ Some w → (plain s ≡ true) × (w ≡ canonical s)
   unfolding form_of
   of_form w e =
       by_test (plain s)
-      (λ p. (p, let q : some w ≡ some (canonical s) = sym e ∙ form_of_lem p in cc))
-      (λ p. absurd (let q : none ≡ some w = rw p at e in let z : ◌≡◌ {A = ℕ} 0 1 = cc in omega arith))
+      (λ p. (p, let q : Some w ≡ Some (canonical s) = sym e ∙ form_of_lem p in cc))
+      (λ p. absurd (let q : None ≡ Some w = rw p at e in let z : ◌≡◌ {A = ℕ} 0 1 = cc in omega arith))
 
   -- a plain address has a local part, with an "@" behind it
   pub local_of_lem : plain s ≡ true → local_of s ≡ Part (length (before 64 s))
@@ -160,7 +160,7 @@ module _ (s d : List ℕ) (l : length d ≡ 254) (g : Local) (e : g ≡ local_of
           let f : plain s ≡ true = whole (ap domain (sym rest) ∙ y.0) (omega (arith, c, h.room, part_kept)) in
           record {
             text = address_form s;
-            is = form_of_lem s f ∙ ap some (canonical_form s f);
+            is = form_of_lem s f ∙ ap Some (canonical_form s f);
             writes =
                 h.writes
                 ∙ rw (k, front)

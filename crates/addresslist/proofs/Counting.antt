@@ -6,7 +6,7 @@
 use Prim.Native.Nat.{ℕ, ◌+◌, ◌≤◌}
 use mathlib.Core.Path.{◌≡◌, refl, sym, ap, ◌∙◌}
 use mathlib.Core.List.{List, ◌∷◌}
-use mathlib.Core.Option.{Option, some, none}
+use Rattle.std.specs.Prelude.{Option, Some, None}
 use native.Mathlib.Omega.{arith}
 use native.Mathlib.Nat.{zero-add, add-zero}
 use borrow.Author.Rules.{rules}
@@ -22,18 +22,18 @@ use Rattle.addresslist.specs.declared.Counted.TheVariants.{Count, Unreadable as 
 use Rattle.addresslist.proofs.Handing.{left_beginning, hand_gives, hand_later, hand_within, hand_less, hand_end, hand_unread}
 
 unfoldable pub counted : ℕ → Option (List (List ℕ)) → Counted
-counted n none = Uncounted
-counted n (some rest) = Count (n + length rest)
+counted n None = Uncounted
+counted n (Some rest) = Count (n + length rest)
 
 from_none : (o : Option (List (List ℕ))) → counted_of o ≡ counted 0 o
 unfolding counted_of counted
-from_none none = refl
-from_none (some rest) = ap Count (sym (zero-add (length rest)))
+from_none None = refl
+from_none (Some rest) = ap Count (sym (zero-add (length rest)))
 
 one_more : (n : ℕ) (a : List ℕ) (o : Option (List (List ℕ))) → counted n (in_front a o) ≡ counted (n + 1) o
 unfolding counted in_front
-one_more n a none = refl
-one_more n a (some rest) = let e : n + length (a ∷ rest) ≡ (n + 1) + length rest = omega arith in ap Count e
+one_more n a None = refl
+one_more n a (Some rest) = let e : n + length (a ∷ rest) ≡ (n + 1) + length rest = omega arith in ap Count e
 
 pub record Counting (s : List ℕ) (n : ℕ) (here : ListCursor) : Type 0 where
   pub so_far : counted_of (addresses s) ≡ counted n (left s here)

@@ -11,7 +11,7 @@ use mathlib.Core.Path.{◌≡◌, refl, sym, ap, ◌∙◌}
 use mathlib.Core.Logic.{⊎_elim}
 use mathlib.Core.Bool.{Bool, true, false, cond}
 use mathlib.Core.List.{List}
-use mathlib.Core.Option.{some}
+use Rattle.std.specs.Prelude.{Some}
 use native.Mathlib.Omega.{arith}
 use native.Mathlib.Nat.{sub-zero}
 use borrow.Author.Rules.{rules}
@@ -164,7 +164,7 @@ module _ (s : List ℕ) (at : ℕ) (r : Reached) (e : r ≡ reached s (skipped (
   came : (n : ℕ) → r ≡ To n → at < length s → Left s at n (skipped (drop at s))
   came n q l = skip_to s at r e n q (omega arith)
 
-  left_at : (n : ℕ) → r ≡ To n → skipped (drop at s) ≡ some (drop n s)
+  left_at : (n : ℕ) → r ≡ To n → skipped (drop at s) ≡ Some (drop n s)
   unfolding past
   left_at n q =
       ⊎_elim

@@ -8,7 +8,7 @@ use Prim.Native.Nat.{ℕ, ◌-◌, ◌<◌, ◌≤◌}
 use mathlib.Core.Path.{◌≡◌}
 use mathlib.Core.Bool.{true}
 use mathlib.Core.List.{List, []}
-use mathlib.Core.Option.{some, none}
+use Rattle.std.specs.Prelude.{Some, None}
 use native.Mathlib.Omega.{arith}
 use lib.ListN.{length}
 use Rattle.octets.specs.Options.{in_front}
@@ -52,8 +52,8 @@ module _ (s : List ℕ) (c : ListCursor) (k : NextAddress) (p : Hands s c k) whe
     pub hand_less : length s - next.at < length s - c.at
     hand_less = omega (arith, hand_later, hand_within)
 
-  pub hand_end : k ≡ End → left s c ≡ some []
+  pub hand_end : k ≡ End → left s c ≡ Some []
   hand_end q = rw q at p
 
-  pub hand_unread : k ≡ Unreadable → left s c ≡ none
+  pub hand_unread : k ≡ Unreadable → left s c ≡ None
   hand_unread q = rw q at p

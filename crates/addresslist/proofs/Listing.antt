@@ -8,7 +8,7 @@ use Prim.Native.Nat.{ℕ, zero, suc, ◌<◌}
 use mathlib.Core.Path.{◌≡◌, refl, sym, ap, ◌∙◌}
 use mathlib.Core.Bool.{Bool, true, false}
 use mathlib.Core.List.{List, [], ◌∷◌, ◌++◌}
-use mathlib.Core.Option.{Option, some, none}
+use Rattle.std.specs.Prelude.{Option, Some, None}
 use native.Mathlib.Omega.{arith}
 use lib.ListN.{length, take, drop, length-drop, length-append, take-append-drop}
 use Rattle.octets.specs.Options.{in_front}
@@ -66,8 +66,8 @@ unfolding quoted_token
 quoted_stands x s = go (after_quote false s) refl
   where
     go : (o : Option (List ℕ)) → after_quote false s ≡ o → Stands (x ∷ s) (quoted_token (x ∷ s))
-    go none e = rw (quoted_token, e) tt
-    go (some rest) e =
+    go None e = rw (quoted_token, e) tt
+    go (Some rest) e =
         let h : Suffix rest s = suffix_one s (quote_suffix false s rest e) in
         rw (quoted_token, e) (behind x h, omega (arith, suffix_length h))
 
@@ -93,8 +93,8 @@ unfolding first_token
 stands s t p = rw p at (go (skipped s) refl)
   where
     go : (o : Option (List ℕ)) → skipped s ≡ o → Stands s (first_token s)
-    go none e = rw (first_token, e) tt
-    go (some rest) e = rw (first_token, e) (from_longer s rest (token_at rest) (skipped_suffix s rest e) (at_stands rest))
+    go None e = rw (first_token, e) tt
+    go (Some rest) e = rw (first_token, e) (from_longer s rest (token_at rest) (skipped_suffix s rest e) (at_stands rest))
 
 -- an address has an octet at least
 shorter : (s a rest : List ℕ) → Suffix (a ++ rest) s → plain a ≡ true → length rest < length s
@@ -108,7 +108,7 @@ module _ (n : ℕ) (stage : Stage) (inside : Bool) (s : List ℕ) where
     unfolding listed_by
     by_address next inner p = rw (listed_by, e, p)
 
-    by_address_wrong : after_address stage inside ≡ Wrong → listed_by (suc n) stage inside s ≡ none
+    by_address_wrong : after_address stage inside ≡ Wrong → listed_by (suc n) stage inside s ≡ None
     unfolding listed_by
     by_address_wrong p = rw (listed_by, e, p)
 
@@ -118,22 +118,22 @@ module _ (n : ℕ) (stage : Stage) (inside : Bool) (s : List ℕ) where
     unfolding listed_by
     by_other next inner p = rw (listed_by, e, p)
 
-    by_other_wrong : after stage inside sort ≡ Wrong → listed_by (suc n) stage inside s ≡ none
+    by_other_wrong : after stage inside sort ≡ Wrong → listed_by (suc n) stage inside s ≡ None
     unfolding listed_by
     by_other_wrong p = rw (listed_by, e, p)
 
-  by_end : (b : Bool) → first_token s ≡ end → may_end stage inside ≡ b → listed_by (suc n) stage inside s ≡ elim b [ true ↦ some [] | false ↦ none ]
+  by_end : (b : Bool) → first_token s ≡ end → may_end stage inside ≡ b → listed_by (suc n) stage inside s ≡ elim b [ true ↦ Some [] | false ↦ None ]
   unfolding listed_by
   by_end b e p = rw (listed_by, e, p)
 
-  by_unread : first_token s ≡ unreadable → listed_by (suc n) stage inside s ≡ none
+  by_unread : first_token s ≡ unreadable → listed_by (suc n) stage inside s ≡ None
   unfolding listed_by
   by_unread e = rw (listed_by, e)
 
 -- what the first token makes of a list, however many others are counted
 data Turn (stage : Stage) (inside : Bool) (s : List ℕ) : Type 0 where
-  over : ((n : ℕ) → listed_by (suc n) stage inside s ≡ some []) → Turn stage inside s
-  unread : ((n : ℕ) → listed_by (suc n) stage inside s ≡ none) → Turn stage inside s
+  over : ((n : ℕ) → listed_by (suc n) stage inside s ≡ Some []) → Turn stage inside s
+  unread : ((n : ℕ) → listed_by (suc n) stage inside s ≡ None) → Turn stage inside s
   hands :
       (a rest : List ℕ) (next : Stage) (inner : Bool) → Suffix (a ++ rest) s → plain a ≡ true → after_address stage inside ≡ On next inner
       → ((n : ℕ) → listed_by (suc n) stage inside s ≡ in_front a (listed_by n next inner rest)) → Turn stage inside s
@@ -193,7 +193,7 @@ module _ (stage : Stage) (inside : Bool) (s : List ℕ) where
         by_address (length s) stage inside s a rest e next inner p
         ∙ ap (in_front a) (anew s rest next inner (shorter s a rest (stands s (address a rest) e).0 (stands s (address a rest) e).1))
 
-    pub listed_address_wrong : after_address stage inside ≡ Wrong → listed stage inside s ≡ none
+    pub listed_address_wrong : after_address stage inside ≡ Wrong → listed stage inside s ≡ None
     unfolding listed
     listed_address_wrong p = by_address_wrong (length s) stage inside s a rest e p
 
@@ -203,21 +203,21 @@ module _ (stage : Stage) (inside : Bool) (s : List ℕ) where
     listed_other next inner p =
         by_other (length s) stage inside s sort rest e next inner p ∙ anew s rest next inner (stands s (other sort rest) e).1
 
-    pub listed_other_wrong : after stage inside sort ≡ Wrong → listed stage inside s ≡ none
+    pub listed_other_wrong : after stage inside sort ≡ Wrong → listed stage inside s ≡ None
     unfolding listed
     listed_other_wrong p = by_other_wrong (length s) stage inside s sort rest e p
 
-  pub listed_end : (b : Bool) → first_token s ≡ end → may_end stage inside ≡ b → listed stage inside s ≡ elim b [ true ↦ some [] | false ↦ none ]
+  pub listed_end : (b : Bool) → first_token s ≡ end → may_end stage inside ≡ b → listed stage inside s ≡ elim b [ true ↦ Some [] | false ↦ None ]
   unfolding listed
   listed_end b e p = by_end (length s) stage inside s b e p
 
-  pub listed_unread : first_token s ≡ unreadable → listed stage inside s ≡ none
+  pub listed_unread : first_token s ≡ unreadable → listed stage inside s ≡ None
   unfolding listed
   listed_unread e = by_unread (length s) stage inside s e
 
 -- a fact P on a place of the grammar, a list and what it gives from there on
-module _ (P : Stage → List ℕ → Option (List (List ℕ)) → Type 0) (at_end : (stage : Stage) (s : List ℕ) → P stage s (some []))
-    (unreadably : (stage : Stage) (s : List ℕ) → P stage s none)
+module _ (P : Stage → List ℕ → Option (List (List ℕ)) → Type 0) (at_end : (stage : Stage) (s : List ℕ) → P stage s (Some []))
+    (unreadably : (stage : Stage) (s : List ℕ) → P stage s None)
     (front :
     (stage next : Stage) (inside inner : Bool) (s a rest : List ℕ) (o : Option (List (List ℕ))) → after_address stage inside ≡ On next inner
     → Suffix (a ++ rest) s → plain a ≡ true → P next rest o → P stage s (in_front a o))

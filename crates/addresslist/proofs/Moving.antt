@@ -7,7 +7,7 @@ use Prim.Native.Nat.{ℕ, ◌-◌, ◌<◌, ◌≤◌}
 use mathlib.Core.Path.{◌≡◌, refl, sym, ap, ◌∙◌}
 use mathlib.Core.Bool.{Bool, true, false}
 use mathlib.Core.List.{List, []}
-use mathlib.Core.Option.{some, none}
+use Rattle.std.specs.Prelude.{Some, None}
 use native.Mathlib.Omega.{arith}
 use borrow.Author.Rules.{rules}
 use lib.ListN.{length, drop}
@@ -51,7 +51,7 @@ module _ (s : List ℕ) (c : ListCursor) (g : TokenAt) (e : found_in s g ≡ fir
           goes_on = refl;
         }
 
-    pub move_hand_wrong : r ≡ Wrong → left s c ≡ none
+    pub move_hand_wrong : r ≡ Wrong → left s c ≡ None
     unfolding left
     move_hand_wrong t = listed_address_wrong c.stage c.inside (drop c.at s) (between s from to) (drop to s) first (sym p ∙ t)
 
@@ -72,20 +72,20 @@ module _ (s : List ℕ) (c : ListCursor) (g : TokenAt) (e : found_in s g ≡ fir
           upto = h.1;
         }
 
-    pub move_on_wrong : r ≡ Wrong → left s c ≡ none
+    pub move_on_wrong : r ≡ Wrong → left s c ≡ None
     unfolding left
     move_on_wrong t = listed_other_wrong c.stage c.inside (drop c.at s) sort (drop to s) second (sym p ∙ t)
 
   module _ (q : g ≡ Over) (b : Bool) (p : b ≡ may_end c.stage c.inside) where
-    pub move_end : b ≡ true → left s c ≡ some []
+    pub move_end : b ≡ true → left s c ≡ Some []
     unfolding left found_in
     move_end t = listed_end c.stage c.inside (drop c.at s) true (found Over q) (sym p ∙ t)
 
-    pub move_cut : b ≡ false → left s c ≡ none
+    pub move_cut : b ≡ false → left s c ≡ None
     unfolding left found_in
     move_cut t = listed_end c.stage c.inside (drop c.at s) false (found Over q) (sym p ∙ t)
 
-  pub move_unread : g ≡ Unfound → left s c ≡ none
+  pub move_unread : g ≡ Unfound → left s c ≡ None
   unfolding left found_in
   move_unread q = listed_unread c.stage c.inside (drop c.at s) (found Unfound q)
 

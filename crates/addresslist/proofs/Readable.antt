@@ -9,7 +9,7 @@ use mathlib.Core.Path.{◌≡◌, refl, sym, ap, ◌∙◌}
 use mathlib.Core.Logic.{⊎_elim}
 use mathlib.Core.Bool.{true, false, false≢true}
 use mathlib.Core.List.{List, [], ◌∷◌, ◌++◌}
-use mathlib.Core.Option.{Option, some, none}
+use Rattle.std.specs.Prelude.{Option, Some, None}
 use native.Mathlib.Omega.{arith}
 use borrow.Author.Tests.{ne_eqb}
 use lib.ListN.{length, get_or}
@@ -78,7 +78,7 @@ first_plain (x ∷ s) p =
     let o : address_octet x ≡ true = plain_at (x ∷ s) p 0 (omega arith) in
     rw (first_token, stays x s (not_blank x o) (opens_none x o), token_at, sym (opens_run x true (sym o) refl)) (run_plain (x ∷ s) p)
 
-pub plain_alone : (a : List ℕ) → plain a ≡ true → addresses a ≡ some (a ∷ [])
+pub plain_alone : (a : List ℕ) → plain a ≡ true → addresses a ≡ Some (a ∷ [])
 unfolding addresses after_address in_front first_token past token_at
 plain_alone a p =
     listed_address Place false a a [] (first_plain a p) Behind false refl
@@ -95,10 +95,10 @@ each_plain (a ∷ list) e (suc i) l = each_plain list (and_right (plain a) (ever
 
 plain_front : (a : List ℕ) (o : Option (List (List ℕ))) → plain a ≡ true → IfSome EachPlain o → IfSome EachPlain (in_front a o)
 unfolding in_front every
-plain_front a none p h = tt
-plain_front a (some list) p h = rw p h
+plain_front a None p h = tt
+plain_front a (Some list) p h = rw p h
 
-module _ (s : List ℕ) (list : List (List ℕ)) (e : addresses s ≡ some list) where
+module _ (s : List ℕ) (list : List (List ℕ)) (e : addresses s ≡ Some list) where
   readable_plain : every plain list ≡ true
   unfolding every
   readable_plain =
@@ -121,18 +121,18 @@ module _ (s : List ℕ) (list : List (List ℕ)) (e : addresses s ≡ some list)
       (λ stage next t rest found l k h q. h (suffix_octets l q)) s) o
 
 -- what a count says
-pub counted_some : (o : Option (List (List ℕ))) (n : ℕ) → Count n ≡ counted_of o → (list : List (List ℕ)) × ((o ≡ some list) × (n ≡ length list))
+pub counted_some : (o : Option (List (List ℕ))) (n : ℕ) → Count n ≡ counted_of o → (list : List (List ℕ)) × ((o ≡ Some list) × (n ≡ length list))
 unfolding counted_of
-counted_some none n e = let z : ◌≡◌ {A = ℕ} 0 1 = cc in absurd (omega arith)
-counted_some (some list) n e = (list, (refl, cc))
+counted_some None n e = let z : ◌≡◌ {A = ℕ} 0 1 = cc in absurd (omega arith)
+counted_some (Some list) n e = (list, (refl, cc))
 
-pub counted_none : (o : Option (List (List ℕ))) → Uncounted ≡ counted_of o → o ≡ none
+pub counted_none : (o : Option (List (List ℕ))) → Uncounted ≡ counted_of o → o ≡ None
 unfolding counted_of
-counted_none none e = refl
-counted_none (some list) e = cc
+counted_none None e = refl
+counted_none (Some list) e = cc
 
 -- the one address of a list that has no other
-module _ (s a : List ℕ) (e : some a ≡ only_one (or_else [] (addresses s))) where
+module _ (s a : List ℕ) (e : Some a ≡ only_one (or_else [] (addresses s))) where
   pub only_plain : plain a ≡ true
   only_plain = readable_at s (a ∷ []) (only_listed (addresses s) a (sym e)) 0 (omega arith)
 

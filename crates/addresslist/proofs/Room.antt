@@ -5,7 +5,7 @@ use Prim.Native.Nat.{ℕ, suc, ◌+◌, ◌≤◌, zero-le}
 use mathlib.Core.Path.{◌≡◌}
 use mathlib.Core.Bool.{Bool}
 use mathlib.Core.List.{List}
-use mathlib.Core.Option.{Option, some}
+use Rattle.std.specs.Prelude.{Option, Some}
 use native.Mathlib.Omega.{arith}
 use lib.ListN.{length, length-append}
 use Rattle.octets.specs.Options.{total}
@@ -49,7 +49,7 @@ spare_taken Behind next inside inner e = let z : ◌≡◌ {A = ℕ} 0 1 = cc in
 abbrev pub addresses_total : List (List ℕ) → ℕ
 addresses_total list = total (λ (a : List ℕ). a) list
 
-pub total_room : (s : List ℕ) (list : List (List ℕ)) → addresses s ≡ some list → addresses_total list ≤ length s + 1
+pub total_room : (s : List ℕ) (list : List (List ℕ)) → addresses s ≡ Some list → addresses_total list ≤ length s + 1
 unfolding total
 total_room s list e =
     rw e at

@@ -5,7 +5,7 @@ use Prim.Native.Nat.{ℕ}
 use Prim.Native.String.{String}
 use mathlib.Core.Path.{◌≡◌, refl}
 use mathlib.Core.List.{List, [], ◌∷◌, ◌++◌, map}
-use mathlib.Core.Option.{some, none}
+use Rattle.std.specs.Prelude.{Some, None}
 use lib.ListN.{replicate}
 use Rattle.octets.specs.Octets.{ascii, octet, blank, lower, lowered}
 use Rattle.octets.specs.Options.{in_front, or_else}
@@ -23,10 +23,10 @@ use Rattle.grammar.specs.Grammar.{after_address, after}
 use Rattle.addresslist.specs.List.{opening_of, run_token, quoted_token, token_at, first_token, listed_by, listed, addresses}
 
 abbrev Readable : String → List String → Type 0
-Readable s list = addresses (ascii s) ≡ some (map ascii list)
+Readable s list = addresses (ascii s) ≡ Some (map ascii list)
 
 abbrev Unread : String → Type 0
-Unread s = addresses (ascii s) ≡ none
+Unread s = addresses (ascii s) ≡ None
 
 -- so many comments one inside the other, behind an address
 abbrev nested : ℕ → List ℕ
@@ -68,7 +68,7 @@ pub worked :
     × Unread "\"a\"@b"
     × Unread "(c a@b"
     × Unread "\"c <a@b>"
-    × (addresses (nested 16) ≡ some (ascii "a@b" ∷ []))
-    × (addresses (nested 17) ≡ none)
+    × (addresses (nested 16) ≡ Some (ascii "a@b" ∷ []))
+    × (addresses (nested 17) ≡ None)
 unfolding opening_of holds run_token quoted_token token_at first_token after_address after in_front listed_by listed addresses belongs atom local_part free_ends labels.label_octet labels.label_form labels.fits labels.label labels.labelled domain domain_form address_form plain every on_first pieces before behind run control blank kind_of past after_quote following joined or_else lowering.lower_text lowering.lower_points lowering.lower_point utf8.points utf8.tails utf8.lead_of utf8.encoded utf8.encoded_one lowered lower
 worked = (refl, refl, refl, refl, refl, refl, refl, refl, refl, refl, refl, refl, refl, refl, refl, refl, refl, refl, refl, refl, refl, refl, refl, refl, refl, refl, refl, refl, refl, refl, refl, refl, refl, refl, refl, refl, refl)

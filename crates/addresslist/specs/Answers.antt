@@ -5,7 +5,7 @@
 --     counted_of           how many addresses there are
 --     only_in, Within      the one address of a list that has no other, and that it lies in the list
 use Rattle.std.specs.Prelude.{ℕ, ◌-◌, ◌<◌, ◌≤◌, ◌≡◌, true, false, List, [], length, take, drop}
-use Rattle.std.proofs.Math.Option.{Option, some, none}
+use Rattle.std.specs.Prelude.{Option, Some, None}
 use Rattle.octets.specs.Options.{in_front}
 use Rattle.address.specs.Address.{plain}
 use Rattle.addresslist.specs.List.{Token, address, other, end, unreadable, listed}
@@ -58,8 +58,8 @@ pub record Gives (s : List ℕ) (c : ListCursor) (from to : ℕ) (next : ListCur
 
 abbrev pub Hands : List ℕ → ListCursor → NextAddress → Type 0
 Hands s c (Address from to next) = Gives s c from to next
-Hands s c End = left s c ≡ some []
-Hands s c Unreadable = left s c ≡ none
+Hands s c End = left s c ≡ Some []
+Hands s c Unreadable = left s c ≡ None
 
 -- The next cursor lies behind this one, and s gives the same from either.
 pub record Goes (s : List ℕ) (c next : ListCursor) : Type 0 where
@@ -73,13 +73,13 @@ Moved s c (Done handed) = Hands s c handed
 
 -- L17: equal addresses count as often as they stand
 unfoldable pub counted_of : Option (List (List ℕ)) → Counted
-counted_of none = Uncounted
-counted_of (some list) = Count (length list)
+counted_of None = Uncounted
+counted_of (Some list) = Count (length list)
 
 -- the one address of a list that has no other, by its places
 unfoldable pub only_in : List ℕ → OnlyAddress → Option (List ℕ)
-only_in s (One from to) = some (between s from to)
-only_in s Other = none
+only_in s (One from to) = Some (between s from to)
+only_in s Other = None
 
 abbrev pub Within : List ℕ → OnlyAddress → Type 0
 Within s (One from to) = (from < to) × (to ≤ length s)

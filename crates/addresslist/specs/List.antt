@@ -4,7 +4,7 @@
 --     listed, addresses                       the addresses of a list, none where it is unreadable
 --     among                                   an address is one of some
 use Rattle.std.specs.Prelude.{ℕ, zero, suc, Bool, true, false, cond, ◌||◌, List, [], ◌∷◌, eqb, length, take, drop}
-use Rattle.std.proofs.Math.Option.{Option, some, none}
+use Rattle.std.specs.Prelude.{Option, Some, None}
 use Rattle.octets.specs.Octets.{octet, same_octets}
 use Rattle.octets.specs.Finding.{holds}
 use Rattle.octets.specs.Options.{in_front}
@@ -54,7 +54,7 @@ run_token s =
 
 -- L10: a quoted string is a word; its opening quote is the first octet of s
 unfoldable pub quoted_token : List ℕ → Token
-quoted_token s = elim (after_quote false (drop 1 s)) [ none ↦ unreadable | some rest ↦ other Word rest ]
+quoted_token s = elim (after_quote false (drop 1 s)) [ None ↦ unreadable | Some rest ↦ other Word rest ]
 
 -- the token that a text opens with
 unfoldable pub token_at : List ℕ → Token
@@ -69,20 +69,20 @@ token_at (x ∷ s) =
 
 -- L11: blanks and comments may stand in front of a token
 unfoldable pub first_token : List ℕ → Token
-first_token s = elim (skipped s) [ none ↦ unreadable | some rest ↦ token_at rest ]
+first_token s = elim (skipped s) [ None ↦ unreadable | Some rest ↦ token_at rest ]
 
 -- L9, L17: the addresses that the octets s give from a place of the grammar on, in their order, of fewer than n tokens
 unfoldable pub listed_by : ℕ → Stage → Bool → List ℕ → Option (List (List ℕ))
-listed_by zero stage inside s = none
+listed_by zero stage inside s = None
 listed_by (suc n) stage inside s =
     elim (first_token s) [
       | address a rest ↦ elim (after_address stage inside) [
         | On next inner ↦ in_front a (listed_by n next inner rest)
-        | Wrong ↦ none
+        | Wrong ↦ None
       ]
-      | other sort rest ↦ elim (after stage inside sort) [ On next inner ↦ listed_by n next inner rest | Wrong ↦ none ]
-      | end ↦ elim (may_end stage inside) [ true ↦ some [] | false ↦ none ]
-      | unreadable ↦ none
+      | other sort rest ↦ elim (after stage inside sort) [ On next inner ↦ listed_by n next inner rest | Wrong ↦ None ]
+      | end ↦ elim (may_end stage inside) [ true ↦ Some [] | false ↦ None ]
+      | unreadable ↦ None
     ]
 
 -- L17: the addresses of all tokens of s, however many. Each token has an octet at least, so that there are no more tokens than

@@ -6,7 +6,7 @@ use Prim.Native.Nat.{ℕ}
 use mathlib.Core.Path.{◌≡◌, sym, ap, ◌∙◌}
 use mathlib.Core.Bool.{Bool, ◌&&◌}
 use mathlib.Core.List.{List}
-use mathlib.Core.Option.{some}
+use Rattle.std.specs.Prelude.{Some}
 use borrow.Author.Rules.{rules}
 use Rattle.address.specs.Address.{canonical}
 use Rattle.heads.specs.declared.Head.{Head}
@@ -27,7 +27,7 @@ use Rattle.advice.proofs.Locating.{located, located_time}
 
 -- by what the entry says
 by_entry : (x : Kept) (m reply prefers : Bool) (k r : Advice) → k ≡ rated x → prefers ≡ prefers_by (direct_of x) → r ≡ raised reply (m && prefers) k
-    → r ≡ advice_for m reply (some x)
+    → r ≡ advice_for m reply (Some x)
 unfolding advice_for
 by_entry x m reply prefers k r p q h = h ∙ rw (p, q)
 

@@ -9,7 +9,7 @@ use Prim.Native.Nat.{ℕ, ◌+◌, ◌<◌, ◌≤◌}
 use mathlib.Core.Path.{◌≡◌}
 use mathlib.Core.Bool.{Bool, true, false, ◌||◌}
 use mathlib.Core.List.{List}
-use mathlib.Core.Option.{some, none}
+use Rattle.std.specs.Prelude.{Some, None}
 use borrow.Author.Rules.{rules}
 use borrow.Author.Tests.{lt-ltb, le-ltb}
 use Rattle.octets.specs.Options.{or_else}
@@ -27,19 +27,19 @@ use Rattle.advice.specs.declared.Advice.TheVariants.{Disable, Discourage, Availa
 
 -- the halves of a slot's entry
 module _ (s : List ℕ) where
-  pub direct_there : has_direct s ≡ true → direct_of (entry_of s) ≡ some (record { timestamp = timestamp s; key = direct_key_of s; «mutual» = is_mutual s })
+  pub direct_there : has_direct s ≡ true → direct_of (entry_of s) ≡ Some (record { timestamp = timestamp s; key = direct_key_of s; «mutual» = is_mutual s })
   unfolding direct_of entry_of
   direct_there d = rw d
 
-  pub direct_absent : has_direct s ≡ false → direct_of (entry_of s) ≡ none
+  pub direct_absent : has_direct s ≡ false → direct_of (entry_of s) ≡ None
   unfolding direct_of entry_of
   direct_absent d = rw d
 
-  pub gossip_there : has_gossip s ≡ true → gossip_of (entry_of s) ≡ some (record { timestamp = gossip_timestamp s; key = gossip_key_of s })
+  pub gossip_there : has_gossip s ≡ true → gossip_of (entry_of s) ≡ Some (record { timestamp = gossip_timestamp s; key = gossip_key_of s })
   unfolding gossip_of entry_of
   gossip_there g = rw g
 
-  pub gossip_absent : has_gossip s ≡ false → gossip_of (entry_of s) ≡ none
+  pub gossip_absent : has_gossip s ≡ false → gossip_of (entry_of s) ≡ None
   unfolding gossip_of entry_of
   gossip_absent g = rw g
 

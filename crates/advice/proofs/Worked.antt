@@ -9,7 +9,7 @@ use Prim.Native.Nat.{ℕ, ◌+◌}
 use mathlib.Core.Path.{◌≡◌, refl}
 use mathlib.Core.Bool.{Bool, true, false}
 use mathlib.Core.List.{List, [], ◌∷◌, map}
-use mathlib.Core.Option.{Option, some, none}
+use Rattle.std.specs.Prelude.{Option, Some, None}
 use Rattle.octets.specs.Options.{or_else}
 use Rattle.heads.specs.Entry.{Gossip, Entry}
 use Rattle.advice.specs.Advice.{stale, direct_of, gossip_of, rated_by, rated, raised, prefers_by, advice_for, target_by, target_of, any_disable, all_encrypt, any_discourage, overall, first_disable}
@@ -22,18 +22,18 @@ gossip_key = record { timestamp = 5000; key = 7 ∷ [] }
 -- a direct key of the timestamp 1000, and last seen so much later
 abbrev seen_after : ℕ → Bool → Option Gossip → Entry
 seen_after gap is_mutual gossip =
-    record { address = []; last_seen = some (1000 + gap); direct = some (record { timestamp = 1000; key = 5 ∷ []; «mutual» = is_mutual }); gossip = gossip }
+    record { address = []; last_seen = Some (1000 + gap); direct = Some (record { timestamp = 1000; key = 5 ∷ []; «mutual» = is_mutual }); gossip = gossip }
 
 -- no direct key
 abbrev without : Option Gossip → Entry
-without gossip = record { address = []; last_seen = some 1000; direct = none; gossip = gossip }
+without gossip = record { address = []; last_seen = Some 1000; direct = None; gossip = gossip }
 
 -- A3, C14: without reply and preference a gap of 35 days is available, and one second more is discourage
-pub gap_of_35_days : advice_for false false (some (seen_after 3024000 false none)) ≡ Available
+pub gap_of_35_days : advice_for false false (Some (seen_after 3024000 false None)) ≡ Available
 unfolding advice_for raised prefers_by direct_of gossip_of rated rated_by stale or_else
 gap_of_35_days = refl
 
-pub gap_of_more : advice_for false false (some (seen_after 3024001 false none)) ≡ Discourage
+pub gap_of_more : advice_for false false (Some (seen_after 3024001 false None)) ≡ Discourage
 unfolding advice_for raised prefers_by direct_of gossip_of rated rated_by stale or_else
 gap_of_more = refl
 
@@ -49,16 +49,16 @@ row own reply held advice = record { own = own; reply = reply; held = held; advi
 
 abbrev rows : List Row
 rows =
-    row true true none Disable
-    ∷ row true true (some (without none)) Disable
-    ∷ row true false (some (without (some gossip_key))) Discourage
-    ∷ row true true (some (without (some gossip_key))) Encrypt
-    ∷ row true false (some (seen_after 0 true none)) Encrypt
-    ∷ row false false (some (seen_after 0 true none)) Available
-    ∷ row true false (some (seen_after 0 false none)) Available
-    ∷ row false true (some (seen_after 0 false none)) Encrypt
-    ∷ row true false (some (seen_after 3024001 true none)) Discourage
-    ∷ row false true (some (seen_after 3024001 false none)) Encrypt
+    row true true None Disable
+    ∷ row true true (Some (without None)) Disable
+    ∷ row true false (Some (without (Some gossip_key))) Discourage
+    ∷ row true true (Some (without (Some gossip_key))) Encrypt
+    ∷ row true false (Some (seen_after 0 true None)) Encrypt
+    ∷ row false false (Some (seen_after 0 true None)) Available
+    ∷ row true false (Some (seen_after 0 false None)) Available
+    ∷ row false true (Some (seen_after 0 false None)) Encrypt
+    ∷ row true false (Some (seen_after 3024001 true None)) Discourage
+    ∷ row false true (Some (seen_after 3024001 false None)) Encrypt
     ∷ []
 
 one_recipient : map (λ (r : Row). advice_for r.own r.reply r.held) rows ≡ map (λ (r : Row). r.advice) rows
@@ -91,7 +91,7 @@ unfolding first_disable
 which_place = refl
 
 which_key :
-    map target_of (none ∷ some (without none) ∷ some (without (some gossip_key)) ∷ some (seen_after 0 false (some gossip_key)) ∷ [])
+    map target_of (None ∷ Some (without None) ∷ Some (without (Some gossip_key)) ∷ Some (seen_after 0 false (Some gossip_key)) ∷ [])
     ≡ [] ∷ [] ∷ (7 ∷ []) ∷ (5 ∷ []) ∷ []
 unfolding target_of target_by direct_of gossip_of
 which_key = refl

@@ -11,7 +11,7 @@
 --     advised, targets           the advice and the key for each address of a list
 --     entries_for                what a table holds of each of them
 use Rattle.std.specs.Prelude.{ℕ, suc, ◌+◌, ◌-◌, ◌≤◌, ◌≡◌, Bool, true, false, ◌&&◌, ◌||◌, List, [], ◌∷◌, map, ltb, take, get_or}
-use Rattle.std.proofs.Math.Option.{Option, some, none}
+use Rattle.std.specs.Prelude.{Option, Some, None}
 use Rattle.octets.specs.Options.{or_else}
 use Rattle.address.specs.Address.{canonical}
 use Rattle.heads.specs.Entry.{Direct, Gossip, Entry}
@@ -37,9 +37,9 @@ gossip_of e = e.gossip
 
 -- A2: no key is disable, gossip alone discourage, a direct key discourage or available by its gap. Beside a direct half last seen is there (T8.10)
 unfoldable pub rated_by : ℕ → Option Direct → Option Gossip → Advice
-rated_by seen none none = Disable
-rated_by seen none (some g) = Discourage
-rated_by seen (some d) g = elim (stale seen d.timestamp) [ true ↦ Discourage | false ↦ Available ]
+rated_by seen None None = Disable
+rated_by seen None (Some g) = Discourage
+rated_by seen (Some d) g = elim (stale seen d.timestamp) [ true ↦ Discourage | false ↦ Available ]
 
 -- A2: the advice that an entry gets first
 unfoldable pub rated : Entry → Advice
@@ -55,24 +55,24 @@ raised reply both Encrypt = Encrypt
 
 -- A4: the recipient's own preference, which stands with the direct half
 unfoldable pub prefers_by : Option Direct → Bool
-prefers_by none = false
-prefers_by (some d) = d.«mutual»
+prefers_by None = false
+prefers_by (Some d) = d.«mutual»
 
 -- A2, A4: the advice for a recipient; without an entry it is disable
 unfoldable pub advice_for : Bool → Bool → Option Entry → Advice
-advice_for is_mutual reply none = Disable
-advice_for is_mutual reply (some e) = raised reply (is_mutual && prefers_by (direct_of e)) (rated e)
+advice_for is_mutual reply None = Disable
+advice_for is_mutual reply (Some e) = raised reply (is_mutual && prefers_by (direct_of e)) (rated e)
 
 -- A2: the target key is the direct key, else the gossip key; it has no octets where there is neither
 unfoldable pub target_by : Option Direct → Option Gossip → List ℕ
-target_by none none = []
-target_by none (some g) = g.key
-target_by (some d) g = d.key
+target_by None None = []
+target_by None (Some g) = g.key
+target_by (Some d) g = d.key
 
 -- A2: the target key of a recipient; none without an entry
 unfoldable pub target_of : Option Entry → List ℕ
-target_of none = []
-target_of (some e) = target_by (direct_of e) (gossip_of e)
+target_of None = []
+target_of (Some e) = target_by (direct_of e) (gossip_of e)
 
 -- A5: one recipient has disable
 unfoldable pub any_disable : List Advice → Bool

@@ -7,7 +7,7 @@ use Prim.Native.Nat.{ℕ, ◌-◌, ◌≤◌}
 use mathlib.Core.Path.{◌≡◌, sym, ◌∙◌}
 use mathlib.Core.Bool.{Bool, true, false, not}
 use mathlib.Core.List.{List}
-use mathlib.Core.Option.{some, none}
+use Rattle.std.specs.Prelude.{Some, None}
 use borrow.Author.Rules.{rules}
 use borrow.Author.Tests.{not-true, not-false}
 use lib.ListN.{length, take, drop}
@@ -25,7 +25,7 @@ use Rattle.asked.proofs.Finding.{found_order, found_upto, found_end}
 use Rattle.asked.proofs.Single.{only_none, only_more, only_one_lem}
 
 -- no `addr`, or more than one
-named_nothing : (s : List ℕ) → only_one (saying Addr s) ≡ none → NamedAs s Unseen
+named_nothing : (s : List ℕ) → only_one (saying Addr s) ≡ None → NamedAs s Unseen
 unfolding NamedAs named named_by
 named_nothing s e = rw e
 
@@ -38,7 +38,7 @@ module _ (s : List ℕ) (k : Found) (p : FoundAs Addr s 0 k) where
     one_more n = named_nothing s (only_more Addr s k p from to end q (sym e ∙ not-true l n))
 
     module _ (n : not l ≡ false) (b : Bool) (u : b ≡ plain (take (to - from) (drop from s))) where
-      alone : only_one (saying Addr s) ≡ some (part s from to)
+      alone : only_one (saying Addr s) ≡ Some (part s from to)
       alone = only_one_lem Addr s k p from to end q (sym e ∙ not-false l n)
 
       pub one_plain : b ≡ true → NamedAs s (Standing from to)
@@ -76,10 +76,10 @@ module _ (s : List ℕ) (r : AddressAt) (h : NamedAs s r) where
     unfolding part
     named_plain = there.stands.plainly
 
-    pub named_is : named s ≡ some (canonical (take (to - from) (drop from s)))
+    pub named_is : named s ≡ Some (canonical (take (to - from) (drop from s)))
     unfolding part
     named_is = there.is
 
-  pub named_unseen : r ≡ Unseen → named s ≡ none
+  pub named_unseen : r ≡ Unseen → named s ≡ None
   unfolding NamedAs
   named_unseen e = rw e at h

@@ -8,7 +8,7 @@ use Prim.Native.Nat.{ℕ, ◌+◌, ◌-◌, ◌<◌, ◌≤◌}
 use mathlib.Core.Path.{◌≡◌, sym, ◌∙◌}
 use mathlib.Core.Bool.{Bool, true, false, ◌&&◌, false≢true, and-false}
 use mathlib.Core.List.{List, [], ◌∷◌}
-use mathlib.Core.Option.{none}
+use Rattle.std.specs.Prelude.{None}
 use borrow.Author.Rules.{rules}
 use lib.ListN.{length, take, drop}
 use Rattle.octets.specs.Octets.{without_blanks}
@@ -47,7 +47,7 @@ unfolding has_key_data last_from
 key_last s = rw (part_rest s 0)
 
 -- no `keydata`, or more than one
-not_one : (s : List ℕ) → only_one (saying Keydata s) ≡ none → false ≡ has_key_data s
+not_one : (s : List ℕ) → only_one (saying Keydata s) ≡ None → false ≡ has_key_data s
 unfolding is_base64
 not_one s e = sym (key_last s ∙ rw e (and-false (last_from Keydata s 0)))
 

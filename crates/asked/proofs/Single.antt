@@ -5,7 +5,7 @@ use Prim.Native.Nat.{ℕ}
 use mathlib.Core.Path.{◌≡◌, refl, sym, ap, ◌∙◌}
 use mathlib.Core.Bool.{true, false, false≢true}
 use mathlib.Core.List.{List, [], ◌∷◌}
-use mathlib.Core.Option.{some, none}
+use Rattle.std.specs.Prelude.{Some, None}
 use Rattle.octets.specs.Options.{only_one}
 use Rattle.attributes.specs.Answers.{part}
 use Rattle.asked.specs.Asked.{is_empty, saying}
@@ -16,18 +16,18 @@ use Rattle.asked.specs.declared.Found.TheVariants.{At, Nothing}
 use Rattle.asked.proofs.Finding.{found_first, found_none, saying_all}
 
 module _ (x : List ℕ) where
-  in_front_lem : (rest : List (List ℕ)) → is_empty rest ≡ true → only_one (x ∷ rest) ≡ some x
+  in_front_lem : (rest : List (List ℕ)) → is_empty rest ≡ true → only_one (x ∷ rest) ≡ Some x
   unfolding is_empty only_one
   in_front_lem [] e = refl
   in_front_lem (y ∷ rest) e = absurd (false≢true e)
 
-  not_alone : (rest : List (List ℕ)) → is_empty rest ≡ false → only_one (x ∷ rest) ≡ none
+  not_alone : (rest : List (List ℕ)) → is_empty rest ≡ false → only_one (x ∷ rest) ≡ None
   unfolding is_empty only_one
   not_alone [] e = absurd (false≢true (sym e))
   not_alone (y ∷ rest) e = refl
 
 module _ (what : Called) (s : List ℕ) (k : Found) (p : FoundAs what s 0 k) where
-  pub only_none : k ≡ Nothing → only_one (saying what s) ≡ none
+  pub only_none : k ≡ Nothing → only_one (saying what s) ≡ None
   unfolding only_one
   only_none q = rw (saying_all what s, found_none what s 0 k p q)
 
@@ -35,8 +35,8 @@ module _ (what : Called) (s : List ℕ) (k : Found) (p : FoundAs what s 0 k) whe
     all : only_one (saying what s) ≡ only_one (part s from to ∷ rest_from what s end)
     all = ap only_one (saying_all what s ∙ found_first what s 0 k p from to end q)
 
-    pub only_more : is_empty (rest_from what s end) ≡ false → only_one (saying what s) ≡ none
+    pub only_more : is_empty (rest_from what s end) ≡ false → only_one (saying what s) ≡ None
     only_more e = all ∙ not_alone (part s from to) (rest_from what s end) e
 
-    pub only_one_lem : is_empty (rest_from what s end) ≡ true → only_one (saying what s) ≡ some (part s from to)
+    pub only_one_lem : is_empty (rest_from what s end) ≡ true → only_one (saying what s) ≡ Some (part s from to)
     only_one_lem e = all ∙ in_front_lem (part s from to) (rest_from what s end) e

@@ -5,7 +5,7 @@
 --     FoundAt, FoundAs        the first of these pieces
 --     NamedAt, NamedAs        where the one address stands
 use Rattle.std.specs.Prelude.{ℕ, ◌+◌, ◌≤◌, ◌≡◌, Bool, true, cond, List, [], ◌∷◌, ltb, length}
-use Rattle.std.proofs.Math.Option.{some, none}
+use Rattle.std.specs.Prelude.{Some, None}
 use Rattle.octets.specs.Octets.{octet}
 use Rattle.pieces.specs.Pieces.{pieces}
 use Rattle.address.specs.Address.{canonical}
@@ -53,9 +53,9 @@ FoundAs what s at Nothing = saying_from what s at ≡ []
 
 -- O6: the address that the value names stands between two places, as it was given.
 pub record NamedAt (s : List ℕ) (from to : ℕ) : Type 0 where
-  pub is : named s ≡ some (canonical (part s from to))
+  pub is : named s ≡ Some (canonical (part s from to))
   pub stands : PlainAt s from to
 
 unfoldable pub NamedAs : List ℕ → AddressAt → Type 0
 NamedAs s (Standing from to) = NamedAt s from to
-NamedAs s Unseen = named s ≡ none
+NamedAs s Unseen = named s ≡ None

@@ -6,7 +6,7 @@
 --     named_by, named                   the one address, in canonical form
 --     is_base64, has_key_data           key data that is last, and Base64
 use Rattle.std.specs.Prelude.{ℕ, Bool, true, false, not, cond, ◌&&◌, List, [], ◌∷◌}
-use Rattle.std.proofs.Math.Option.{Option, some, none}
+use Rattle.std.specs.Prelude.{Option, Some, None}
 use Rattle.octets.specs.Octets.{octet, same_octets, without_blanks}
 use Rattle.octets.specs.Finding.{holds}
 use Rattle.octets.specs.Options.{is_some, only_one}
@@ -74,8 +74,8 @@ occurs what s = not (is_empty (saying what s))
 
 -- O6: an address that is plain, in canonical form
 unfoldable pub named_by : Option (List ℕ) → Option (List ℕ)
-named_by none = none
-named_by (some a) = cond (plain a) (some (canonical a)) none
+named_by None = None
+named_by (Some a) = cond (plain a) (Some (canonical a)) None
 
 -- O6: the address that a value names: it has one `addr` and no other, and this is plain
 unfoldable pub named : List ℕ → Option (List ℕ)
@@ -83,8 +83,8 @@ named s = named_by (only_one (saying Addr s))
 
 -- O8, F9: a text that is Base64, its blanks taken out; how many octets it stands for is not asked
 unfoldable pub is_base64 : Option (List ℕ) → Bool
-is_base64 none = false
-is_base64 (some v) = is_some (decode (without_blanks v))
+is_base64 None = false
+is_base64 (Some v) = is_some (decode (without_blanks v))
 
 -- O8: the last piece is a `keydata`, there is no other, and it is Base64
 unfoldable pub has_key_data : List ℕ → Bool

@@ -3,7 +3,7 @@
 --     with_address, with_preference   an address, and a preference
 --     step                            a piece, by what it says
 use Rattle.std.specs.Prelude.{ℕ, Bool, cond, List}
-use Rattle.std.proofs.Math.Option.{Option, some, none}
+use Rattle.std.specs.Prelude.{Option, Some, None}
 use Rattle.octets.specs.Octets.{same_octets}
 use Rattle.names.specs.Names as names
 use Rattle.address.specs.Address.{plain}
@@ -17,13 +17,13 @@ pub data Step : Type 0 where
 
 -- F6: `addr` stands once, and its value is a plain address with nothing around it
 unfoldable pub with_address : Option (List ℕ) → Option Bool → List ℕ → Step
-with_address none preference v = cond (plain v) (on (some v) preference) spoils
-with_address (some a) preference v = spoils
+with_address None preference v = cond (plain v) (on (Some v) preference) spoils
+with_address (Some a) preference v = spoils
 
 -- F7: `prefer-encrypt` may stand once; the value `mutual` is the preference, and any other says that there is none
 unfoldable pub with_preference : Option (List ℕ) → Option Bool → List ℕ → Step
-with_preference address none v = on address (some (same_octets v names.preferring))
-with_preference address (some m) v = spoils
+with_preference address None v = on address (Some (same_octets v names.preferring))
+with_preference address (Some m) v = spoils
 
 -- F8: `keydata` has to be the last piece. F5: an ignored piece changes nothing. F3, F5: a spoiling piece spoils the field.
 unfoldable pub step : Option (List ℕ) → Option Bool → Attribute → Step

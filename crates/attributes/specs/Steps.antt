@@ -3,7 +3,7 @@
 --     PlainAt, Stands      a plain address stands between two places; so does the address seen so far
 --     step_at, Steps       the step that an answer shows; an answer shows this step
 use Rattle.std.specs.Prelude.{ℕ, ◌≤◌, ◌≡◌, Bool, true, List, length}
-use Rattle.std.proofs.Math.Option.{Option, some, none}
+use Rattle.std.specs.Prelude.{Option, Some, None}
 use Rattle.address.specs.Address.{plain}
 use Rattle.attributes.specs.Step.{Step, on, last, spoils}
 use Rattle.attributes.specs.Answers.{part, Within}
@@ -15,8 +15,8 @@ use Rattle.attributes.specs.declared.NextPiece.{NextPiece}
 use Rattle.attributes.specs.declared.NextPiece.TheVariants.{On, Last, Spoils}
 
 unfoldable pub address_at : List ℕ → AddressAt → Option (List ℕ)
-address_at s Unseen = none
-address_at s (At from to) = some (part s from to)
+address_at s Unseen = None
+address_at s (At from to) = Some (part s from to)
 
 -- F6: a plain address stands there
 pub record PlainAt (s : List ℕ) (from to : ℕ) : Type 0 where
@@ -29,8 +29,8 @@ Stands s Unseen = Unit
 Stands s (At from to) = PlainAt s from to
 
 unfoldable pub stated : Preference → Option Bool
-stated Unstated = none
-stated (Stated m) = some m
+stated Unstated = None
+stated (Stated m) = Some m
 
 unfoldable pub step_at : List ℕ → NextPiece → Step
 step_at s (On place preference) = on (address_at s place) (stated preference)

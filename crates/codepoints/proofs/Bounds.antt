@@ -8,7 +8,7 @@ use Prim.Native.Nat.{ℕ, ◌*◌, ◌<◌, ◌≤◌}
 use mathlib.Core.Path.{◌≡◌, refl, ap}
 use mathlib.Core.Bool.{true}
 use mathlib.Core.List.{List, [], ◌∷◌}
-use mathlib.Core.Option.{Option, some, none}
+use Rattle.std.specs.Prelude.{Option, Some, None}
 use mathlib.Core.Logic.{⊎_elim}
 use native.Mathlib.Omega.{arith}
 use lib.Dec.{ltb}
@@ -39,16 +39,16 @@ unfolding encoded
 encoded_most [] = omega arith
 encoded_most (p ∷ ps) = simp length-append (omega (arith, one_most p, encoded_most ps))
 
-pub points_fewer : (s ps : List ℕ) → points s ≡ some ps → length s ≤ 4 * length ps
+pub points_fewer : (s ps : List ℕ) → points s ≡ Some ps → length s ≤ 4 * length ps
 points_fewer s ps e = omega (arith, encoded_most ps, ap length (encoded_points s ps e))
 
 -- where there is something in lower case, it is the lower case of something
-small_some : (o : Option (List ℕ)) (ps : List ℕ) → small_of o ≡ some ps → (qs : List ℕ) × ((o ≡ some qs) × (lower_points qs ≡ ps))
+small_some : (o : Option (List ℕ)) (ps : List ℕ) → small_of o ≡ Some ps → (qs : List ℕ) × ((o ≡ Some qs) × (lower_points qs ≡ ps))
 unfolding small_of
-small_some none ps e = let z : ◌≡◌ {A = ℕ} 0 1 = cc in absurd (omega arith)
-small_some (some qs) ps e = (qs, (refl, cc))
+small_some None ps e = let z : ◌≡◌ {A = ℕ} 0 1 = cc in absurd (omega arith)
+small_some (Some qs) ps e = (qs, (refl, cc))
 
-pub small_scalars : (s ps : List ℕ) → small_of (points s) ≡ some ps → scalars ps ≡ true
+pub small_scalars : (s ps : List ℕ) → small_of (points s) ≡ Some ps → scalars ps ≡ true
 small_scalars s ps e =
     let k = small_some (points s) ps e in
     rw k.1.1 at (lower_points_scalar k.0 (points_scalars s k.0 k.1.0))

@@ -9,7 +9,7 @@ use Prim.Native.Nat.{ℕ, suc, zero, ◌+◌, ◌-◌, ◌*◌, ◌^◌, ◌<◌
 use mathlib.Core.Path.{◌≡◌, refl, sym, ap, ◌∙◌}
 use mathlib.Core.Bool.{Bool, true, ◌&&◌}
 use mathlib.Core.List.{List, ◌∷◌}
-use mathlib.Core.Option.{Option, none}
+use Rattle.std.specs.Prelude.{Option, None}
 use native.Mathlib.Nat.{pow-succ', mul_assoc, mul-le-mul_right}
 use native.Mathlib.Omega.{arith}
 use borrow.Author.Rules.{rules}
@@ -67,7 +67,7 @@ module _ (s : List ℕ) (at : ℕ) (o : Option (List ℕ)) (i n l h p : ℕ) (g 
     missing : o ≡ tails (drop i s) (suc (n - 1)) l h p
     missing = g.is ∙ rw one_less
 
-    pub rest_short : length s ≤ i → o ≡ none
+    pub rest_short : length s ≤ i → o ≡ None
     unfolding tails
     rest_short e = missing ∙ rw (drop_done s i e)
 
@@ -75,12 +75,12 @@ module _ (s : List ℕ) (at : ℕ) (o : Option (List ℕ)) (i n l h p : ℕ) (g 
       here : o ≡ tails (get_or s i 0 ∷ drop (i + 1) s) (suc (n - 1)) l h p
       here = missing ∙ rw (drop_one s i j)
 
-      pub rest_low : get_or s i 0 < l → o ≡ none
+      pub rest_low : get_or s i 0 < l → o ≡ None
       unfolding tails
       rest_low e = here ∙ rw (tails, lt-leb l (get_or s i 0) e)
 
       module _ (a : l ≤ get_or s i 0) where
-        pub rest_high : h < get_or s i 0 → o ≡ none
+        pub rest_high : h < get_or s i 0 → o ≡ None
         unfolding tails
         rest_high e = here ∙ rw (tails, le-leb l (get_or s i 0) a, lt-leb (get_or s i 0) h e)
 
@@ -132,7 +132,7 @@ module _ (x : ℕ) (g : Lead) (m l h q : ℕ) (b : g ≡ First m l h q) (e : g �
       }
 
 module _ (s : List ℕ) (i : ℕ) (j : i < length s) (g : Lead) where
-  pub at_bad : g ≡ Bad → g ≡ lead_of (get_or s i 0) → points (drop i s) ≡ none
+  pub at_bad : g ≡ Bad → g ≡ lead_of (get_or s i 0) → points (drop i s) ≡ None
   unfolding points
   at_bad b e = rw (drop_one s i j, points, sym e ∙ b)
 

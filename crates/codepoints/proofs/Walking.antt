@@ -7,7 +7,7 @@
 use Prim.Native.Nat.{ℕ, ◌+◌, ◌-◌, ◌<◌, ◌≤◌}
 use mathlib.Core.Path.{◌≡◌, refl, sym, ap, ◌∙◌}
 use mathlib.Core.List.{List, [], ◌∷◌, ◌++◌, append_assoc, append-nil}
-use mathlib.Core.Option.{Option, some, none}
+use Rattle.std.specs.Prelude.{Option, Some, None}
 use native.Mathlib.Numerals.{add-one}
 use native.Mathlib.Omega.{arith}
 use borrow.Author.Rules.{rules}
@@ -22,29 +22,29 @@ use Rattle.codepoints.specs.declared.Point.{Point}
 use Rattle.codepoints.specs.declared.Point.TheVariants.{One, Bad}
 
 unfoldable pub all_front : List ℕ → Option (List ℕ) → Option (List ℕ)
-all_front w none = none
-all_front w (some ps) = some (w ++ ps)
+all_front w None = None
+all_front w (Some ps) = Some (w ++ ps)
 
 front_none : (o : Option (List ℕ)) → o ≡ all_front [] o
 unfolding all_front
-front_none none = refl
-front_none (some ps) = refl
+front_none None = refl
+front_none (Some ps) = refl
 
 front_one : (w : List ℕ) (p : ℕ) (o : Option (List ℕ)) → all_front w (in_front p o) ≡ all_front (w ++ (p ∷ [])) o
 unfolding all_front in_front
-front_one w p none = refl
-front_one w p (some ps) = ap some (sym (append_assoc w (p ∷ []) ps))
+front_one w p None = refl
+front_one w p (Some ps) = ap Some (sym (append_assoc w (p ∷ []) ps))
 
 -- with one more behind it, all is longer
-front_long : (w : List ℕ) (p : ℕ) (o : Option (List ℕ)) (ps : List ℕ) → all_front w (in_front p o) ≡ some ps → length w < length ps
+front_long : (w : List ℕ) (p : ℕ) (o : Option (List ℕ)) (ps : List ℕ) → all_front w (in_front p o) ≡ Some ps → length w < length ps
 unfolding all_front in_front
-front_long w p none ps e = let z : ◌≡◌ {A = ℕ} 0 1 = cc in absurd (omega arith)
-front_long w p (some qs) ps e = let q : w ++ (p ∷ qs) ≡ ps = cc in omega (arith, ap length q, length-append w (p ∷ qs))
+front_long w p None ps e = let z : ◌≡◌ {A = ℕ} 0 1 = cc in absurd (omega arith)
+front_long w p (Some qs) ps e = let q : w ++ (p ∷ qs) ≡ ps = cc in omega (arith, ap length q, length-append w (p ∷ qs))
 
 small_front : (p : ℕ) (o : Option (List ℕ)) → small_of (in_front p o) ≡ in_front (lower_point p) (small_of o)
 unfolding small_of in_front lower_points
-small_front p none = refl
-small_front p (some ps) = refl
+small_front p None = refl
+small_front p (Some ps) = refl
 
 pub record Walk (s d out : List ℕ) (n i : ℕ) : Type 0 where
   pub is : small_of (points s) ≡ all_front (take n out) (small_of (points (drop i s)))
@@ -63,7 +63,7 @@ module _ (s d out : List ℕ) (n i : ℕ) (g : Walk s d out n i) where
     pub walk_bad : r ≡ Bad → Gives s (i + 1) (points (drop i s)) r → Nought d out (small_of (points s))
     unfolding small_of all_front
     walk_bad a k =
-        let e : points (drop i s) ≡ none = rw a at k in
+        let e : points (drop i s) ≡ None = rw a at k in
         record { same = g.kept; text = g.is ∙ rw e }
 
     module _ (p to : ℕ) (a : r ≡ One p to) (k : Gives s (i + 1) (points (drop i s)) r) where

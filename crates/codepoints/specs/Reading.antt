@@ -5,7 +5,7 @@
 --     Begun                  the start of a code point, of which some octets are missing
 --     Found, Gives           a code point is there; what reading one answers
 use Rattle.std.specs.Prelude.{ℕ, ◌+◌, ◌*◌, ◌^◌, ◌<◌, ◌≤◌, ◌≡◌, List, length, take, drop}
-use Rattle.std.proofs.Math.Option.{Option, some, none}
+use Rattle.std.specs.Prelude.{Option, Some, None}
 use Rattle.octets.specs.Options.{in_front}
 use Rattle.utf8.specs.Utf8.{points}
 use Rattle.utf8.specs.Lowering.{lower_points}
@@ -16,24 +16,24 @@ use Rattle.codepoints.specs.declared.Point.TheVariants.{One, Bad}
 
 -- L21: each of the code points in lower case
 unfoldable pub small_of : Option (List ℕ) → Option (List ℕ)
-small_of none = none
-small_of (some ps) = some (lower_points ps)
+small_of None = None
+small_of (Some ps) = Some (lower_points ps)
 
 -- the first m elements are all the code points
 pub record Shown (d e : List ℕ) (o : Option (List ℕ)) (m : ℕ) : Type 0 where
   pub same : length e ≡ length d
-  pub text : o ≡ some (take m e)
+  pub text : o ≡ Some (take m e)
   pub upto : m ≤ length e
 
 -- L20: the text is ill-formed
 pub record Nought (d e : List ℕ) (o : Option (List ℕ)) : Type 0 where
   pub same : length e ≡ length d
-  pub text : o ≡ none
+  pub text : o ≡ None
 
 -- the text is ill-formed, or it has more code points than there is room for
 pub record Many (d e : List ℕ) (o : Option (List ℕ)) : Type 0 where
   pub same : length e ≡ length d
-  pub text : (ps : List ℕ) → o ≡ some ps → length d < length ps
+  pub text : (ps : List ℕ) → o ≡ Some ps → length d < length ps
 
 abbrev pub Reads : List ℕ → List ℕ → Option (List ℕ) → Read → Type 0
 Reads d e o (Points m) = Shown d e o m
@@ -56,4 +56,4 @@ pub record Found (s : List ℕ) (at : ℕ) (o : Option (List ℕ)) (p to : ℕ) 
 
 abbrev pub Gives : List ℕ → ℕ → Option (List ℕ) → Point → Type 0
 Gives s at o (One p to) = Found s at o p to
-Gives s at o Bad = o ≡ none
+Gives s at o Bad = o ≡ None

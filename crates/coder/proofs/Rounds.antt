@@ -6,7 +6,7 @@
 use Prim.Native.Nat.{ℕ, ◌+◌, ◌-◌, ◌*◌, ◌^◌, ◌<◌, ◌≤◌}
 use mathlib.Core.Path.{◌≡◌, refl, sym, ◌∙◌}
 use mathlib.Core.List.{List, []}
-use mathlib.Core.Option.{Option, some, none}
+use Rattle.std.specs.Prelude.{Option, Some, None}
 use native.Mathlib.Nat.{mul-le-mul_left, mul-le-mul_right, add-mul}
 use native.Mathlib.Omega.{arith}
 use borrow.Author.Rules.{rules}
@@ -84,15 +84,15 @@ module _ (d e : List ℕ) (b n m : ℕ) (ps : List ℕ) (s : Coder) (h : Able (l
 pub ruleset rounding = (round_step, round_sum, round_count, round_ready, round_on, round_more, round_full, rules)
 
 -- `passes`
-found_some : (o : Option ℕ) (m : ℕ) → Point m ≡ found_of o → o ≡ some m
+found_some : (o : Option ℕ) (m : ℕ) → Point m ≡ found_of o → o ≡ Some m
 unfolding found_of
-found_some none m e = let z : ◌≡◌ {A = ℕ} 0 1 = cc in absurd (omega arith)
-found_some (some k) m e = cc
+found_some None m e = let z : ◌≡◌ {A = ℕ} 0 1 = cc in absurd (omega arith)
+found_some (Some k) m e = cc
 
-found_none : (o : Option ℕ) → Nothing ≡ found_of o → o ≡ none
+found_none : (o : Option ℕ) → Nothing ≡ found_of o → o ≡ None
 unfolding found_of
-found_none none e = refl
-found_none (some k) e = let z : ◌≡◌ {A = ℕ} 0 1 = cc in absurd (omega arith)
+found_none None e = refl
+found_none (Some k) e = let z : ◌≡◌ {A = ℕ} 0 1 = cc in absurd (omega arith)
 
 pub record Rounds (d out ps : List ℕ) (b at : ℕ) (s : Coder) (n : ℕ) : Type 0 where
   pub wrote : Written d at out s.at (numbers ps b) (passes (length ps) ps b n s.delta s.bias s.h)
@@ -122,7 +122,7 @@ module _ (d out ps : List ℕ) (b at : ℕ) (s : Coder) (n : ℕ) (g : Rounds d 
     rounds_end a e = rw (passes_none (length ps) ps b n s.delta s.bias s.h (found_none (least n ps) (sym a ∙ e))) at g.wrote
 
     module _ (m : ℕ) (a : f ≡ Point m) (e : f ≡ found_of (least n ps)) where
-      there : least n ps ≡ some m
+      there : least n ps ≡ Some m
       there = found_some (least n ps) m (sym a ∙ e)
 
       rounds_below : m < 0x110000

@@ -7,7 +7,7 @@ use Prim.Native.Nat.{ℕ, ◌+◌, ◌-◌, ◌<◌, ◌≤◌}
 use mathlib.Core.Path.{◌≡◌, refl, sym, ◌∙◌}
 use mathlib.Core.Bool.{true, false}
 use mathlib.Core.List.{List, ◌∷◌}
-use mathlib.Core.Option.{Option, some, none}
+use Rattle.std.specs.Prelude.{Option, Some, None}
 use native.Mathlib.Omega.{arith}
 use borrow.Author.Rules.{rules}
 use borrow.Author.Tests.{lt-ltb, le-ltb}
@@ -44,8 +44,8 @@ pub ruleset choosing = (lesser_below, lesser_first, lesser_new, lesser_old, rule
 -- `least`
 lesser_step : (n c : ℕ) (o : Option ℕ) → lesser_of n c (found_of o) ≡ elim (ltb c n) [ true ↦ found_of o | false ↦ found_of (smaller c o) ]
 unfolding lesser_of found_of
-lesser_step n c none = refl
-lesser_step n c (some m) = refl
+lesser_step n c None = refl
+lesser_step n c (Some m) = refl
 
 least_step : (n c : ℕ) (s : List ℕ) → found_of (least n (c ∷ s)) ≡ lesser_of n c (found_of (least n s))
 unfolding least

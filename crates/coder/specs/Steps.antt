@@ -8,7 +8,7 @@
 --     Begins                              what the passes begin with
 --     delimiter_at                        the delimiter behind so many octets
 use Rattle.std.specs.Prelude.{ℕ, ◌+◌, ◌-◌, ◌*◌, ◌^◌, ◌<◌, ◌≤◌, true, false, cond, List, [], ◌∷◌, ltb, eqb, length, get_or}
-use Rattle.std.proofs.Math.Option.{Option, some, none}
+use Rattle.std.specs.Prelude.{Option, Some, None}
 use Rattle.octets.specs.Puts.{Written, TooLong}
 use Rattle.punycode.specs.Punycode.{delimiter, pass}
 use Rattle.coder.specs.declared.Found.{Found}
@@ -18,8 +18,8 @@ use Rattle.coder.specs.declared.Passed.{Passed}
 use Rattle.coder.specs.declared.Passed.TheVariants.{On, Full}
 
 unfoldable pub found_of : Option ℕ → Found
-found_of none = Nothing
-found_of (some m) = Point m
+found_of None = Nothing
+found_of (Some m) = Point m
 
 -- what was found behind c, and c
 unfoldable pub lesser_of : ℕ → ℕ → Found → Found

@@ -3,7 +3,7 @@
 --     time_text, preference_text  a time, a preference
 --     ended                       a column and the octet behind it
 use Rattle.std.specs.Prelude.{ℕ, zero, suc, ◌+◌, ◌/◌, ◌%◌, Bool, true, false, List, [], ◌∷◌, ◌++◌, ltb}
-use Rattle.std.proofs.Math.Option.{Option, some, none}
+use Rattle.std.specs.Prelude.{Option, Some, None}
 use Rattle.octets.specs.Octets.{ascii, octet}
 
 -- the digit of a number below ten
@@ -21,13 +21,13 @@ decimal n = last_digits (suc n) n
 
 -- W9: an absent time is a hyphen, so that it differs from the time 0
 unfoldable pub time_text : Option ℕ → List ℕ
-time_text none = ascii "-"
-time_text (some t) = decimal t
+time_text None = ascii "-"
+time_text (Some t) = decimal t
 
 -- W8: `mutual` or `none`
 unfoldable pub preference_text : Bool → List ℕ
 preference_text true = ascii "mutual"
-preference_text false = ascii "none"
+preference_text false = ascii "None"
 
 -- W8: a column with the octet behind it, a space or LF
 unfoldable pub ended : List ℕ → ℕ → List ℕ

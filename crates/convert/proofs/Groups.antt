@@ -11,7 +11,7 @@ use mathlib.Core.Path.{◌≡◌, refl, sym, subst, ◌∙◌}
 use mathlib.Core.Logic.{⊎_elim}
 use mathlib.Core.Bool.{true, false, not, false≢true}
 use mathlib.Core.List.{List}
-use mathlib.Core.Option.{Option, some, none}
+use Rattle.std.specs.Prelude.{Option, Some, None}
 use native.Mathlib.Omega.{arith}
 use Rattle.octets.specs.Octets.{AllOctets, same_octets}
 use Rattle.octets.specs.Options.{is_some, IfSome}
@@ -53,7 +53,7 @@ module _ (a s : List ℕ) where
 
 -- one slot more
 module _ (a t : List ℕ) (n : ℕ) where
-  pub gathered_on : has_form a (slot_at t n) ≡ true → gathered a t (suc n) ≡ some (joined (gathered a t n) (renamed a (entry_of (slot_at t n))))
+  pub gathered_on : has_form a (slot_at t n) ≡ true → gathered a t (suc n) ≡ Some (joined (gathered a t n) (renamed a (entry_of (slot_at t n))))
   unfolding gathered
   gathered_on h = rw (gathered, h)
 
@@ -73,14 +73,14 @@ module _ (a t : List ℕ) where
       (λ (m : n ≤ k). let q : n ≡ k = omega arith in absurd (false≢true (sym (rw q at e) ∙ h)))
       (lt_or_le k n)))
 
-  pub gathered_none : (n : ℕ) → ((k : ℕ) → k < n → has_form a (slot_at t k) ≡ false) → gathered a t n ≡ none
+  pub gathered_none : (n : ℕ) → ((k : ℕ) → k < n → has_form a (slot_at t k) ≡ false) → gathered a t n ≡ None
   unfolding gathered
   gathered_none zero h = refl
   gathered_none (suc n) h = gathered_past a t n (h n (omega arith)) ∙ gathered_none n (λ k l. h k (omega arith))
 
   -- where one slot has the form, that is all there is
   pub gathered_only : (n i : ℕ) → i < n → has_form a (slot_at t i) ≡ true → ((k : ℕ) → k < n → (k ≡ i → ⊥) → has_form a (slot_at t k) ≡ false)
-      → gathered a t n ≡ some (renamed a (entry_of (slot_at t i)))
+      → gathered a t n ≡ Some (renamed a (entry_of (slot_at t i)))
   unfolding joined
   gathered_only zero i l h others = absurd (omega arith)
   gathered_only (suc n) i l h others =
@@ -158,8 +158,8 @@ module _ (t : List ℕ) (w : TableBy Ascii t) (o : AllOctets t) where
 
   joined_good : (a : List ℕ) (m : Option Entry) (e : Entry) → IfSome (GoodOf a) m → Good (renamed a e) → GoodOf a (joined m (renamed a e))
   unfolding joined renamed merged
-  joined_good a none e h g = (g, refl)
-  joined_good a (some x) e h g = (good_merged x (renamed a e) h.0 (rw h.1 g), h.1)
+  joined_good a None e h g = (g, refl)
+  joined_good a (Some x) e h g = (good_merged x (renamed a e) h.0 (rw h.1 g), h.1)
 
   pub gathered_good : (a : List ℕ) (n : ℕ) → n ≤ slots t → IfSome (GoodOf a) (gathered a t n)
   unfolding gathered

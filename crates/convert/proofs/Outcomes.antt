@@ -11,7 +11,7 @@
 use Prim.Native.Nat.{ℕ}
 use mathlib.Core.Path.{◌≡◌, sym, ◌∙◌}
 use mathlib.Core.List.{List}
-use mathlib.Core.Option.{some, none}
+use Rattle.std.specs.Prelude.{Some, None}
 use borrow.Author.Rules.{rules}
 use mir.Syntax.{w8}
 use mir.Val.{Fits}
@@ -38,11 +38,11 @@ use Rattle.convert.proofs.Results.{converted_octets, converted_sound, converted_
 
 module _ (t : List ℕ) where
   -- with a refusal the table stays, and else it is converted
-  pub left_refused : (r : Refusal) → refused_converting t ≡ some r → left_by_converting t ≡ t
+  pub left_refused : (r : Refusal) → refused_converting t ≡ Some r → left_by_converting t ≡ t
   unfolding left_by_converting
   left_refused r e = refused_is (λ (x : Refusal). t) (converted t) (refused_converting t) r e
 
-  pub left_done : refused_converting t ≡ none → left_by_converting t ≡ converted t
+  pub left_done : refused_converting t ≡ None → left_by_converting t ≡ converted t
   unfolding left_by_converting
   left_done e = done_is (λ (x : Refusal). t) (converted t) (refused_converting t) e
 
@@ -69,7 +69,7 @@ module _ (t : List ℕ) where
 
   -- a table that is sound already
   module _ (s : checked t ≡ Sound) where
-    not_refused : refused_converting t ≡ none
+    not_refused : refused_converting t ≡ None
     unfolding refused_converting converting_rows
     not_refused = sound_rows Ascii t (was_sound t s)
 

@@ -9,7 +9,7 @@ use Prim.Native.Nat.{ℕ, ◌<◌, ◌≤◌}
 use mathlib.Core.Path.{◌≡◌, refl, sym, ap, ◌∙◌}
 use mathlib.Core.Bool.{true, false, false≢true}
 use mathlib.Core.List.{List}
-use mathlib.Core.Option.{Option, some, none}
+use Rattle.std.specs.Prelude.{Option, Some, None}
 use native.Mathlib.Omega.{arith}
 use lib.ListN.{length}
 use Rattle.octets.specs.Octets.{AllOctets, same_octets}
@@ -34,7 +34,7 @@ use Rattle.convert.proofs.Groups.{form_used, form_is, form_has, gathered_some, l
 -- the lowest slot of a group, and the entry in it
 pub record Led (t : List ℕ) (n i : ℕ) : Type 0 where
   pub entry : Entry
-  pub is : gathered (form_of (slot_at t i)) t n ≡ some entry
+  pub is : gathered (form_of (slot_at t i)) t n ≡ Some entry
   pub good : Good entry
   pub whose : entry.address ≡ form_of (slot_at t i)
   pub slot : converted_at t n i ≡ slot_of entry
@@ -63,8 +63,8 @@ module _ (t : List ℕ) (w : TableBy Ascii t) (o : AllOctets t) where
     led_by : (x : Option Entry) → gathered (form_of (slot_at t i)) t n ≡ x → is_some x ≡ true → IfSome (λ e. Good e × (e.address ≡ form_of (slot_at t i))) x
         → leads t i ≡ true → Led t n i
     unfolding is_some slot_for
-    led_by none e s g h = absurd (false≢true s)
-    led_by (some x) e s g h = record { entry = x; is = e; good = g.0; whose = g.1; slot = leads_slot t n i h ∙ ap slot_for e }
+    led_by None e s g h = absurd (false≢true s)
+    led_by (Some x) e s g h = record { entry = x; is = e; good = g.0; whose = g.1; slot = leads_slot t n i h ∙ ap slot_for e }
 
     pub led : leads t i ≡ true → Led t n i
     led h =

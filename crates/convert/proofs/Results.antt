@@ -11,7 +11,7 @@ use Prim.Native.Nat.{ℕ, suc, zero, ◌<◌}
 use mathlib.Core.Path.{◌≡◌, refl, sym, ap, ◌∙◌}
 use mathlib.Core.Bool.{Bool, true, false, not, ◌&&◌, ◌||◌, false≢true}
 use mathlib.Core.List.{List}
-use mathlib.Core.Option.{some}
+use Rattle.std.specs.Prelude.{Some}
 use native.Mathlib.Omega.{arith}
 use lib.ListN.{length}
 use Rattle.octets.specs.Octets.{AllOctets}
@@ -89,7 +89,7 @@ module _ (t : List ℕ) (w : TableBy Ascii t) (o : AllOctets t) where
         let x : Led t (slots t) j =
         led t w o (slots t) j l (omega arith) (first_form t w o (slots t) (slots t) (omega arith) (omega arith) (converted t) a (λ i b. converted_at_lem i b) j q) in
         entry_at (converted t) a j (converted_found ∙ q)
-        ∙ ap some (ap entry_of (converted_at_lem j l ∙ x.slot) ∙ entry_back x.entry x.good)
+        ∙ ap Some (ap entry_of (converted_at_lem j l ∙ x.slot) ∙ entry_back x.entry x.good)
         ∙ sym x.is
         ∙ ap (λ (b : List ℕ). gathered b t (slots t)) e)
         (λ q.

@@ -10,7 +10,7 @@ use mathlib.Core.Path.{◌≡◌, refl, sym, ap, subst, ◌∙◌}
 use mathlib.Core.Logic.{⊎_elim}
 use mathlib.Core.Bool.{true, false, false≢true}
 use mathlib.Core.List.{List}
-use mathlib.Core.Option.{Option, some}
+use Rattle.std.specs.Prelude.{Option, Some}
 use native.Mathlib.Omega.{arith}
 use borrow.Author.Tests.{lt-ltb, le-ltb, eqb-true, eqb-false}
 use lib.Dec.{eqb}
@@ -156,7 +156,7 @@ module _ (t : List ℕ) (w : TableBy Ascii t) (o : AllOctets t) where
             (leads_slot t (suc n) n (first_leads t n e no_lower)
             ∙ ap slot_for
             (gathered_on form t n (form_has form (slot_at t n) e refl)
-            ∙ ap (λ (x : Option Entry). some (joined x (renamed form (entry_of (slot_at t n))))) (gathered_none form t n no_lower)))
+            ∙ ap (λ (x : Option Entry). Some (joined x (renamed form (entry_of (slot_at t n))))) (gathered_none form t n no_lower)))
 
         next_first : with_slot (partly t n) n (slot_of (renamed form (entry_of (slot_at t n)))) ≡ partly t (suc n)
         next_first =
@@ -224,7 +224,7 @@ module _ (t : List ℕ) (w : TableBy Ascii t) (o : AllOctets t) where
             (leads_slot t (suc n) j leading
             ∙ ap slot_for
             (gathered_on (form_of (slot_at t j)) t n (form_has (form_of (slot_at t j)) (slot_at t n) e (sym shared))
-            ∙ ap (λ (y : Option Entry). some (joined y (renamed (form_of (slot_at t j)) (entry_of (slot_at t n))))) x.is))
+            ∙ ap (λ (y : Option Entry). Some (joined y (renamed (form_of (slot_at t j)) (entry_of (slot_at t n))))) x.is))
 
         next_merged : with_slot freed j (slot_of both) ≡ partly t (suc n)
         next_merged =

@@ -6,7 +6,7 @@ use Prim.Native.Nat.{ℕ}
 use mathlib.Core.Path.{◌≡◌, refl}
 use mathlib.Core.Bool.{true}
 use mathlib.Core.List.{List, [], ◌∷◌, ◌++◌}
-use mathlib.Core.Option.{some, none}
+use Rattle.std.specs.Prelude.{Some, None}
 use Rattle.octets.specs.Octets.{ascii, all_zero, same_octets, lowered, lower}
 use Rattle.octets.specs.Numbers.{number, digits}
 use Rattle.octets.specs.Options.{is_some, or_else, in_front}
@@ -30,15 +30,15 @@ use Rattle.convert.specs.Converting.{form_of, has_form, joined, gathered, leads,
 
 -- `Ö@b` and `ö@b`, as octets
 abbrev capital : Entry
-capital = record { address = 0xC3 ∷ 0x96 ∷ ascii "@b"; last_seen = some 9; direct = none; gossip = some (record { timestamp = 4; key = 1 ∷ [] }) }
+capital = record { address = 0xC3 ∷ 0x96 ∷ ascii "@b"; last_seen = Some 9; direct = None; gossip = Some (record { timestamp = 4; key = 1 ∷ [] }) }
 
 abbrev small : Entry
 small =
     record {
       address = 0xC3 ∷ 0xB6 ∷ ascii "@b";
-      last_seen = some 7;
-      direct = some (record { timestamp = 0; key = 2 ∷ []; «mutual» = true });
-      gossip = some (record { timestamp = 4; key = 3 ∷ [] });
+      last_seen = Some 7;
+      direct = Some (record { timestamp = 0; key = 2 ∷ []; «mutual» = true });
+      gossip = Some (record { timestamp = 4; key = 3 ∷ [] });
     }
 
 -- `ö@b`, with the larger last seen, the one direct half, and the gossip half of the lower slot
@@ -46,9 +46,9 @@ abbrev both : Entry
 both =
     record {
       address = 0xC3 ∷ 0xB6 ∷ ascii "@b";
-      last_seen = some 9;
-      direct = some (record { timestamp = 0; key = 2 ∷ []; «mutual» = true });
-      gossip = some (record { timestamp = 4; key = 1 ∷ [] });
+      last_seen = Some 9;
+      direct = Some (record { timestamp = 0; key = 2 ∷ []; «mutual» = true });
+      gossip = Some (record { timestamp = 4; key = 1 ∷ [] });
     }
 
 table : List ℕ

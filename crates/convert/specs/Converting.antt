@@ -6,7 +6,7 @@
 --     table_of, converted       a table by its slots; the whole table converted
 --     converting_rows .. left_by_converting    the call: its refusals, and the table that it leaves
 use Rattle.std.specs.Prelude.{ℕ, zero, suc, Bool, true, false, not, ◌&&◌, List, [], ◌++◌}
-use Rattle.std.proofs.Math.Option.{Option, some, none}
+use Rattle.std.specs.Prelude.{Option, Some, None}
 use Rattle.octets.specs.Octets.{same_octets}
 use Rattle.refusals.specs.Rows.{Row, first_of, unless_refused}
 use Rattle.refusals.specs.declared.Refusal.{Refusal}
@@ -29,15 +29,15 @@ has_form a s = marked s && same_octets (form_of s) a
 
 -- T18: an entry joined to what lower slots have
 unfoldable pub joined : Option Entry → Entry → Entry
-joined none e = e
-joined (some lower) e = merged lower e
+joined None e = e
+joined (Some lower) e = merged lower e
 
 -- T18: the entries of the first n slots with the form a, merged in slot order; none where there is no such slot
 unfoldable pub gathered : List ℕ → List ℕ → ℕ → Option Entry
-gathered a t zero = none
+gathered a t zero = None
 gathered a t (suc n) =
     elim (has_form a (slot_at t n)) [
-      | true ↦ some (joined (gathered a t n) (renamed a (entry_of (slot_at t n))))
+      | true ↦ Some (joined (gathered a t n) (renamed a (entry_of (slot_at t n))))
       | false ↦ gathered a t n
     ]
 
@@ -47,12 +47,12 @@ leads t i = marked (slot_at t i) && not (is_at (lowest (has_form (form_of (slot_
 
 -- T4: the slot of an entry; a free one where there is none
 unfoldable pub slot_for : Option Entry → List ℕ
-slot_for none = free_slot
-slot_for (some e) = slot_of e
+slot_for None = free_slot
+slot_for (Some e) = slot_of e
 
 -- T17: slot i, where the first n slots are converted: the lowest of a group holds what these have of its form, and each other one is free
 unfoldable pub converted_at : List ℕ → ℕ → ℕ → List ℕ
-converted_at t n i = slot_for (elim (leads t i) [ true ↦ gathered (form_of (slot_at t i)) t n | false ↦ none ])
+converted_at t n i = slot_for (elim (leads t i) [ true ↦ gathered (form_of (slot_at t i)) t n | false ↦ None ])
 
 -- T1: n slots, one behind the other
 unfoldable pub table_of : (ℕ → List ℕ) → ℕ → List ℕ

@@ -5,7 +5,7 @@
 -- Assumes nothing.
 use Prim.Native.Nat.{ℕ, ◌≤◌, ◌<◌}
 use mathlib.Core.Path.{◌≡◌, refl}
-use mathlib.Core.Option.{Option, some, none}
+use Rattle.std.specs.Prelude.{Option, Some, None}
 use native.Mathlib.Omega.{arith}
 use borrow.Author.Rules.{rules}
 use Rattle.date.specs.Date.{effective_date}
@@ -15,8 +15,8 @@ use Rattle.date.specs.declared.Dated.TheVariants.{Available, Unavailable}
 
 pub option_dated : (o : Option ℕ) → option_of (dated_of o) ≡ o
 unfolding option_of dated_of
-option_dated none = refl
-option_dated (some n) = refl
+option_dated None = refl
+option_dated (Some n) = refl
 
 module _ (date : Dated) (receipt : ℕ) where
   pub effective_none : date ≡ Unavailable → receipt ≡ effective_date (option_of date) receipt
@@ -36,5 +36,5 @@ pub ruleset effects = (effective_none, effective_date_lem, effective_receipt, ru
 
 pub effective_upto : (o : Option ℕ) (receipt : ℕ) → effective_date o receipt ≤ receipt
 unfolding effective_date
-effective_upto none receipt = omega arith
-effective_upto (some date) receipt = omega arith
+effective_upto None receipt = omega arith
+effective_upto (Some date) receipt = omega arith

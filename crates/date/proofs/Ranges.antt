@@ -5,7 +5,7 @@ use Prim.Native.Nat.{ℕ, ◌+◌, ◌*◌, ◌≤◌}
 use mathlib.Core.Path.{◌≡◌, refl}
 use mathlib.Core.Bool.{◌&&◌}
 use mathlib.Core.List.{List}
-use mathlib.Core.Option.{Option, some, none}
+use Rattle.std.specs.Prelude.{Option, Some, None}
 use native.Mathlib.Omega.{arith}
 use mir.Val.{Fits}
 use mir.Syntax.{w64}
@@ -28,14 +28,14 @@ use Rattle.date.proofs.Reading.{read_got}
 not_missing : (n : ℕ) (v : List ℕ) → missing ≡ got n v → ⊥
 not_missing n v e = let z : ◌≡◌ {A = ℕ} 0 1 = cc in omega arith
 
-read_some : (o : Option ℕ) (rest v : List ℕ) (n : ℕ) → read_of o rest ≡ got n v → o ≡ some n
+read_some : (o : Option ℕ) (rest v : List ℕ) (n : ℕ) → read_of o rest ≡ got n v → o ≡ Some n
 unfolding read_of
-read_some none rest v n e = cc
-read_some (some m) rest v n e = cc
+read_some None rest v n e = cc
+read_some (Some m) rest v n e = cc
 
 -- what the token at a place means
 next_some :
-    (what : Place) (u v : List ℕ) (n : ℕ) (P : Type 0) → next what u ≡ got n v → ((t : List ℕ) → meant what t ≡ some n → P) → P
+    (what : Place) (u v : List ℕ) (n : ℕ) (P : Type 0) → next what u ≡ got n v → ((t : List ℕ) → meant what t ≡ Some n → P) → P
 unfolding next read_of
 next_some what u v n P e h = go (first_token u) refl
   where
@@ -77,7 +77,7 @@ module _ (u v : List ℕ) (n : ℕ) where
   unfolding meant
   west_in e = next_some West u v n (n ≤ 360_000) e (λ t p. west_some (opens_with t) t n p)
 
-exists_in : (year month day n : ℕ) → year ≤ 9999 → month ≤ 12 → existing year month day ≡ some n → n ≤ 3_000_000
+exists_in : (year month day n : ℕ) → year ≤ 9999 → month ≤ 12 → existing year month day ≡ Some n → n ≤ 3_000_000
 unfolding existing
 exists_in year month day n hy hm e =
     let p : day_count year month day ≡ n = cc (only_if_some (leb 1 day && leb day (month_length year month)) _ n e) in

@@ -2,7 +2,7 @@
 --     dated_of, option_of  the Date, and back
 --     read_in              what a place in the text s stands for: the octets from there on
 use Rattle.std.specs.Prelude.{ℕ, List, drop}
-use Rattle.std.proofs.Math.Option.{Option, some, none}
+use Rattle.std.specs.Prelude.{Option, Some, None}
 use Rattle.date.specs.Date.{Read, got, missing}
 use Rattle.date.specs.declared.Dated.{Dated}
 use Rattle.date.specs.declared.Dated.TheVariants.{Available, Unavailable}
@@ -10,12 +10,12 @@ use Rattle.date.specs.declared.PartRead.{PartRead}
 use Rattle.date.specs.declared.PartRead.TheVariants.{Got, Missing}
 
 unfoldable pub dated_of : Option ℕ → Dated
-dated_of none = Unavailable
-dated_of (some n) = Available n
+dated_of None = Unavailable
+dated_of (Some n) = Available n
 
 unfoldable pub option_of : Dated → Option ℕ
-option_of (Available n) = some n
-option_of Unavailable = none
+option_of (Available n) = Some n
+option_of Unavailable = None
 
 unfoldable pub read_in : List ℕ → PartRead → Read
 read_in s (Got n to) = got n (drop to s)

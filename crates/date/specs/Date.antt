@@ -5,7 +5,7 @@
 --     date_of                   the Date in seconds since the beginning of 1970, none where it is unavailable
 --     effective_date            the effective date
 use Rattle.std.specs.Prelude.{ℕ, ◌+◌, ◌-◌, ◌*◌, min, ◌&&◌, List, leb}
-use Rattle.std.proofs.Math.Option.{Option, some, none}
+use Rattle.std.specs.Prelude.{Option, Some, None}
 use Rattle.calendar.specs.Calendar.{month_length, day_count}
 use Rattle.datewords.specs.Words.{token, end, unreadable, first_token, only_if, meant}
 use Rattle.datewords.specs.declared.meaning.Place.{Place}
@@ -18,8 +18,8 @@ pub data Read : Type 0 where
 
 -- the number, where there is one, and the octets behind it
 unfoldable pub read_of : Option ℕ → List ℕ → Read
-read_of none rest = missing
-read_of (some n) rest = got n rest
+read_of None rest = missing
+read_of (Some n) rest = got n rest
 
 -- one part, and then the part that f reads behind it
 unfoldable pub and_then : Read → (ℕ → List ℕ → Read) → Read
@@ -37,7 +37,7 @@ optional opening closing s = elim (next opening s) [ got n rest ↦ next closing
 
 -- D8: the month must have such a day in that year; the days since 1 January 1900
 unfoldable pub existing : ℕ → ℕ → ℕ → Option ℕ
-existing year month day = only_if (leb 1 day && leb day (month_length year month)) (some (day_count year month day))
+existing year month day = only_if (leb 1 day && leb day (month_length year month)) (Some (day_count year month day))
 
 -- D3: day, month, year
 unfoldable pub calendar_day : List ℕ → Read
@@ -76,8 +76,8 @@ epoch = 86400 * day_count 1970 1 1
 
 -- D3: nothing stands behind the zone. D13: what lies before 1970 is 0.
 unfoldable pub ended : Read → Option ℕ
-ended missing = none
-ended (got n s) = elim (first_token s) [ token t rest ↦ none | end ↦ some (n - epoch) | unreadable ↦ none ]
+ended missing = None
+ended (got n s) = elim (first_token s) [ token t rest ↦ None | end ↦ Some (n - epoch) | unreadable ↦ None ]
 
 -- D3: all parts, the day name with its comma perhaps missing. D1: none where the value does not read.
 unfoldable pub date_of : List ℕ → Option ℕ
@@ -85,5 +85,5 @@ date_of s = ended (and_then (optional DayName Comma s) (λ _ a. and_then (local_
 
 -- D2: the receipt time, or a Date that is smaller
 unfoldable pub effective_date : Option ℕ → ℕ → ℕ
-effective_date none receipt = receipt
-effective_date (some date) receipt = min date receipt
+effective_date None receipt = receipt
+effective_date (Some date) receipt = min date receipt

@@ -9,7 +9,8 @@ use Prim.Native.Nat.{ℕ, suc, ◌+◌, ◌-◌, ◌*◌, ◌^◌, ◌≤◌, �
 use mathlib.Core.Path.{◌≡◌, refl, sym, ◌∙◌}
 use mathlib.Core.Bool.{Bool, true, false, ◌&&◌}
 use mathlib.Core.List.{List, [], ◌∷◌}
-use mathlib.Core.Option.{Option, some, none, bind, none-ne-some}
+use Rattle.std.proofs.lemmas.Option.{none-some}
+use Rattle.std.specs.Prelude.{Option, Some, None}
 use native.Mathlib.Nat.{add-zero, zero-add, pow-le-pow_right, pow-succ'}
 use native.Mathlib.Numerals.{add-one}
 use native.Mathlib.Omega.{arith}
@@ -28,23 +29,23 @@ use Rattle.datewords.specs.declared.meaning.Meaning.{Meaning}
 use Rattle.datewords.specs.declared.meaning.Meaning.TheVariants.{Value, Nothing}
 
 -- what an answer says of the definition
-pub value_is : (o : Option ℕ) (r : Meaning) (n : ℕ) → r ≡ meaning o → r ≡ Value n → o ≡ some n
+pub value_is : (o : Option ℕ) (r : Meaning) (n : ℕ) → r ≡ meaning o → r ≡ Value n → o ≡ Some n
 unfolding meaning
-value_is none r n e q = cc
-value_is (some m) r n e q = cc
+value_is None r n e q = cc
+value_is (Some m) r n e q = cc
 
-pub nothing_is : (o : Option ℕ) (r : Meaning) → r ≡ meaning o → r ≡ Nothing → o ≡ none
+pub nothing_is : (o : Option ℕ) (r : Meaning) → r ≡ meaning o → r ≡ Nothing → o ≡ None
 unfolding meaning
-nothing_is none r e q = refl
-nothing_is (some m) r e q = cc
+nothing_is None r e q = refl
+nothing_is (Some m) r e q = cc
 
 -- where a definition has an answer, its tests hold
-pub only_if_true : (b : Bool) (o : Option ℕ) (n : ℕ) → only_if b o ≡ some n → b ≡ true
+pub only_if_true : (b : Bool) (o : Option ℕ) (n : ℕ) → only_if b o ≡ Some n → b ≡ true
 unfolding only_if
 only_if_true true o n e = refl
 only_if_true false o n e = cc
 
-pub only_if_some : (b : Bool) (o : Option ℕ) (n : ℕ) → only_if b o ≡ some n → o ≡ some n
+pub only_if_some : (b : Bool) (o : Option ℕ) (n : ℕ) → only_if b o ≡ Some n → o ≡ Some n
 unfolding only_if
 only_if_some true o n e = e
 only_if_some false o n e = cc
@@ -76,11 +77,11 @@ module _ (x : ℕ) (b : Bool) (e : b ≡ belongs Digit x) where
 
 pub ruleset one_digit = (digit_above, digit_is, digit_none, rules)
 
-digit_small : (x d : ℕ) → digit_of x ≡ some d → d ≤ 9
+digit_small : (x d : ℕ) → digit_of x ≡ Some d → d ≤ 9
 unfolding digit_of
 digit_small x d e =
-    let p : x - 48 ≡ d = cc (only_if_some (belongs Digit x) (some (x - 48)) d e) in
-    omega (arith, digit_range x (only_if_true (belongs Digit x) (some (x - 48)) d e))
+    let p : x - 48 ≡ d = cc (only_if_some (belongs Digit x) (Some (x - 48)) d e) in
+    omega (arith, digit_range x (only_if_true (belongs Digit x) (Some (x - 48)) d e))
 
 -- one digit more: the number stays below the next power of ten
 digit_more : (n i d : ℕ) → n < 10 ^ i → d ≤ 9 → 10 * n + d < 10 ^ (i + 1)
@@ -110,12 +111,12 @@ module _ (t : List ℕ) (i n : ℕ) (h : Valued t i n) where
 
   pub value_end : length t ≤ i → Value n ≡ meaning (number_of t)
   unfolding value_from meaning
-  value_end l = rw (number_as (some n) (rw (drop_done t i l)))
+  value_end l = rw (number_as (Some n) (rw (drop_done t i l)))
 
   module _ (l : i < length t) (r : Meaning) (e : r ≡ meaning (digit_of (get_or t i 0))) where
     pub value_stop : r ≡ Nothing → Nothing ≡ meaning (number_of t)
-    unfolding value_from bind meaning
-    value_stop q = rw (number_as none (rw (drop_one t i l, nothing_is (digit_of (get_or t i 0)) r e q)))
+    unfolding value_from meaning
+    value_stop q = rw (number_as None (rw (drop_one t i l, nothing_is (digit_of (get_or t i 0)) r e q)))
 
     module _ (d : ℕ) (q : r ≡ Value d) where
       small : 10 * n + d < 10 ^ (i + 1)
@@ -128,7 +129,7 @@ module _ (t : List ℕ) (i n : ℕ) (h : Valued t i n) where
       value_ten = record { fits = omega (arith, value_fits.fits) }
 
       pub value_on : Valued t (i + 1) (10 * n + d)
-      unfolding value_from bind
+      unfolding value_from
       value_on = record {
         upto = omega arith;
         few = h.few;
@@ -138,26 +139,26 @@ module _ (t : List ℕ) (i n : ℕ) (h : Valued t i n) where
 
 pub ruleset valuing = (number_long, value_begin, value_end, value_stop, value_fits, value_ten, value_on, rules)
 
-value_below : (t : List ℕ) (i n m : ℕ) → n < 10 ^ i → value_from n t ≡ some m → m < 10 ^ (i + length t)
-unfolding value_from bind
+value_below : (t : List ℕ) (i n m : ℕ) → n < 10 ^ i → value_from n t ≡ Some m → m < 10 ^ (i + length t)
+unfolding value_from
 value_below [] i n m h e = let p : n ≡ m = cc in rw (add-zero, ← p) h
 value_below (x ∷ t) i n m h e = go (digit_of x) refl (λ d. value_below t (i + 1) (10 * n + d) m)
   where
     go :
         (o : Option ℕ) → digit_of x ≡ o
-        → ((d : ℕ) → 10 * n + d < 10 ^ (i + 1) → value_from (10 * n + d) t ≡ some m → m < 10 ^ (i + 1 + length t))
+        → ((d : ℕ) → 10 * n + d < 10 ^ (i + 1) → value_from (10 * n + d) t ≡ Some m → m < 10 ^ (i + 1 + length t))
         → m < 10 ^ (i + suc (length t))
-    go none p rest = absurd (none-ne-some m (rw p at e))
-    go (some d) p rest =
+    go None p rest = absurd (none-some m (rw p at e))
+    go (Some d) p rest =
         let w : i + suc (length t) ≡ i + 1 + length t = omega arith in
         rw w (rest d (digit_more n i d h (digit_small x d p)) (rw p at e))
 
 -- a number of so many digits
-pub number_below : (t : List ℕ) (n : ℕ) → number_of t ≡ some n → n < 10 ^ length t
+pub number_below : (t : List ℕ) (n : ℕ) → number_of t ≡ Some n → n < 10 ^ length t
 unfolding number_of
 number_below t n e = rw zero-add at (value_below t 0 0 n (omega arith) (only_if_some (leb (length t) 4) _ n e))
 
-pub number_small : (t : List ℕ) (n : ℕ) → number_of t ≡ some n → n ≤ 9999
+pub number_small : (t : List ℕ) (n : ℕ) → number_of t ≡ Some n → n ≤ 9999
 unfolding number_of
 number_small t n e =
     four_digits n (length t) (number_below t n e) (leb-true (length t) 4 (only_if_true (leb (length t) 4) (value_from 0 t) n e))

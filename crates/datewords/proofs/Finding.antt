@@ -6,7 +6,7 @@ use Prim.Native.Nat.{ℕ, suc, ◌+◌, ◌-◌, ◌≤◌, ◌<◌}
 use mathlib.Core.Path.{◌≡◌, sym, ◌∙◌}
 use mathlib.Core.Logic.{⊎_elim}
 use mathlib.Core.List.{List}
-use mathlib.Core.Option.{some}
+use Rattle.std.specs.Prelude.{Some}
 use native.Mathlib.Numerals.{add-one}
 use native.Mathlib.Omega.{arith}
 use borrow.Author.Rules.{rules}
@@ -37,16 +37,16 @@ further_short Minus s = run_short (belongs Digit) s
 further_short Mark s = omega arith
 
 module _ (s : List ℕ) (at : ℕ) (r : Reached) (e : r ≡ reached s (skipped (drop at s))) where
-  skip_any : (n : ℕ) → r ≡ To n → skipped (drop at s) ≡ some (drop n s)
+  skip_any : (n : ℕ) → r ≡ To n → skipped (drop at s) ≡ Some (drop n s)
   skip_any n q = ⊎_elim within beyond (lt_or_le at (length s))
     where
-      within : at < length s → skipped (drop at s) ≡ some (drop n s)
+      within : at < length s → skipped (drop at s) ≡ Some (drop n s)
       within l = skip_left s at r e n q (omega arith)
 
       same : length s ≤ at → drop at s ≡ drop (length s) s
       same l = drop_done s at l ∙ sym (drop_done s (length s) (omega arith))
 
-      beyond : length s ≤ at → skipped (drop at s) ≡ some (drop n s)
+      beyond : length s ≤ at → skipped (drop at s) ≡ Some (drop n s)
       beyond l = rw (same l) (skip_left s (length s) r (rw (same l) at e) n q (omega arith))
 
   pub found_unreadable : r ≡ Stuck → token_in s Unreadable ≡ first_token (drop at s)

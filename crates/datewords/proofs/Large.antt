@@ -5,7 +5,8 @@ use Prim.Native.Nat.{ℕ, ◌+◌, ◌*◌, ◌/◌, ◌%◌, ◌^◌, ◌≤◌
 use mathlib.Core.Path.{◌≡◌, refl}
 use mathlib.Core.Bool.{Bool, true, false, ◌&&◌}
 use mathlib.Core.List.{List}
-use mathlib.Core.Option.{Option, some, none, bind, none-ne-some}
+use Rattle.std.proofs.lemmas.Option.{none-some, option_and_then_some}
+use Rattle.std.specs.Prelude.{Option, Some, None}
 use native.Mathlib.Omega.{arith}
 use borrow.Author.Tests.{leb-true, eqb-true, eq-eqb}
 use lib.Dec.{leb, eqb}
@@ -32,28 +33,21 @@ use Rattle.datewords.specs.declared.token.Opening.TheVariants.{Number, Word, Plu
 use Rattle.datewords.proofs.Digits.{only_if_true, only_if_some, both_right, number_below, number_small}
 use Rattle.datewords.proofs.Naming.{place_below}
 
--- where a number of a number is there, so is the first
-bind_some :
-    (o : Option ℕ) (f : ℕ → Option ℕ) (n : ℕ) (P : Type 0) → bind o f ≡ some n → ((m : ℕ) → o ≡ some m → f m ≡ some n → P) → P
-unfolding bind
-bind_some none f n P e h = absurd (none-ne-some n e)
-bind_some (some m) f n P e h = h m refl e
-
-pub two_most : (most : ℕ) (t : List ℕ) (n : ℕ) → two_digits most t ≡ some n → n ≤ most
+pub two_most : (most : ℕ) (t : List ℕ) (n : ℕ) → two_digits most t ≡ Some n → n ≤ most
 unfolding two_digits
 two_most most t n e =
-    bind_some (number_of t) (λ m. only_if (leb m most) (some m)) n (n ≤ most) (only_if_some (eqb (length t) 2) _ n e)
+    option_and_then_some (λ m. only_if (leb m most) (Some m)) (number_of t) n (only_if_some (eqb (length t) 2) _ n e)
     (λ m p q.
-    let w : m ≡ n = cc (only_if_some (leb m most) (some m) n q) in
-    omega (arith, leb-true m most (only_if_true (leb m most) (some m) n q)))
+    let w : m ≡ n = cc (only_if_some (leb m most) (Some m) n q) in
+    omega (arith, leb-true m most (only_if_true (leb m most) (Some m) n q)))
 
-pub month_some : (t : List ℕ) (n : ℕ) → month_of t ≡ some n → (1 ≤ n) × (n ≤ 12)
+pub month_some : (t : List ℕ) (n : ℕ) → month_of t ≡ Some n → (1 ≤ n) × (n ≤ 12)
 unfolding month_of
 month_some t n e =
-    bind_some (place_in t month_names) (λ k. some (k + 1)) n ((1 ≤ n) × (n ≤ 12)) e
+    option_and_then_some (λ k. Some (k + 1)) (place_in t month_names) n e
     (λ k p q. let w : k + 1 ≡ n = cc in omega (arith, place_below t month_names 0 k p))
 
-year_by_lem : (width m n : ℕ) → m < 10 ^ width → m ≤ 9999 → year_by width m ≡ some n → (1900 ≤ n) × (n ≤ 9999)
+year_by_lem : (width m n : ℕ) → m < 10 ^ width → m ≤ 9999 → year_by width m ≡ Some n → (1900 ≤ n) × (n ≤ 9999)
 unfolding year_by
 year_by_lem width m n h l e = two (eqb width 2) refl
   where
@@ -70,22 +64,22 @@ year_by_lem width m n h l e = two (eqb width 2) refl
         let k : m < 10 ^ 3 = rw (eqb-true width 3 p) at h in
         omega arith
     three false p w =
-        let o : only_if (eqb width 4 && leb 1900 m) (some m) ≡ some n = rw (year_by, w, p) at e in
-        let q : m ≡ n = cc (only_if_some (eqb width 4 && leb 1900 m) (some m) n o) in
-        omega (arith, leb-true 1900 m (both_right (eqb width 4) (leb 1900 m) (only_if_true _ (some m) n o)))
+        let o : only_if (eqb width 4 && leb 1900 m) (Some m) ≡ Some n = rw (year_by, w, p) at e in
+        let q : m ≡ n = cc (only_if_some (eqb width 4 && leb 1900 m) (Some m) n o) in
+        omega (arith, leb-true 1900 m (both_right (eqb width 4) (leb 1900 m) (only_if_true _ (Some m) n o)))
 
     two : (b : Bool) → eqb width 2 ≡ b → (1900 ≤ n) × (n ≤ 9999)
     two true p = new (leb m 49) refl (eqb-true width 2 p)
     two false p = three (eqb width 3) refl p
 
-pub year_some : (t : List ℕ) (n : ℕ) → year_of t ≡ some n → (1900 ≤ n) × (n ≤ 9999)
+pub year_some : (t : List ℕ) (n : ℕ) → year_of t ≡ Some n → (1900 ≤ n) × (n ≤ 9999)
 unfolding year_of
 year_some t n e =
-    bind_some (number_of t) (λ m. year_by (length t) m) n ((1900 ≤ n) × (n ≤ 9999)) e
+    option_and_then_some (λ m. year_by (length t) m) (number_of t) n e
     (λ m p q. year_by_lem (length t) m n (number_below t m p) (number_small t m p) q)
 
 -- no zone is 100 hours away
-offset_some : (t : List ℕ) (n : ℕ) → offset_of t ≡ some n → n ≤ 360_000
+offset_some : (t : List ℕ) (n : ℕ) → offset_of t ≡ Some n → n ≤ 360_000
 unfolding offset_of offset_by
 offset_some t n e =
     bind_some (number_of t) (λ m. offset_by m) n (n ≤ 360_000) (only_if_some (eqb (length t) 4) _ n e)
@@ -98,13 +92,13 @@ unfolding hours_west
 hours_most t = go (place_in t zone_names) refl
   where
     go : (o : Option ℕ) → place_in t zone_names ≡ o → hours_west t ≤ 8
-    go none p = rw (hours_west, p) (omega arith)
-    go (some k) p = rw (hours_west, p) (at_most 8 zone_hours (omega arith) k)
+    go None p = rw (hours_west, p) (omega arith)
+    go (Some k) p = rw (hours_west, p) (at_most 8 zone_hours (omega arith) k)
 
-pub west_some : (k : Opening) (t : List ℕ) (n : ℕ) → west_by k t ≡ some n → n ≤ 360_000
+pub west_some : (k : Opening) (t : List ℕ) (n : ℕ) → west_by k t ≡ Some n → n ≤ 360_000
 unfolding west_by
-west_some Number t n e = absurd (none-ne-some n e)
+west_some Number t n e = absurd (none-some n e)
 west_some Word t n e = let q : 3600 * hours_west t ≡ n = cc in omega (arith, hours_most t)
-west_some Plus t n e = absurd (none-ne-some n e)
+west_some Plus t n e = absurd (none-some n e)
 west_some Minus t n e = offset_some (drop 1 t) n e
-west_some Mark t n e = absurd (none-ne-some n e)
+west_some Mark t n e = absurd (none-some n e)

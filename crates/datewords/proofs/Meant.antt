@@ -7,7 +7,7 @@ use Prim.Native.Nat.{ℕ, ◌+◌, ◌-◌, ◌*◌, ◌/◌, ◌%◌, ◌≤◌
 use mathlib.Core.Path.{◌≡◌, refl, sym, ◌∙◌}
 use mathlib.Core.Bool.{Bool, true, false}
 use mathlib.Core.List.{List, [], ◌∷◌}
-use mathlib.Core.Option.{some, bind}
+use Rattle.std.specs.Prelude.{Some}
 use native.Mathlib.Omega.{arith}
 use mir.Val.{Fits}
 use mir.Syntax.{w64}
@@ -55,11 +55,11 @@ pub ruleset days = (day_long, day_short, rules)
 
 module _ (t : List ℕ) (r : Meaning) (e : r ≡ meaning (place_in t month_names)) where
   pub month_is : (k : ℕ) → r ≡ Value k → Value (k + 1) ≡ meaning (month_of t)
-  unfolding month_of bind meaning
+  unfolding month_of meaning
   month_is k q = rw (value_is (place_in t month_names) r k e q)
 
   pub month_none : r ≡ Nothing → Nothing ≡ meaning (month_of t)
-  unfolding month_of bind meaning
+  unfolding month_of meaning
   month_none q = rw (nothing_is (place_in t month_names) r e q)
 
   pub month_fits : (k : ℕ) → r ≡ Value k → Fits w64 (k + 1)
@@ -101,33 +101,33 @@ module _ (t : List ℕ) (g : Meaning) (e : g ≡ meaning (number_of t)) where
   number_fits n q = number_small t n (value_is _ g n e q)
 
   pub year_is : (n : ℕ) (r : Meaning) → g ≡ Value n → r ≡ meaning (year_by (length t) n) → r ≡ meaning (year_of t)
-  unfolding year_of bind
+  unfolding year_of
   year_is n r q h = rw (value_is (number_of t) g n e q) h
 
   pub year_no_number : g ≡ Nothing → Nothing ≡ meaning (year_of t)
-  unfolding year_of bind meaning
+  unfolding year_of meaning
   year_no_number q = rw (nothing_is (number_of t) g e q)
 
   module _ (most : ℕ) (w : length t ≡ 2) where
     pub two_is : (n : ℕ) → g ≡ Value n → n ≤ most → Value n ≡ meaning (two_digits most t)
-    unfolding two_digits only_if bind meaning
+    unfolding two_digits only_if meaning
     two_is n q h = rw (eq-eqb (length t) 2 w, value_is (number_of t) g n e q, le-leb n most h)
 
     pub two_above : (n : ℕ) → g ≡ Value n → most < n → Nothing ≡ meaning (two_digits most t)
-    unfolding two_digits only_if bind meaning
+    unfolding two_digits only_if meaning
     two_above n q h = rw (eq-eqb (length t) 2 w, value_is (number_of t) g n e q, lt-leb n most h)
 
     pub two_no_number : g ≡ Nothing → Nothing ≡ meaning (two_digits most t)
-    unfolding two_digits only_if bind meaning
+    unfolding two_digits only_if meaning
     two_no_number q = rw (eq-eqb (length t) 2 w, nothing_is (number_of t) g e q)
 
   module _ (w : length t ≡ 4) where
     pub offset_is : (n : ℕ) (r : Meaning) → g ≡ Value n → r ≡ meaning (offset_by n) → r ≡ meaning (offset_of t)
-    unfolding offset_of only_if bind
+    unfolding offset_of only_if
     offset_is n r q h = rw (eq-eqb (length t) 4 w, value_is (number_of t) g n e q) h
 
     pub offset_no_number : g ≡ Nothing → Nothing ≡ meaning (offset_of t)
-    unfolding offset_of only_if bind meaning
+    unfolding offset_of only_if meaning
     offset_no_number q = rw (eq-eqb (length t) 4 w, nothing_is (number_of t) g e q)
 
 pub two_width : (t : List ℕ) (most : ℕ) → (length t ≡ 2 → ⊥) → Nothing ≡ meaning (two_digits most t)
@@ -135,7 +135,7 @@ unfolding two_digits only_if meaning
 two_width t most h = rw (ne_eqb (length t) 2 h)
 
 pub offset_width : (t : List ℕ) → (length t ≡ 4 → ⊥) → Nothing ≡ meaning (offset_of t)
-unfolding offset_of only_if bind meaning
+unfolding offset_of only_if meaning
 offset_width t h = rw (ne_eqb (length t) 4 h)
 
 pub offset_minutes : (n : ℕ) → n % 100 ≤ 59 → Value (3600 * (n / 100) + 60 * (n % 100)) ≡ meaning (offset_by n)
@@ -192,7 +192,7 @@ module _ (t : List ℕ) where
     pub west_as : r ≡ meaning (west_by k t) → r ≡ meaning (west_by (opens_with t) t)
     west_as h = rw (← e, q) h
 
-pub west_named : (n m : ℕ) → n ≡ m → Value (3600 * n) ≡ meaning (some (3600 * m))
+pub west_named : (n m : ℕ) → n ≡ m → Value (3600 * n) ≡ meaning (Some (3600 * m))
 unfolding meaning
 west_named n m e = rw e
 

@@ -6,7 +6,8 @@ use Prim.Native.Nat.{ℕ, ◌+◌, ◌-◌, ◌*◌, ◌≤◌, ◌<◌}
 use mathlib.Core.Path.{◌≡◌, refl, sym, ◌∙◌}
 use mathlib.Core.Bool.{Bool, true, false}
 use mathlib.Core.List.{List, [], ◌∷◌}
-use mathlib.Core.Option.{some, none, none-ne-some}
+use Rattle.std.proofs.lemmas.Option.{none-some}
+use Rattle.std.specs.Prelude.{Some, None}
 use native.Mathlib.Omega.{arith}
 use borrow.Author.Rules.{rules}
 use lib.ListN.{length, take, drop, length-drop}
@@ -17,14 +18,14 @@ use Rattle.datewords.specs.Answers.{meaning}
 use Rattle.datewords.specs.declared.meaning.Meaning.TheVariants.{Value, Nothing}
 
 module _ (t : List ℕ) where
-  place_none : (k : ℕ) (names : List ℕ) → length names < 3 → place_from k t names ≡ none
+  place_none : (k : ℕ) (names : List ℕ) → length names < 3 → place_from k t names ≡ None
   unfolding place_from here_or
   place_none k [] h = refl
   place_none k (a ∷ []) h = refl
   place_none k (a ∷ b ∷ []) h = refl
   place_none k (a ∷ b ∷ c ∷ names) h = absurd (omega arith)
 
-  place_here : (k : ℕ) (names : List ℕ) → 3 ≤ length names → same_name t (take 3 names) ≡ true → place_from k t names ≡ some k
+  place_here : (k : ℕ) (names : List ℕ) → 3 ≤ length names → same_name t (take 3 names) ≡ true → place_from k t names ≡ Some k
   unfolding place_from here_or
   place_here k [] h e = absurd (omega arith)
   place_here k (a ∷ []) h e = absurd (omega arith)
@@ -74,16 +75,16 @@ module _ (t names : List ℕ) (k i : ℕ) (h : Looked t names k i) where
 
 pub ruleset looking = (look_begin, look_end, look_found, look_on, rules)
 
-pub place_below : (t names : List ℕ) (j k : ℕ) → place_from j t names ≡ some k → 3 * k < 3 * j + length names
+pub place_below : (t names : List ℕ) (j k : ℕ) → place_from j t names ≡ Some k → 3 * k < 3 * j + length names
 unfolding place_from here_or
-place_below t [] j k e = absurd (none-ne-some k e)
-place_below t (a ∷ []) j k e = absurd (none-ne-some k e)
-place_below t (a ∷ b ∷ []) j k e = absurd (none-ne-some k e)
+place_below t [] j k e = absurd (none-some k e)
+place_below t (a ∷ []) j k e = absurd (none-some k e)
+place_below t (a ∷ b ∷ []) j k e = absurd (none-some k e)
 place_below t (a ∷ b ∷ c ∷ names) j k e = go (same_name t (a ∷ b ∷ c ∷ [])) refl (place_below t names (j + 1) k)
   where
     go :
         (s : Bool) → same_name t (a ∷ b ∷ c ∷ []) ≡ s
-        → (place_from (j + 1) t names ≡ some k → 3 * k < 3 * (j + 1) + length names)
+        → (place_from (j + 1) t names ≡ Some k → 3 * k < 3 * (j + 1) + length names)
         → 3 * k < 3 * j + length (a ∷ b ∷ c ∷ names)
     go true p rest = let q : j ≡ k = cc (rw p at e) in omega arith
     go false p rest = omega (arith, rest (rw p at e))

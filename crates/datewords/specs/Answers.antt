@@ -3,7 +3,7 @@
 --     token_in             what a place in the text s stands for: the octets from there on
 --     Inside               a token lies in the text s
 use Rattle.std.specs.Prelude.{ℕ, ◌-◌, ◌≤◌, List, length, take, drop}
-use Rattle.std.proofs.Math.Option.{Option, some, none}
+use Rattle.std.specs.Prelude.{Option, Some, None}
 use Rattle.datewords.specs.Words.{Token, token, end, unreadable}
 use Rattle.datewords.specs.declared.meaning.Meaning.{Meaning}
 use Rattle.datewords.specs.declared.meaning.Meaning.TheVariants.{Value, Nothing}
@@ -11,8 +11,8 @@ use Rattle.datewords.specs.declared.token.WordAt.{WordAt}
 use Rattle.datewords.specs.declared.token.WordAt.TheVariants.{Between, End, Unreadable}
 
 unfoldable pub meaning : Option ℕ → Meaning
-meaning none = Nothing
-meaning (some n) = Value n
+meaning None = Nothing
+meaning (Some n) = Value n
 
 unfoldable pub token_in : List ℕ → WordAt → Token
 token_in s (Between from to) = token (take (to - from) (drop from s)) (drop to s)

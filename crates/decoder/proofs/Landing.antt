@@ -6,7 +6,7 @@ use Prim.Native.Nat.{ℕ, ◌+◌, ◌-◌, ◌*◌, ◌/◌, ◌%◌, ◌^◌, 
 use mathlib.Core.Path.{◌≡◌, refl, sym, ap, ◌∙◌}
 use mathlib.Core.Bool.{Bool, true, false}
 use mathlib.Core.List.{List, ◌∷◌}
-use mathlib.Core.Option.{none}
+use Rattle.std.specs.Prelude.{None}
 use native.Mathlib.Nat.{mod-lt, div-le_self, le-div_iff_mul-le}
 use native.Mathlib.Omega.{arith}
 use borrow.Author.Rules.{rules}
@@ -25,11 +25,11 @@ use Rattle.decoder.specs.Steps.{Lands, Landing, Lost}
 use Rattle.decoder.specs.declared.Decoder.{Decoder}
 use Rattle.decoder.proofs.Inserting.{take_inserted, scalar_over}
 
-landed_none : (s : List ℕ) (n old : ℕ) (out : List ℕ) (j : ℕ) → scalar (n + j / (length out + 1)) ≡ false → landed (run s) n old out j ≡ none
+landed_none : (s : List ℕ) (n old : ℕ) (out : List ℕ) (j : ℕ) → scalar (n + j / (length out + 1)) ≡ false → landed (run s) n old out j ≡ None
 unfolding landed
 landed_none s n old out j e = rw (landed, e)
 
-pub landed_over : (s : List ℕ) (n old : ℕ) (out : List ℕ) (j : ℕ) → 0x110000 * (length out + 1) ≤ j → landed (run s) n old out j ≡ none
+pub landed_over : (s : List ℕ) (n old : ℕ) (out : List ℕ) (j : ℕ) → 0x110000 * (length out + 1) ≤ j → landed (run s) n old out j ≡ None
 landed_over s n old out j h =
     let q : 0x110000 ≤ j / (length out + 1) = (le-div_iff_mul-le {k = length out + 1} {x = 0x110000} {y = j} (omega arith)).1 h in
     landed_none s n old out j (scalar_over _ (omega arith))

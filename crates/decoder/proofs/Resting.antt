@@ -7,7 +7,7 @@ use Prim.Native.Nat.{ℕ, suc, ◌+◌, ◌*◌, ◌^◌, ◌<◌, ◌≤◌}
 use mathlib.Core.Path.{◌≡◌, refl, sym, ap, ◌∙◌}
 use mathlib.Core.Bool.{true, false}
 use mathlib.Core.List.{List, [], ◌∷◌}
-use mathlib.Core.Option.{none}
+use Rattle.std.specs.Prelude.{None}
 use native.Mathlib.Omega.{arith}
 use borrow.Author.Rules.{rules}
 use borrow.Author.Tests.{eq-eqb, ne_eqb, eqb-true, eqb-false}
@@ -106,7 +106,7 @@ decode_yes : (t : List ℕ) → all_basic (front t) ≡ true → decode t ≡ ru
 unfolding decode
 decode_yes t e = rw (decode, e)
 
-decode_no : (t : List ℕ) → all_basic (front t) ≡ false → decode t ≡ none
+decode_no : (t : List ℕ) → all_basic (front t) ≡ false → decode t ≡ None
 unfolding decode
 decode_no t e = rw (decode, e)
 

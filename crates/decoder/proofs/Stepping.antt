@@ -7,7 +7,7 @@
 use Prim.Native.Nat.{ℕ, ◌+◌, ◌-◌, ◌*◌, ◌<◌, ◌≤◌}
 use mathlib.Core.Path.{◌≡◌, refl, sym, ◌∙◌}
 use mathlib.Core.List.{List, [], ◌∷◌}
-use mathlib.Core.Option.{Option, some, none}
+use Rattle.std.specs.Prelude.{Option, Some, None}
 use mathlib.Core.Logic.{⊎_elim}
 use native.Mathlib.Nat.{mul-le-mul_left, mul-le-mul_right}
 use native.Mathlib.Omega.{arith}
@@ -29,18 +29,18 @@ use Rattle.decoder.specs.declared.Step.{Step}
 use Rattle.decoder.specs.declared.Step.TheVariants.{On, Never}
 use Rattle.decoder.proofs.Landing.{landed_over}
 
-run_other : (c : ℕ) (s : List ℕ) (n old bias : ℕ) (out : List ℕ) (i w k : ℕ) → value c ≡ none → run (c ∷ s) n old bias out i w k ≡ none
+run_other : (c : ℕ) (s : List ℕ) (n old bias : ℕ) (out : List ℕ) (i w k : ℕ) → value c ≡ None → run (c ∷ s) n old bias out i w k ≡ None
 unfolding run
 run_other c s n old bias out i w k e = rw (run, e)
 
 module _ (n old bias : ℕ) (out : List ℕ) where
   -- what is claimed of the rest of a text, in the middle of a number that is too large
   abbrev Over : List ℕ → Type 0
-  Over s = (i w k : ℕ) → 0x110000 * (length out + 1) ≤ i → 36 < k → run s n old bias out i w k ≡ none
+  Over s = (i w k : ℕ) → 0x110000 * (length out + 1) ≤ i → 36 < k → run s n old bias out i w k ≡ None
 
   -- a digit that makes it too large
-  run_large : (s : List ℕ) → Over s → (c d i w k : ℕ) → value c ≡ some d → 0x110000 * (length out + 1) ≤ i + d * w → 36 ≤ k
-      → run (c ∷ s) n old bias out i w k ≡ none
+  run_large : (s : List ℕ) → Over s → (c d i w k : ℕ) → value c ≡ Some d → 0x110000 * (length out + 1) ≤ i + d * w → 36 ≤ k
+      → run (c ∷ s) n old bias out i w k ≡ None
   run_large s later c d i w k v h l =
       ⊎_elim
       (λ (t : d < threshold k bias). run_last c d s n old bias out i w k v t ∙ landed_over s n old out (i + d * w) h)
@@ -52,20 +52,20 @@ module _ (n old bias : ℕ) (out : List ℕ) where
   run_over [] i w k h l = rw (ne_eqb k 36 (omega arith))
   run_over (c ∷ s) i w k h l = go (run_over s) (value c) refl
     where
-      go : Over s → (o : Option ℕ) → value c ≡ o → run (c ∷ s) n old bias out i w k ≡ none
-      go later none e = run_other c s n old bias out i w k e
-      go later (some d) e = run_large s later c d i w k e (omega arith) (omega arith)
+      go : Over s → (o : Option ℕ) → value c ≡ o → run (c ∷ s) n old bias out i w k ≡ None
+      go later None e = run_other c s n old bias out i w k e
+      go later (Some d) e = run_large s later c d i w k e (omega arith) (omega arith)
 
 -- `read_one`
-value_none : (o : Option ℕ) → Other ≡ value_of o → o ≡ none
+value_none : (o : Option ℕ) → Other ≡ value_of o → o ≡ None
 unfolding value_of
-value_none none e = refl
-value_none (some v) e = let z : ◌≡◌ {A = ℕ} 0 1 = cc in absurd (omega arith)
+value_none None e = refl
+value_none (Some v) e = let z : ◌≡◌ {A = ℕ} 0 1 = cc in absurd (omega arith)
 
-value_some : (o : Option ℕ) (v : ℕ) → Digit v ≡ value_of o → o ≡ some v
+value_some : (o : Option ℕ) (v : ℕ) → Digit v ≡ value_of o → o ≡ Some v
 unfolding value_of
-value_some none v e = let z : ◌≡◌ {A = ℕ} 0 1 = cc in absurd (omega arith)
-value_some (some u) v e = cc
+value_some None v e = let z : ◌≡◌ {A = ℕ} 0 1 = cc in absurd (omega arith)
+value_some (Some u) v e = cc
 
 module _ (d : List ℕ) (c : ℕ) (s : Decoder) (h : Steps (length d) s) (r : Value) where
   long : length (take s.len d) ≡ s.len
@@ -75,7 +75,7 @@ module _ (d : List ℕ) (c : ℕ) (s : Decoder) (h : Steps (length d) s) (r : Va
   one_other a e = record { same = refl; goes = λ rest. run_other c rest _ _ _ _ _ _ _ (value_none (value c) (sym a ∙ e)) }
 
   module _ (v : ℕ) (a : r ≡ Digit v) (e : r ≡ value_of (value c)) where
-    is : value c ≡ some v
+    is : value c ≡ Some v
     is = value_some (value c) v (sym a ∙ e)
 
     -- the digit is at most 35, and so is the weight, for each that the sum has

@@ -8,7 +8,7 @@
 --     Reads                          what the numbers begin with
 --     Shown, NoText, Decodes         what decoding answers
 use Rattle.std.specs.Prelude.{ℕ, ◌+◌, ◌*◌, ◌^◌, ◌<◌, ◌≤◌, ◌≡◌, true, false, cond, List, ◌∷◌, eqb, length, take}
-use Rattle.std.proofs.Math.Option.{Option, some, none}
+use Rattle.std.specs.Prelude.{Option, Some, None}
 use Rattle.octets.specs.Written.{put_at}
 use Rattle.punycode.specs.Punycode.{front, all_basic, landed, run}
 use Rattle.decoder.specs.declared.Basic.{Basic}
@@ -78,7 +78,7 @@ pub record Landing (d e : List ℕ) (sum : ℕ) (s t : Decoder) : Type 0 where
 
 pub record Lost (d e : List ℕ) (sum : ℕ) (s : Decoder) : Type 0 where
   pub same : length e ≡ length d
-  pub goes : (rest : List ℕ) → landed (run rest) s.n s.old (take s.len d) sum ≡ none
+  pub goes : (rest : List ℕ) → landed (run rest) s.n s.old (take s.len d) sum ≡ None
 
 abbrev pub Landed : List ℕ → List ℕ → ℕ → Decoder → Step → Type 0
 Landed d e sum s (On t) = Landing d e sum s t
@@ -94,7 +94,7 @@ pub record Going (d e : List ℕ) (c : ℕ) (s t : Decoder) : Type 0 where
 
 pub record Gone (d e : List ℕ) (c : ℕ) (s : Decoder) : Type 0 where
   pub same : length e ≡ length d
-  pub goes : (rest : List ℕ) → run_from s d (c ∷ rest) ≡ none
+  pub goes : (rest : List ℕ) → run_from s d (c ∷ rest) ≡ None
 
 abbrev pub Stepped : List ℕ → List ℕ → ℕ → Decoder → Step → Type 0
 Stepped d e c s (On t) = Going d e c s t
@@ -110,12 +110,12 @@ pub record Reads (room : ℕ) (text : List ℕ) (from b : ℕ) : Type 0 where
 -- L23: the code points stand at the beginning of the memory
 pub record Shown (d e : List ℕ) (o : Option (List ℕ)) (m : ℕ) : Type 0 where
   pub same : length e ≡ length d
-  pub text : o ≡ some (take m e)
+  pub text : o ≡ Some (take m e)
   pub upto : m ≤ length e
 
 pub record NoText (d e : List ℕ) (o : Option (List ℕ)) : Type 0 where
   pub same : length e ≡ length d
-  pub text : o ≡ none
+  pub text : o ≡ None
 
 abbrev pub Decodes : List ℕ → List ℕ → Option (List ℕ) → Decoded → Type 0
 Decodes d e o (Points m) = Shown d e o m

@@ -7,7 +7,7 @@ use Prim.Native.Nat.{ℕ, ◌-◌, ◌≤◌}
 use mathlib.Core.Path.{◌≡◌}
 use mathlib.Core.Bool.{Bool}
 use mathlib.Core.List.{List}
-use mathlib.Core.Option.{some, none}
+use Rattle.std.specs.Prelude.{Some, None}
 use native.Mathlib.Omega.{arith}
 use native.Mathlib.Nat.{sub-zero}
 use borrow.Author.Rules.{rules}
@@ -35,13 +35,13 @@ module _ (key : List ℕ) (r : Own) (m : Bool) (n : ℕ) (q : r ≡ Key m n) whe
     key_most = omega (arith, front_length n key key_within, key_in.most)
 
   pub updated_keyed :
-      (sender t u : List ℕ) (date : ℕ) → u ≡ put t sender (updated date (some (record { timestamp = date; key = take (n - 0) (drop 0 key); «mutual» = m })))
+      (sender t u : List ℕ) (date : ℕ) → u ≡ put t sender (updated date (Some (record { timestamp = date; key = take (n - 0) (drop 0 key); «mutual» = m })))
       → u ≡ put t sender (updated date (direct_from date key r))
   unfolding direct_from
   updated_keyed sender t u date w = rw q (rw sub-zero at w)
 
 pub updated_keyless :
-    (key : List ℕ) (r : Own) → r ≡ NoKey → (sender t u : List ℕ) (date : ℕ) → u ≡ put t sender (updated date none)
+    (key : List ℕ) (r : Own) → r ≡ NoKey → (sender t u : List ℕ) (date : ℕ) → u ≡ put t sender (updated date None)
     → u ≡ put t sender (updated date (direct_from date key r))
 unfolding direct_from
 updated_keyless key r q sender t u date w = rw q w

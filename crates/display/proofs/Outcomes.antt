@@ -9,7 +9,7 @@ use Prim.Native.Nat.{ℕ, ◌≤◌}
 use mathlib.Core.Path.{◌≡◌, sym, ap, ◌∙◌}
 use mathlib.Core.Bool.{true}
 use mathlib.Core.List.{List}
-use mathlib.Core.Option.{Option, some, none}
+use Rattle.std.specs.Prelude.{Option, Some, None}
 use native.Mathlib.Omega.{arith}
 use borrow.Author.Tests.{leb-true, leb-false, not-true, not-false}
 use lib.Dec.{leb}
@@ -29,16 +29,16 @@ use Rattle.write.proofs.Outcomes.{answer_refused, answer_done}
 use Rattle.display.specs.Displaying.{display_room, displaying_rows, refused_displaying, displayed_of, left_by_displaying}
 
 module _ (address : List ℕ) (room : ℕ) where
-  pub refused_row : (r : Refusal) → displayed_of address room ≡ Refused r → refused_displaying address room ≡ some r
+  pub refused_row : (r : Refusal) → displayed_of address room ≡ Refused r → refused_displaying address room ≡ Some r
   unfolding displayed_of
   refused_row r e = answer_refused (length (displayed address)) (refused_displaying address room) r e
 
-  pub done_row : (n : ℕ) → displayed_of address room ≡ Done n → (refused_displaying address room ≡ none) × (length (displayed address) ≡ n)
+  pub done_row : (n : ℕ) → displayed_of address room ≡ Done n → (refused_displaying address room ≡ None) × (length (displayed address) ≡ n)
   unfolding displayed_of
   done_row n e = answer_done (length (displayed address)) (refused_displaying address room) n e
 
   -- no row holds
-  module _ (e : refused_displaying address room ≡ none) where
+  module _ (e : refused_displaying address room ≡ None) where
     row_plain : plain address ≡ true
     unfolding refused_displaying displaying_rows
     row_plain = not-false (plain address) (none_here OwnAddress _ _ e)
@@ -68,7 +68,7 @@ module _ (address out : List ℕ) where
     pub done_shows : Shows address out n
     unfolding left_by_displaying
     done_shows =
-        let none_holds : refused ≡ none = (done_row address (length out) n e).0 in
+        let none_holds : refused ≡ None = (done_row address (length out) n e).0 in
         record {
           address_plain = row_plain address (length out) none_holds;
           fits = row_fits address (length out) none_holds;

@@ -3,7 +3,7 @@
 --     displaying_rows, refused_displaying  rows 9 and 12
 --     displayed_of, left_by_displaying     the answer, and what the output holds afterwards
 use Rattle.std.specs.Prelude.{ℕ, List, [], ◌∷◌, leb, length}
-use Rattle.std.proofs.Math.Option.{Option}
+use Rattle.std.specs.Prelude.{Option}
 use Rattle.octets.specs.Written.{onto}
 use Rattle.refusals.specs.Rows.{Row, ◌unless◌, first_of, answered_by, unless_refused}
 use Rattle.refusals.specs.declared.Refusal.{Refusal}

@@ -5,7 +5,7 @@
 --     Hold                    the definitions answer as C14 does
 use Rattle.std.specs.Prelude.{ℕ, ◌+◌, ◌≡◌, false, List, [], ◌∷◌, ◌++◌}
 use Prim.Native.String.{String}
-use Rattle.std.proofs.Math.Option.{Option, some, none}
+use Rattle.std.specs.Prelude.{Option, Some, None}
 use Rattle.octets.specs.Octets.{ascii}
 use Rattle.header.specs.Header.{FieldText}
 use Rattle.date.specs.Date.{date_of}
@@ -42,23 +42,23 @@ pub data Answer : Type 0 where
 
 -- the answer on a Date
 unfoldable pub of_date : Option ℕ → Answer
-of_date none = unavailable
-of_date (some n) = seconds n
+of_date None = unavailable
+of_date (Some n) = seconds n
 
 -- the answer on key data, by its field
 unfoldable pub of_field : Option Field → Answer
-of_field none = spoiled
-of_field (some f) = the_key f.key
+of_field None = spoiled
+of_field (Some f) = the_key f.key
 
 -- the answer on whether a field counts
 unfoldable pub of_counted : Option Field → Answer
-of_counted none = does_not_count
-of_counted (some f) = counts
+of_counted None = does_not_count
+of_counted (Some f) = counts
 
 -- the field that counts in a message, which has a sender
 unfoldable pub counted_from : Option (List ℕ) → List FieldText → Answer
-counted_from none fs = does_not_count
-counted_from (some sender) fs = of_counted (counted_in key_limit fs sender)
+counted_from None fs = does_not_count
+counted_from (Some sender) fs = of_counted (counted_in key_limit fs sender)
 
 -- whether the Autocrypt field of a message counts, by its fields
 unfoldable pub counted_of : List FieldText → Answer
@@ -69,9 +69,9 @@ unfoldable pub seen_after : ℕ → Entry
 seen_after gap =
     record {
       address = ascii "a@b.example";
-      last_seen = some (1000 + gap);
-      direct = some (record { timestamp = 1000; key = ascii "foo"; «mutual» = false });
-      gossip = none;
+      last_seen = Some (1000 + gap);
+      direct = Some (record { timestamp = 1000; key = ascii "foo"; «mutual» = false });
+      gossip = None;
     }
 
 -- the answer of the definitions to a question
@@ -79,7 +79,7 @@ unfoldable pub answered : Question → Answer
 answered (date_text text) = of_date (date_of (ascii text))
 answered (key_data text) = of_field (field_of key_limit (ascii "addr=a@b.example; keydata=" ++ ascii text))
 answered (field_from sender value) = counted_of (fields_in (ascii "From: " ++ (ascii sender ++ (ascii "\r\nAutocrypt: " ++ ascii value))))
-answered (gap_of n) = advises (advice_for false false (some (seen_after n)))
+answered (gap_of n) = advises (advice_for false false (Some (seen_after n)))
 
 -- a question, and the answer that C14 gives
 pub data Example : Type 0 where

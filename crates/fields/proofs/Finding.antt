@@ -7,7 +7,7 @@ use Prim.Native.Nat.{ℕ, ◌-◌, ◌<◌, ◌≤◌}
 use mathlib.Core.Path.{◌≡◌, refl, sym, ◌∙◌}
 use mathlib.Core.Bool.{Bool, true, false}
 use mathlib.Core.List.{List, [], ◌∷◌}
-use mathlib.Core.Option.{some}
+use Rattle.std.specs.Prelude.{Some}
 use native.Mathlib.Omega.{arith}
 use borrow.Author.Rules.{rules}
 use lib.ListN.{length, take, drop, length-take, length-drop}
@@ -36,7 +36,7 @@ module _ (kind : Kind) (s : List ℕ) (at : ℕ) where
   module _ (place : ℕ) (r : Step) (h : Seeking kind s at place) (t : r ≡ step_at s place) where
     pub seek_over : r ≡ Over → NamedAs kind s at Nothing
     unfolding NamedAs values_of or_else
-    seek_over q = h.same ∙ values_by kind s place (some []) (from_over s place r t q)
+    seek_over q = h.same ∙ values_by kind s place (Some []) (from_over s place r t q)
 
     pub seek_broken : r ≡ Broken → NamedAs kind s at Nothing
     seek_broken q = absurd (clear_whole s place r h.clear t q)

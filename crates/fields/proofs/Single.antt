@@ -6,7 +6,7 @@
 use Prim.Native.Nat.{ℕ, ◌-◌, ◌≤◌}
 use mathlib.Core.Path.{◌≡◌, sym, ap, ◌∙◌}
 use mathlib.Core.List.{List, ◌∷◌}
-use mathlib.Core.Option.{Option, some, none}
+use Rattle.std.specs.Prelude.{Option, Some, None}
 use native.Mathlib.Omega.{arith}
 use borrow.Author.Rules.{rules}
 use lib.ListN.{length, take, drop, length-take, length-drop}
@@ -70,11 +70,11 @@ module _ (s : List ℕ) (k : Only) where
     pub value_fits : (room : ℕ) → length s ≤ room → length (take (e - v) (drop v s)) ≤ room
     value_fits room h = simp (length-take, length-drop) (omega arith)
 
-    pub value_is : (o : Option (List ℕ)) → value_in s k ≡ o → o ≡ some (value_at s v e)
+    pub value_is : (o : Option (List ℕ)) → value_in s k ≡ o → o ≡ Some (value_at s v e)
     unfolding value_in
     value_is o p = sym p ∙ ap (value_in s) q
 
-  pub value_none : (o : Option (List ℕ)) → value_in s k ≡ o → k ≡ Other → o ≡ none
+  pub value_none : (o : Option (List ℕ)) → value_in s k ≡ o → k ≡ Other → o ≡ None
   unfolding value_in
   value_none o p q = sym p ∙ ap (value_in s) q
 

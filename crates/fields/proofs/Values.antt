@@ -12,7 +12,7 @@ use Prim.Native.Nat.{ℕ}
 use mathlib.Core.Path.{◌≡◌, refl, sym, ap, ◌∙◌}
 use mathlib.Core.Bool.{Bool, true, false}
 use mathlib.Core.List.{List, [], ◌∷◌, ◌++◌}
-use mathlib.Core.Option.{Option, some, none}
+use Rattle.std.specs.Prelude.{Option, Some, None}
 use lib.ListN.{length}
 use lib.Seq.{drop-length}
 use Rattle.octets.specs.Octets.{AllOctets}
@@ -26,11 +26,11 @@ use Rattle.fields.specs.Fields.{fields_in, is_kind, values_of}
 use Rattle.fields.specs.Answers.{values_from}
 use Rattle.fields.specs.declared.Kind.{Kind}
 
-pub fields_are : (s : List ℕ) (fs : List FieldText) → fields_of s ≡ some fs → fields_in s ≡ fs
+pub fields_are : (s : List ℕ) (fs : List FieldText) → fields_of s ≡ Some fs → fields_in s ≡ fs
 unfolding fields_in or_else
 fields_are s fs e = rw e
 
-pub fields_read : (s : List ℕ) → readable s ≡ true → fields_of s ≡ some (fields_in s)
+pub fields_read : (s : List ℕ) → readable s ≡ true → fields_of s ≡ Some (fields_in s)
 unfolding fields_in
 fields_read s c = some_else [] (fields_of s) c
 
@@ -53,8 +53,8 @@ module _ (kind : Kind) (f : FieldText) where
 
   pub values_out : (o : Option (List FieldText)) → is_kind kind f.name ≡ false → values_of kind (or_else [] (in_front f o)) ≡ values_of kind (or_else [] o)
   unfolding or_else in_front values_of
-  values_out none e = refl
-  values_out (some fs) e = values_other fs e
+  values_out None e = refl
+  values_out (Some fs) e = values_other fs e
 
 pub values_append : (kind : Kind) (fs gs : List FieldText) → values_of kind (fs ++ gs) ≡ values_of kind fs ++ values_of kind gs
 unfolding values_of
@@ -84,8 +84,8 @@ unfolding fields_in or_else Each
 fields_octets s o = go (fields_of s) refl
   where
     go : (found : Option (List FieldText)) → fields_of s ≡ found → ValuesOctets (or_else [] (fields_of s))
-    go none e = rw e tt
-    go (some fs) e = rw e (block_octets s o fs e)
+    go None e = rw e tt
+    go (Some fs) e = rw e (block_octets s o fs e)
 
 values_octets : (kind : Kind) (fs : List FieldText) → ValuesOctets fs → Each AllOctets (values_of kind fs)
 unfolding values_of Each
@@ -97,6 +97,6 @@ values_octets kind (f ∷ fs) h = go (is_kind kind f.name) refl (values_octets k
     go false k rest = rw (values_other kind f fs k) rest
 
 -- the one value of its kind
-pub only_octets : (kind : Kind) (fs : List FieldText) (v : List ℕ) → ValuesOctets fs → only_one (values_of kind fs) ≡ some v → AllOctets v
+pub only_octets : (kind : Kind) (fs : List FieldText) (v : List ℕ) → ValuesOctets fs → only_one (values_of kind fs) ≡ Some v → AllOctets v
 unfolding Each
 only_octets kind fs v h e = (rw (only_one_lem (values_of kind fs) v e) at (values_octets kind fs h)).0

@@ -3,7 +3,7 @@
 --     NamedAt, NamedAs       the first of these, by its place
 --     value_in, OnlyWithin   the one that has no other
 use Rattle.std.specs.Prelude.{ℕ, ◌-◌, ◌<◌, ◌≤◌, ◌≡◌, true, List, [], ◌∷◌, length, take, drop}
-use Rattle.std.proofs.Math.Option.{Option, some, none}
+use Rattle.std.specs.Prelude.{Option, Some, None}
 use Rattle.octets.specs.Options.{is_some, or_else}
 use Rattle.header.specs.Header.{unfolded}
 use Rattle.header.specs.Answers.{fields_from}
@@ -34,8 +34,8 @@ NamedAs kind s at (Field v e) = NamedAt kind s at v e
 NamedAs kind s at Nothing = values_from kind s at ≡ []
 
 unfoldable pub value_in : List ℕ → Only → Option (List ℕ)
-value_in s (One v e) = some (value_at s v e)
-value_in s Other = none
+value_in s (One v e) = Some (value_at s v e)
+value_in s Other = None
 
 unfoldable pub OnlyWithin : List ℕ → Only → Type 0
 OnlyWithin s (One v e) = (v ≤ e) × (e ≤ length s)

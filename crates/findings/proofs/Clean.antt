@@ -12,7 +12,7 @@ use Prim.Native.Nat.{ℕ, zero, suc, ◌-◌, ◌<◌, zero-le}
 use mathlib.Core.Path.{◌≡◌, refl, sym, ap, ◌∙◌}
 use mathlib.Core.Bool.{Bool, true, false, not, false≢true}
 use mathlib.Core.List.{List, [], ◌∷◌, ◌++◌}
-use mathlib.Core.Option.{Option, some, none}
+use Rattle.std.specs.Prelude.{Option, Some, None}
 use native.Mathlib.Omega.{arith}
 use borrow.Author.Tests.{ne_eqb, le-leb}
 use lib.ListN.{length, take}
@@ -63,7 +63,7 @@ use Rattle.findings.proofs.Findings.{not_nought, none_exactly}
 
 -- a field of a name, among those of that name
 module _ (kind : Kind) (f : FieldText) (k : is_kind kind f.name ≡ true) where
-  each_at : (P : List ℕ → Type 0) (fs : List FieldText) (place : ℕ) → field_at fs place ≡ some f → Each P (values_of kind fs) → P f.value
+  each_at : (P : List ℕ → Type 0) (fs : List FieldText) (place : ℕ) → field_at fs place ≡ Some f → Each P (values_of kind fs) → P f.value
   unfolding field_at Each
   each_at P [] place t h = let z : ◌≡◌ {A = ℕ} 0 1 = cc in absurd (omega arith)
   each_at P (g ∷ fs) zero t h = let z : ◌≡◌ {A = ℕ} 0 1 = cc in absurd (omega arith)
@@ -75,7 +75,7 @@ module _ (kind : Kind) (f : FieldText) (k : is_kind kind f.name ≡ true) where
       each_at P fs (suc n) t
       (by_test (is_kind kind g.name) (λ e. (rw (values_first kind g fs e) at h).1) (λ e. rw (values_other kind g fs e) at h))
 
-  fewer_before : (fs : List FieldText) (n : ℕ) → field_at fs (suc n) ≡ some f → length (values_of kind (take n fs)) < length (values_of kind fs)
+  fewer_before : (fs : List FieldText) (n : ℕ) → field_at fs (suc n) ≡ Some f → length (values_of kind (take n fs)) < length (values_of kind fs)
   unfolding field_at values_of
   fewer_before [] n t = let z : ◌≡◌ {A = ℕ} 0 1 = cc in absurd (omega arith)
   fewer_before (g ∷ fs) zero t =
@@ -114,9 +114,9 @@ module _ (a text : List ℕ) (p : plain a ≡ true) (t : every (other 59) text �
 
 -- what a writer wrote
 first_value : Option (List FieldText) → List ℕ
-first_value none = []
-first_value (some []) = []
-first_value (some (f ∷ rest)) = f.value
+first_value None = []
+first_value (Some []) = []
+first_value (Some (f ∷ rest)) = f.value
 
 module _ (name address : List ℕ) (m : Bool) (v : List ℕ) (w : WrittenFor name address m v) (named : run_length Name name ≡ length name) (some_name : 0 < length name) where
   abbrev l : Left name address m w.octets
@@ -130,13 +130,13 @@ module _ (name address : List ℕ) (m : Bool) (v : List ℕ) (w : WrittenFor nam
   wrote_value =
       ap first_value (sym w.reads ∙ ap fields l.is ∙ output_alone name address l.key l.out m l.key_octets l.long l.done named some_name)
 
-  wrote_says : field_of key_limit v ≡ some (record { address = canonical address; is_mutual = m; key = l.key })
+  wrote_says : field_of key_limit v ≡ Some (record { address = canonical address; is_mutual = m; key = l.key })
   wrote_says = ap (field_of key_limit) wrote_value ∙ value_read address l.key m can
 
 -- a gossip field of ours
 record Told (recipients : List (List ℕ)) (v : List ℕ) : Type 0 where
   field : Field
-  says : field_of key_limit v ≡ some field
+  says : field_of key_limit v ≡ Some field
   listed : among field.address recipients ≡ true
   quiet : occurs PreferEncrypt v ≡ false
 
@@ -171,11 +171,11 @@ module _ (sender : List ℕ) (recipients : List (List ℕ)) (outer payload : Lis
   abbrev own_field : Field
   own_field = record { address = canonical o.own.address; is_mutual = o.own.prefers; key = o.own.wrote.left.key }
 
-  says_own : field_of key_limit v ≡ some own_field
+  says_own : field_of key_limit v ≡ Some own_field
   unfolding run belongs blank
   says_own = wrote_says autocrypt_name o.own.address o.own.prefers v o.own.wrote refl (omega arith)
 
-  is_valid : valid_for key_limit sender v ≡ some own_field
+  is_valid : valid_for key_limit sender v ≡ Some own_field
   is_valid = naming_sender key_limit sender v own_field says_own o.own.ours
 
   -- the one Autocrypt field
@@ -211,7 +211,7 @@ module _ (sender : List ℕ) (recipients : List (List ℕ)) (outer payload : Lis
       each_at AutocryptGossip f s.called (λ (u : List ℕ). ⊥) outer place s.there h
 
   -- what is looked at is a field in order
-  looked_says : (side : Side) (place : ℕ) (f : FieldText) → LookedAt outer payload side place f → (x : Field) × (field_of key_limit f.value ≡ some x)
+  looked_says : (side : Side) (place : ℕ) (f : FieldText) → LookedAt outer payload side place f → (x : Field) × (field_of key_limit f.value ≡ Some x)
   looked_says side place f (own p g s) = (own_field, ap (field_of key_limit) (the_own place f s) ∙ says_own)
   looked_says side place f (gossip b p g s) = let t : Told recipients f.value = the_gossip side place f s in (t.field, t.says)
 
@@ -224,7 +224,7 @@ module _ (sender : List ℕ) (recipients : List (List ℕ)) (outer payload : Lis
       omega arith
   not_wrong x (wrong.more_valid_fault place f s h n) = n (none_before place f s)
   not_wrong x (wrong.wrong_address_fault place f s n) =
-      n (ap named (the_own place f s) ∙ field_named key_limit v own_field says_own ∙ ap some o.own.ours)
+      n (ap named (the_own place f s) ∙ field_named key_limit v own_field says_own ∙ ap Some o.own.ours)
   not_wrong x (wrong.unknown_attribute_fault side place f l h) =
       let r = looked_says side place f l in
       false≢true (sym (field_known key_limit f.value r.0 r.1) ∙ h)

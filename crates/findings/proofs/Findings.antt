@@ -11,7 +11,7 @@ use Prim.Native.Nat.{ℕ, zero, suc, ◌-◌}
 use mathlib.Core.Path.{◌≡◌, refl, sym, ◌∙◌}
 use mathlib.Core.Bool.{Bool, true, false, ◌&&◌, ◌||◌, or-false, false≢true}
 use mathlib.Core.List.{List, [], ◌∷◌}
-use mathlib.Core.Option.{some}
+use Rattle.std.specs.Prelude.{Some}
 use native.Mathlib.Omega.{arith}
 use borrow.Author.Tests.{eqb-true, eq-eqb, not-true}
 use lib.Dec.{eqb}
@@ -38,7 +38,7 @@ use Rattle.findings.proofs.Flawed as flawed
 use Rattle.findings.proofs.Flawed.{Kinded, kinded, flaws_own, flaws_gossip, flaws_none, behind_none, none_behind, behind_some, some_behind, names_it, names_not, lists_it, lists_not}
 
 -- places count from 1
-pub not_nought : (fs : List FieldText) (f : FieldText) → field_at fs 0 ≡ some f → ⊥
+pub not_nought : (fs : List FieldText) (f : FieldText) → field_at fs 0 ≡ Some f → ⊥
 unfolding field_at
 not_nought [] f q = let z : ◌≡◌ {A = ℕ} 0 1 = cc in omega arith
 not_nought (g ∷ fs) f q = let z : ◌≡◌ {A = ℕ} 0 1 = cc in omega arith
@@ -94,14 +94,14 @@ module _ (sender : List ℕ) (recipients : List (List ℕ)) (outer payload : Lis
   none_kinded k (flawed.gossip_preference_fault h) = false≢true h
 
   -- a field that is not an Autocrypt field of the outer block
-  other_wrong : (side : Side) (seen : Bool) (place : ℕ) (f : FieldText) → field_at (fields_on side outer payload) place ≡ some f → is_own side f ≡ false
+  other_wrong : (side : Side) (seen : Bool) (place : ℕ) (f : FieldText) → field_at (fields_on side outer payload) place ≡ Some f → is_own side f ≡ false
       → (k : ℕ) → has_kind (flaws_of side sender recipients seen f) k ≡ true → IsWrong (side_number side) place k
   other_wrong side seen place f t o k h =
       by_test (is_kind AutocryptGossip f.name)
       (λ e. gossip_wrong side place f (record { there = t; called = e }) k (kinded _ k (rw (flaws_gossip sender recipients seen f side e) at h)))
       (λ e. absurd (none_kinded k (kinded no_flaws k (rw (flaws_none sender recipients seen f side o e) at h))))
 
-  field_wrong : (side : Side) (place : ℕ) (f : FieldText) → field_at (fields_on side outer payload) place ≡ some f
+  field_wrong : (side : Side) (place : ℕ) (f : FieldText) → field_at (fields_on side outer payload) place ≡ Some f
       → (k : ℕ) → has_kind (flaws_of side sender recipients (valid_behind side sender (take (place - 1) (fields_on side outer payload))) f) k ≡ true
       → IsWrong (side_number side) place k
   unfolding is_own
@@ -150,7 +150,7 @@ module _ (sender : List ℕ) (recipients : List (List ℕ)) (outer payload : Lis
   in_block Payload x h =
       in_second x (missing (valid_behind Outer sender outer)) _ (in_second x (faults_in Outer sender recipients outer) (faults_in Payload sender recipients payload) h)
 
-  stands_found : (side : Side) (place : ℕ) (f : FieldText) → field_at (fields_on side outer payload) place ≡ some f → (k : ℕ)
+  stands_found : (side : Side) (place : ℕ) (f : FieldText) → field_at (fields_on side outer payload) place ≡ Some f → (k : ℕ)
       → has_kind (flaws_of side sender recipients (valid_behind side sender (take (place - 1) (fields_on side outer payload))) f) k ≡ true
       → is_in (fault (side_number side) place k) (faults_of sender recipients outer payload) ≡ true
   unfolding faults_in

@@ -12,7 +12,7 @@ use Prim.Native.Nat.{ℕ}
 use mathlib.Core.Path.{◌≡◌, refl, sym, ap, ◌∙◌}
 use mathlib.Core.Bool.{Bool, true, false, not, false≢true}
 use mathlib.Core.List.{List, [], ◌∷◌}
-use mathlib.Core.Option.{some}
+use Rattle.std.specs.Prelude.{Some}
 use native.Mathlib.Omega.{arith}
 use borrow.Author.Tests.{eqb-true, not-false}
 use lib.Dec.{eqb}
@@ -93,7 +93,7 @@ valid sender fs = valid_fields key_limit sender (values_of Autocrypt fs)
 
 -- a field in front of others: a valid one, or any other
 pub data Turn (sender : List ℕ) (f : FieldText) : Type 0 where
-  valid_one : (x : Field) → is_kind Autocrypt f.name ≡ true → valid_for key_limit sender f.value ≡ some x → valid_in Outer sender f ≡ true
+  valid_one : (x : Field) → is_kind Autocrypt f.name ≡ true → valid_for key_limit sender f.value ≡ Some x → valid_in Outer sender f ≡ true
       → ((fs : List FieldText) → valid sender (f ∷ fs) ≡ x ∷ valid sender fs) → Turn sender f
   other_one : valid_in Outer sender f ≡ false → ((fs : List FieldText) → valid sender (f ∷ fs) ≡ valid sender fs) → Turn sender f
 
@@ -138,22 +138,22 @@ module _ (sender : List ℕ) where
 -- whom a value names
 module _ (v : List ℕ) where
   module _ (sender : List ℕ) where
-    pub names_it : named v ≡ some sender → names_only sender v ≡ true
+    pub names_it : named v ≡ Some sender → names_only sender v ≡ true
     unfolding names_only is_just
     names_it e = rw e (same_refl sender)
 
-    pub names_not : (named v ≡ some sender → ⊥) → names_only sender v ≡ false
+    pub names_not : (named v ≡ Some sender → ⊥) → names_only sender v ≡ false
     unfolding names_only is_just
     names_not n =
         by_option (named v) (λ e. rw e)
-        (λ a e. rw e (by_test (same_octets a sender) (λ t. absurd (n (e ∙ ap some (same_true a sender t)))) (λ t. t)))
+        (λ a e. rw e (by_test (same_octets a sender) (λ t. absurd (n (e ∙ ap Some (same_true a sender t)))) (λ t. t)))
 
   module _ (recipients : List (List ℕ)) where
-    pub lists_it : (a : List ℕ) → named v ≡ some a → among a recipients ≡ true → lists recipients v ≡ true
+    pub lists_it : (a : List ℕ) → named v ≡ Some a → among a recipients ≡ true → lists recipients v ≡ true
     unfolding lists is_one_of
     lists_it a e h = rw e h
 
-    pub lists_not : ((a : List ℕ) → named v ≡ some a → among a recipients ≡ true → ⊥) → lists recipients v ≡ false
+    pub lists_not : ((a : List ℕ) → named v ≡ Some a → among a recipients ≡ true → ⊥) → lists recipients v ≡ false
     unfolding lists is_one_of
     lists_not n =
         by_option (named v) (λ e. rw e) (λ a e. rw e (by_test (among a recipients) (λ t. absurd (n a e t)) (λ t. t)))

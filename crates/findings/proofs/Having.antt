@@ -7,7 +7,7 @@ use Prim.Native.Nat.{ℕ, zero, suc, ◌+◌}
 use mathlib.Core.Path.{◌≡◌, refl, sym, ◌∙◌}
 use mathlib.Core.Bool.{Bool, true, ◌&&◌, ◌||◌, or-true, or-false, or_assoc, false≢true}
 use mathlib.Core.List.{List, [], ◌∷◌, ◌++◌}
-use mathlib.Core.Option.{some}
+use Rattle.std.specs.Prelude.{Some}
 use native.Mathlib.Omega.{arith}
 use borrow.Author.Tests.{eqb-true, eq-eqb}
 use lib.Dec.{eqb}
@@ -36,7 +36,7 @@ module _ (x : Fault) (a b : List Fault) where
 pub record Has (side : Side) (sender : List ℕ) (recipients : List (List ℕ)) (seen : Bool) (place : ℕ) (fs : List FieldText) (x : Fault) : Type 0 where
   pub front : ℕ
   pub field : FieldText
-  pub there : field_at fs (suc front) ≡ some field
+  pub there : field_at fs (suc front) ≡ Some field
   pub block : x.block ≡ side_number side
   pub placed : x.place ≡ place + front
   pub kind : has_kind (flaws_of side sender recipients (seen || valid_behind side sender (take front fs)) field) x.kind ≡ true
@@ -90,7 +90,7 @@ module _ (side : Side) (sender : List ℕ) (recipients : List (List ℕ)) (x : F
       in_kinds x (side_number side) place (flaws_of side sender recipients seen f)
       ∙ rw (eq-eqb x.block (side_number side) b, eq-eqb x.place place p) k
 
-  pub has_from : (seen : Bool) (place : ℕ) (fs : List FieldText) (n : ℕ) (f : FieldText) → field_at fs (suc n) ≡ some f
+  pub has_from : (seen : Bool) (place : ℕ) (fs : List FieldText) (n : ℕ) (f : FieldText) → field_at fs (suc n) ≡ Some f
       → x.block ≡ side_number side → x.place ≡ place + n
       → has_kind (flaws_of side sender recipients (seen || valid_behind side sender (take n fs)) f) x.kind ≡ true
       → is_in x (faults_from side sender recipients seen place fs) ≡ true

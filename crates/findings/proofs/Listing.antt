@@ -8,7 +8,7 @@ use Prim.Native.Nat.{ℕ, zero, suc, ◌+◌, ◌*◌, ◌<◌}
 use mathlib.Core.Path.{◌≡◌, refl, sym, ◌∙◌}
 use mathlib.Core.Bool.{true, ◌&&◌, false≢true, or-true}
 use mathlib.Core.List.{List, [], ◌∷◌, ◌++◌}
-use mathlib.Core.Option.{Option, some, none}
+use Rattle.std.specs.Prelude.{Option, Some, None}
 use native.Mathlib.Omega.{arith}
 use borrow.Author.Tests.{eqb-true, eq-eqb}
 use lib.Dec.{eqb}
@@ -70,10 +70,10 @@ module _ (x : Fault) where
       (sym (three_more f (numbers_of l ++ rest) (3 * suc i + 2) (3 * i + 2) (omega arith)) ∙ k))
       (or-true (same_fault x f))
 
-done_none : (o : Option Refusal) (d n : ℕ) → Done n ≡ answered_by o Refused (Done d) → (o ≡ none) × (d ≡ n)
+done_none : (o : Option Refusal) (d n : ℕ) → Done n ≡ answered_by o Refused (Done d) → (o ≡ None) × (d ≡ n)
 unfolding answered_by
-done_none none d n e = (refl, cc)
-done_none (some r) d n e = (cc, cc)
+done_none None d n e = (refl, cc)
+done_none (Some r) d n e = (cc, cc)
 
 pub answer_lists : AnswerLists
 unfolding linted_of left_by_linting answered_by onto

@@ -11,7 +11,7 @@ use Prim.Native.Nat.{ℕ}
 use mathlib.Core.Path.{◌≡◌, refl, sym, ap, ◌∙◌}
 use mathlib.Core.Bool.{Bool, true, false}
 use mathlib.Core.List.{List, [], ◌∷◌, ◌++◌}
-use mathlib.Core.Option.{Option, some, none}
+use Rattle.std.specs.Prelude.{Option, Some, None}
 use native.Mathlib.Omega.{arith}
 use Rattle.octets.specs.Octets.{lower, lowered, same_name, same_octets}
 use Rattle.octets.specs.Options.{or_else, in_front, Each}
@@ -38,7 +38,7 @@ back_written name address octets m l r =
       left = l;
       reads =
           reads_alone name address l.key octets m r
-          ∙ ap (λ (n : List ℕ). some (record { name = n; value = r.found.value } ∷ [])) r.named;
+          ∙ ap (λ (n : List ℕ). Some (record { name = n; value = r.found.value } ∷ [])) r.named;
     }
 
 own_back : (address octets : List ℕ) (m : Bool) (l : Left autocrypt_name address m octets) → ReadsBack autocrypt_name address l.key m octets
@@ -106,12 +106,12 @@ module _ (sender outer : List ℕ) (read : readable outer ≡ true) (o : OwnStan
       }
 
 -- fields in front of others
-all_none : (fs : List FieldText) → in_front_all fs none ≡ none
+all_none : (fs : List FieldText) → in_front_all fs None ≡ None
 unfolding in_front_all in_front
 all_none [] = refl
 all_none (f ∷ fs) = rw (all_none fs)
 
-all_some : (fs gs : List FieldText) → in_front_all fs (some gs) ≡ some (fs ++ gs)
+all_some : (fs gs : List FieldText) → in_front_all fs (Some gs) ≡ Some (fs ++ gs)
 unfolding in_front_all in_front
 all_some [] gs = refl
 all_some (f ∷ fs) gs = rw (all_some fs gs)
@@ -123,8 +123,8 @@ module _ (recipients : List (List ℕ)) where
   good_next : (fs : List FieldText) (f : FieldText) (o : Option (List FieldText)) → values_of AutocryptGossip fs ≡ [] → is_kind AutocryptGossip f.name ≡ true
       → GossipField recipients f.value → Good o → Good (in_front_all fs (in_front f o))
   unfolding in_front or_else Each values_of
-  good_next fs f none n k g h = rw (all_none fs) tt
-  good_next fs f (some gs) n k g h =
+  good_next fs f None n k g h = rw (all_none fs) tt
+  good_next fs f (Some gs) n k g h =
       rw (all_some fs (f ∷ gs), values_append AutocryptGossip fs (f ∷ gs), n, values_first AutocryptGossip f gs k) (g, h)
 
   gossip_good : (s : List ℕ) → GossipStand recipients s → Good (fields s)

@@ -7,7 +7,7 @@
 --     WrittenClean       then nothing is wrong
 --     AnsweredClean      and the answer for such a mail is that it has no fault
 use Rattle.std.specs.Prelude.{ℕ, ◌≡◌, Bool, true, false, List, [], ◌∷◌, length, take}
-use Rattle.std.proofs.Math.Option.{some}
+use Rattle.std.specs.Prelude.{Some}
 use Rattle.octets.specs.Octets.{AllOctets}
 use Rattle.octets.specs.Options.{Each}
 use Rattle.names.specs.Names.{autocrypt as autocrypt_name, gossip as gossip_name}
@@ -36,7 +36,7 @@ pub record Left (name address : List ℕ) (m : Bool) (octets : List ℕ) : Type 
 pub record WrittenFor (name address : List ℕ) (m : Bool) (v : List ℕ) : Type 0 where
   pub octets : List ℕ
   pub left : Left name address m octets
-  pub reads : fields octets ≡ some (record { name = name; value = v } ∷ [])
+  pub reads : fields octets ≡ Some (record { name = name; value = v } ∷ [])
 
 -- C23: `write_autocrypt` wrote it for an address whose canonical form is the sender, with or without a preference
 pub record OwnField (sender v : List ℕ) : Type 0 where
@@ -68,6 +68,6 @@ WrittenClean =
 -- C23, O1: no fault is counted, however short the list is
 abbrev pub AnsweredClean : Type 0
 AnsweredClean =
-    (outer payload sender : List ℕ) (room : ℕ) → readable outer ≡ true → readable payload ≡ true → sender_in (fields_in outer) ≡ some sender
+    (outer payload sender : List ℕ) (room : ℕ) → readable outer ≡ true → readable payload ≡ true → sender_in (fields_in outer) ≡ Some sender
     → Ours sender (recipients_in (fields_in outer)) (fields_in outer) (fields_in payload)
     → linted_of outer payload room ≡ Found 0

@@ -8,7 +8,7 @@
 --     NothingTwice    and so nothing stands twice
 --     Counts          without a fault of the kinds 1 and 2 one Autocrypt field counts
 use Rattle.std.specs.Prelude.{ℕ, ◌+◌, ◌*◌, ◌<◌, ◌≡◌, ◌↔◌, true, false, List, [], ◌∷◌, ◌++◌, length, get_or}
-use Rattle.std.proofs.Math.Option.{some}
+use Rattle.std.specs.Prelude.{Some}
 use Rattle.octets.specs.Options.{is_some}
 use Rattle.header.specs.Header.{FieldText}
 use Rattle.fields.specs.Fields.{fields_in}
@@ -31,7 +31,7 @@ EachFault =
 -- C22, O6: for the sender (U3) and the recipients (G4) of the mail; From makes nobody a recipient
 abbrev pub EachListed : Type 0
 EachListed =
-    (outer payload sender : List ℕ) (x : Fault) → sender_in (fields_in outer) ≡ some sender
+    (outer payload sender : List ℕ) (x : Fault) → sender_in (fields_in outer) ≡ Some sender
     → (is_in x (mail_faults outer payload) ≡ true) ↔ Wrong sender (recipients_in (fields_in outer)) (fields_in outer) (fields_in payload) x
 
 -- O1, O2: a fault is one of the first n of a list: its three numbers stand there
@@ -45,7 +45,7 @@ pub record Listed (list : List ℕ) (n : ℕ) (x : Fault) : Type 0 where
 -- C22: what `lint` lists, where it answers how many faults there are
 abbrev pub AnswerLists : Type 0
 AnswerLists =
-    (outer payload list sender : List ℕ) (n : ℕ) (x : Fault) → Done n ≡ linted_of outer payload (length list) → sender_in (fields_in outer) ≡ some sender
+    (outer payload list sender : List ℕ) (n : ℕ) (x : Fault) → Done n ≡ linted_of outer payload (length list) → sender_in (fields_in outer) ≡ Some sender
     → Listed (left_by_linting outer payload list) n x ↔ Wrong sender (recipients_in (fields_in outer)) (fields_in outer) (fields_in payload) x
 
 -- C22: the list is empty exactly when there is no fault

@@ -3,7 +3,7 @@
 --     GossipStand       the payload has gossip fields that were written for recipients, and no others
 --     BlocksClean       then the answer is that there is no fault
 use Rattle.std.specs.Prelude.{ℕ, ◌≡◌, Bool, true, false, List, [], ◌++◌, get_or}
-use Rattle.std.proofs.Math.Option.{some}
+use Rattle.std.specs.Prelude.{Some}
 use Rattle.octets.specs.Options.{or_else}
 use Rattle.runs.specs.Runs.{belongs}
 use Rattle.runs.specs.declared.Class.TheVariants.{Blank}
@@ -41,6 +41,6 @@ pub data GossipStand (recipients : List (List ℕ)) : List ℕ → Type 0 where
 -- C23, O1: no fault is counted, however short the list is
 abbrev pub BlocksClean : Type 0
 BlocksClean =
-    (outer payload sender : List ℕ) (room : ℕ) → readable outer ≡ true → readable payload ≡ true → sender_in (fields_in outer) ≡ some sender
+    (outer payload sender : List ℕ) (room : ℕ) → readable outer ≡ true → readable payload ≡ true → sender_in (fields_in outer) ≡ Some sender
     → OwnStands sender outer → GossipStand (recipients_in (fields_in outer)) payload
     → linted_of outer payload room ≡ Found 0

@@ -6,7 +6,7 @@
 --     Stands         it stands at a place of a block
 --     Wrong          a fault that is there
 use Rattle.std.specs.Prelude.{ℕ, zero, suc, ◌-◌, ◌≡◌, true, false, List, [], ◌∷◌, take}
-use Rattle.std.proofs.Math.Option.{Option, some, none}
+use Rattle.std.specs.Prelude.{Option, Some, None}
 use Rattle.octets.specs.Options.{is_some}
 use Rattle.header.specs.Header.{FieldText}
 use Rattle.fields.specs.Fields.{is_kind, values_of}
@@ -24,9 +24,9 @@ use Rattle.lookover.specs.declared.Side.TheVariants.{Outer, Payload}
 
 -- O2: places count the fields of a block from 1, whatever their names
 unfoldable pub field_at : List FieldText → ℕ → Option FieldText
-field_at [] place = none
-field_at (f ∷ fs) zero = none
-field_at (f ∷ fs) (suc zero) = some f
+field_at [] place = None
+field_at (f ∷ fs) zero = None
+field_at (f ∷ fs) (suc zero) = Some f
 field_at (f ∷ fs) (suc (suc n)) = field_at fs (suc n)
 
 abbrev pub fields_on : Side → List FieldText → List FieldText → List FieldText
@@ -39,7 +39,7 @@ fault block place kind = record { block = block; place = place; kind = kind }
 
 -- a field of this name stands at this place of some
 pub record Stands (fs : List FieldText) (place : ℕ) (kind : Kind) (f : FieldText) : Type 0 where
-  pub there : field_at fs place ≡ some f
+  pub there : field_at fs place ≡ Some f
   pub called : is_kind kind f.name ≡ true
 
 -- O3: Autocrypt fields are looked at in the outer block alone, gossip fields in both
@@ -56,7 +56,7 @@ pub data Wrong (sender : List ℕ) (recipients : List (List ℕ)) (outer payload
       → (valid_fields key_limit sender (values_of Autocrypt (take (place - 1) outer)) ≡ [] → ⊥)
       → Wrong sender recipients outer payload (fault 0 place more_valid)
   -- 3, O6: an Autocrypt field that does not name the sender
-  wrong_address_fault : (place : ℕ) (f : FieldText) → Stands outer place Autocrypt f → (named f.value ≡ some sender → ⊥)
+  wrong_address_fault : (place : ℕ) (f : FieldText) → Stands outer place Autocrypt f → (named f.value ≡ Some sender → ⊥)
       → Wrong sender recipients outer payload (fault 0 place wrong_address)
   -- 4, O7: a field of either name with an unknown attribute
   unknown_attribute_fault : (side : Side) (place : ℕ) (f : FieldText) → LookedAt outer payload side place f → occurs Unknown f.value ≡ true
@@ -68,7 +68,7 @@ pub data Wrong (sender : List ℕ) (recipients : List (List ℕ)) (outer payload
   gossip_outside_fault : (place : ℕ) (f : FieldText) → Stands outer place AutocryptGossip f → Wrong sender recipients outer payload (fault 0 place gossip_outside)
   -- 7, O6: a gossip field that does not name a recipient
   gossip_unlisted_fault : (side : Side) (place : ℕ) (f : FieldText) → Stands (fields_on side outer payload) place AutocryptGossip f
-      → ((a : List ℕ) → named f.value ≡ some a → among a recipients ≡ true → ⊥)
+      → ((a : List ℕ) → named f.value ≡ Some a → among a recipients ≡ true → ⊥)
       → Wrong sender recipients outer payload (fault (side_number side) place gossip_unlisted)
   -- 8, O9: a gossip field with a preference
   gossip_preference_fault : (side : Side) (place : ℕ) (f : FieldText) → Stands (fields_on side outer payload) place AutocryptGossip f

@@ -9,7 +9,7 @@ use Prim.Native.Nat.{ℕ, ◌+◌, ◌-◌, ◌*◌, ◌/◌, ◌%◌, ◌<◌, 
 use mathlib.Core.Path.{◌≡◌, refl, sym, ap}
 use mathlib.Core.Bool.{Bool, true, false}
 use mathlib.Core.List.{List, [], ◌∷◌}
-use mathlib.Core.Option.{some, none}
+use Rattle.std.specs.Prelude.{Some, None}
 use native.Mathlib.Omega.{arith}
 use borrow.Author.Rules.{rules}
 use lib.ListN.{length, get_or, drop}
@@ -176,19 +176,19 @@ module _ (s : List ℕ) (at : ℕ) (g : Next) (h : NextGroup s at g) where
   unfolding NextGroup
   read_three x y z n e = rw e at h
 
-  pub read_two : (x y : ℕ) → g ≡ Two x y → decode (without_blanks (drop at s)) ≡ some (x ∷ y ∷ [])
+  pub read_two : (x y : ℕ) → g ≡ Two x y → decode (without_blanks (drop at s)) ≡ Some (x ∷ y ∷ [])
   unfolding NextGroup
   read_two x y e = rw e at h
 
-  pub read_one : (x : ℕ) → g ≡ One x → decode (without_blanks (drop at s)) ≡ some (x ∷ [])
+  pub read_one : (x : ℕ) → g ≡ One x → decode (without_blanks (drop at s)) ≡ Some (x ∷ [])
   unfolding NextGroup
   read_one x e = rw e at h
 
-  pub read_end : g ≡ End → decode (without_blanks (drop at s)) ≡ some []
+  pub read_end : g ≡ End → decode (without_blanks (drop at s)) ≡ Some []
   unfolding NextGroup
   read_end e = rw e at h
 
-  pub read_broken : g ≡ Broken → decode (without_blanks (drop at s)) ≡ none
+  pub read_broken : g ≡ Broken → decode (without_blanks (drop at s)) ≡ None
   unfolding NextGroup
   read_broken e = rw e at h
 

@@ -4,7 +4,7 @@
 --     NextGroup        what `next_group` answers
 --     WholeGroup       what `whole_group` answers
 use Rattle.std.specs.Prelude.{ℕ, ◌+◌, ◌<◌, ◌≤◌, ◌≡◌, List, [], ◌∷◌, length, drop}
-use Rattle.std.proofs.Math.Option.{some, none}
+use Rattle.std.specs.Prelude.{Some, None}
 use Rattle.octets.specs.Octets.{without_blanks}
 use Rattle.letters.specs.Base64.{before, decode}
 use Rattle.letters.specs.declared.Group.{Group}
@@ -35,10 +35,10 @@ step_of GBroken n rest = Broken
 unfoldable pub NextGroup : List ℕ → ℕ → Next → Type 0
 NextGroup s at (Three x y z n) =
     (decode (without_blanks (drop at s)) ≡ before (x ∷ y ∷ z ∷ []) (decode (without_blanks (drop n s)))) × (at + 4 ≤ n) × (n ≤ length s)
-NextGroup s at (Two x y) = decode (without_blanks (drop at s)) ≡ some (x ∷ y ∷ [])
-NextGroup s at (One x) = decode (without_blanks (drop at s)) ≡ some (x ∷ [])
-NextGroup s at End = decode (without_blanks (drop at s)) ≡ some []
-NextGroup s at Broken = decode (without_blanks (drop at s)) ≡ none
+NextGroup s at (Two x y) = decode (without_blanks (drop at s)) ≡ Some (x ∷ y ∷ [])
+NextGroup s at (One x) = decode (without_blanks (drop at s)) ≡ Some (x ∷ [])
+NextGroup s at End = decode (without_blanks (drop at s)) ≡ Some []
+NextGroup s at Broken = decode (without_blanks (drop at s)) ≡ None
 
 -- the next group where it is known to be whole, four letters from the place `at` on; else nothing is said
 unfoldable pub WholeGroup : List ℕ → ℕ → Whole → Type 0

@@ -11,7 +11,7 @@ use mathlib.Core.Path.{◌≡◌, refl, sym, ap, ◌∙◌}
 use mathlib.Core.Logic.{◌⊎◌, ⊎_elim}
 use mathlib.Core.Bool.{Bool, true, false, false≢true, true≢false}
 use mathlib.Core.List.{List, [], ◌∷◌}
-use mathlib.Core.Option.{Option, some, none}
+use Rattle.std.specs.Prelude.{Option, Some, None}
 use native.Mathlib.Omega.{arith}
 use native.Mathlib.Nat.{add_assoc}
 use borrow.Author.Rules.{rules}
@@ -48,12 +48,12 @@ enough (suc k) (suc m) s p q = go (enough k m (rest_of s) (rest_short s k p) (re
     go ih false e false o = rw (fields_within, e, o)
     go ih false e true o = rw (fields_within, e, o, ih)
 
-pub fields_over : (s : List ℕ) → over s ≡ true → fields s ≡ some []
+pub fields_over : (s : List ℕ) → over s ≡ true → fields s ≡ Some []
 unfolding fields fields_within
 fields_over [] e = refl
 fields_over (x ∷ s) e = rw (fields_within, e)
 
-pub fields_broken : (s : List ℕ) → over s ≡ false → opens_field s ≡ false → fields s ≡ none
+pub fields_broken : (s : List ℕ) → over s ≡ false → opens_field s ≡ false → fields s ≡ None
 unfolding fields fields_within over
 fields_broken [] e o = absurd (true≢false e)
 fields_broken (x ∷ s) e o = rw (fields_within, e, o)
@@ -69,8 +69,8 @@ fields_one (x ∷ s) e o =
 
 -- what an answer about the place `at` tells of the fields from there on
 abbrev pub told : List ℕ → ℕ → Step → Option (List FieldText)
-told s at Over = some []
-told s at Broken = none
+told s at Over = Some []
+told s at Broken = None
 told s at (Field n v e) = in_front (field_at s at n v e) (fields_from s e)
 
 -- the field that opens what is left from a place on, by its places
@@ -100,10 +100,10 @@ module _ (s : List ℕ) (at : ℕ) where
       go false e true o = rw (is_field s at e o) (fields_one (drop at s) e o ∙ rw (name_is, raw_is, rest_is))
 
 module _ (s : List ℕ) (at : ℕ) (r : Step) (t : r ≡ step_at s at) where
-  pub from_over : r ≡ Over → fields_from s at ≡ some []
+  pub from_over : r ≡ Over → fields_from s at ≡ Some []
   from_over q = fields_told s at ∙ ap (told s at) (sym t ∙ q)
 
-  pub from_broken : r ≡ Broken → fields_from s at ≡ none
+  pub from_broken : r ≡ Broken → fields_from s at ≡ None
   from_broken q = fields_told s at ∙ ap (told s at) (sym t ∙ q)
 
   pub from_field : (n v e : ℕ) → r ≡ Field n v e → fields_from s at ≡ in_front (field_at s at n v e) (fields_from s e)
@@ -114,11 +114,11 @@ unfolding fields_of fields_from
 fields_fit s h = rw (fields_of, le-leb (length s) limit h)
 
 -- B5: a block of no octets is readable
-pub fields_empty : fields_of [] ≡ some []
+pub fields_empty : fields_of [] ≡ Some []
 unfolding fields_of fields fields_within
 fields_empty = refl
 
-pub fields_long : (s : List ℕ) → limit < length s → fields_of s ≡ none
+pub fields_long : (s : List ℕ) → limit < length s → fields_of s ≡ None
 unfolding fields_of
 fields_long s h = rw (fields_of, lt-leb (length s) limit h)
 

@@ -9,7 +9,7 @@ use mathlib.Core.Path.{◌≡◌, refl, sym, ◌∙◌}
 use mathlib.Core.Logic.{⊎_elim}
 use mathlib.Core.Bool.{Bool, true, false}
 use mathlib.Core.List.{List, [], ◌∷◌}
-use mathlib.Core.Option.{Option, some, none}
+use Rattle.std.specs.Prelude.{Option, Some, None}
 use native.Mathlib.Omega.{arith}
 use lib.ListN.{length, get_or, take, drop, length-take, length-drop}
 use Rattle.octets.specs.Octets.{AllOctets}
@@ -25,7 +25,7 @@ use Rattle.header.proofs.Stepping.{Places, field_places}
 use Rattle.header.proofs.Fields.{from_over, from_broken, from_field, fields_fit, fields_long}
 
 -- a fact P on a place of s and the fields from there on
-module _ (s : List ℕ) (P : ℕ → Option (List FieldText) → Type 0) (at_end : (at : ℕ) → P at (some [])) (unread : (at : ℕ) → P at none)
+module _ (s : List ℕ) (P : ℕ → Option (List FieldText) → Type 0) (at_end : (at : ℕ) → P at (Some [])) (unread : (at : ℕ) → P at None)
     (front : (at n v e : ℕ) (o : Option (List FieldText)) → Places s at n v e → P e o → P at (in_front (field_at s at n v e) o)) where
   -- where less than k is left
   within : (k at : ℕ) → length s - at < k → P at (fields_from s at)
@@ -43,7 +43,7 @@ module _ (s : List ℕ) (P : ℕ → Option (List FieldText) → Type 0) (at_end
   by_fields = within (suc (length s)) 0 (omega arith)
 
 -- B1: the fields of a block that is not too long
-from_first : (s : List ℕ) (fs : List FieldText) → fields_of s ≡ some fs → fields_from s 0 ≡ some fs
+from_first : (s : List ℕ) (fs : List FieldText) → fields_of s ≡ Some fs → fields_from s 0 ≡ Some fs
 from_first s fs e =
     ⊎_elim (λ (h : length s < suc limit). sym (fields_fit s (omega arith)) ∙ e)
     (λ (h : suc limit ≤ length s). let z : ◌≡◌ {A = ℕ} 0 1 = cc (fields_long s h) in absurd (omega arith))
@@ -73,7 +73,7 @@ field_room : (s : List ℕ) (at n v e : ℕ) → Places s at n v e → length (f
 field_room s at n v e p =
     omega (arith, p, unfolded_short (take (e - v) (drop v s)), length-take (e - v) (drop v s), length-drop v s)
 
-pub block_octets : (s : List ℕ) → AllOctets s → (fs : List FieldText) → fields_of s ≡ some fs → ValuesOctets fs
+pub block_octets : (s : List ℕ) → AllOctets s → (fs : List FieldText) → fields_of s ≡ Some fs → ValuesOctets fs
 unfolding Each
 block_octets s o fs e =
     rw (from_first s fs e) at
@@ -82,7 +82,7 @@ block_octets s o fs e =
     each_front (λ (f : FieldText). AllOctets f.value) (field_at s at n v e) found
     (unfolded_octets (take (e - v) (drop v s)) (take_octets (e - v) (drop v s) (drop_octets v s o))) h))
 
-pub total_block : (s : List ℕ) (fs : List FieldText) → fields_of s ≡ some fs → values_total fs ≤ length s
+pub total_block : (s : List ℕ) (fs : List FieldText) → fields_of s ≡ Some fs → values_total fs ≤ length s
 unfolding total
 total_block s fs e =
     let fits : values_total fs ≤ length s - 0 =

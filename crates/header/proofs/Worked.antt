@@ -8,7 +8,7 @@ use Prim.Native.Nat.{ℕ}
 use mathlib.Core.Path.{◌≡◌, refl}
 use mathlib.Core.Bool.{true, false}
 use mathlib.Core.List.{List, [], ◌∷◌, map}
-use mathlib.Core.Option.{some, none}
+use Rattle.std.specs.Prelude.{Some, None}
 use lib.ListN.{replicate}
 use Rattle.octets.specs.Octets.{ascii, octet, blank, same_name, same_octets, lowered, lower}
 use Rattle.octets.specs.Options.{in_front}
@@ -31,13 +31,13 @@ blocks :
     ∷ []
     ∷ ascii "\n b"
     ∷ [])
-    ≡ some (field (ascii "To") (ascii " a@b,\tc@d") ∷ field (ascii "X") [] ∷ [])
-    ∷ some (field (ascii "A") (ascii "b ") ∷ field (ascii "C") (ascii "d") ∷ [])
-    ∷ some (field (ascii "A") (ascii "b\r") ∷ [])
-    ∷ some (field (ascii "A") (ascii "b\r") ∷ [])
-    ∷ some (field (ascii "!~") (ascii "b:c") ∷ [])
-    ∷ some []
-    ∷ some []
+    ≡ Some (field (ascii "To") (ascii " a@b,\tc@d") ∷ field (ascii "X") [] ∷ [])
+    ∷ Some (field (ascii "A") (ascii "b ") ∷ field (ascii "C") (ascii "d") ∷ [])
+    ∷ Some (field (ascii "A") (ascii "b\r") ∷ [])
+    ∷ Some (field (ascii "A") (ascii "b\r") ∷ [])
+    ∷ Some (field (ascii "!~") (ascii "b:c") ∷ [])
+    ∷ Some []
+    ∷ Some []
     ∷ []
 unfolding field fields_of fields fields_within in_front unfolded over of_ending opens_field run raw_length belongs blank closes
 blocks = refl
@@ -54,7 +54,7 @@ broken :
     ∷ (octet "A" ∷ 127 ∷ ascii ":b")
     ∷ ascii "From a@b Mon Jan 1"
     ∷ [])
-    ≡ replicate 7 none
+    ≡ replicate 7 None
 unfolding fields_of fields fields_within in_front unfolded over of_ending opens_field run raw_length belongs blank closes
 broken = refl
 

@@ -2,7 +2,7 @@
 --     fields_from, step_at  the fields from a place on, and what stands there
 --     field_at              the field that stands at given places
 use Rattle.std.specs.Prelude.{ℕ, ◌+◌, ◌-◌, true, false, List, take, drop}
-use Rattle.std.proofs.Math.Option.{Option}
+use Rattle.std.specs.Prelude.{Option}
 use Rattle.runs.specs.Runs.{run_length}
 use Rattle.runs.specs.declared.Class.TheVariants.{Name}
 use Rattle.header.specs.Header.{over, raw_length, opens_field, unfolded, FieldText, fields}

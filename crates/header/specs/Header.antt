@@ -11,7 +11,7 @@
 -- Field names are compared by `same_name` of the crate octets (B11). What names are made of, and blanks, are classes of the crate
 -- runs.
 use Rattle.std.specs.Prelude.{ℕ, zero, suc, ◌+◌, Bool, true, false, not, ◌&&◌, ◌||◌, List, [], ◌∷◌, leb, ltb, eqb, length, get_or, take, drop}
-use Rattle.std.proofs.Math.Option.{Option, some, none}
+use Rattle.std.specs.Prelude.{Option, Some, None}
 use Rattle.octets.specs.Octets.{ascii, octet, cr, lf, same_name}
 use Rattle.octets.specs.Options.{is_some, in_front}
 use Rattle.runs.specs.Runs.{belongs, run_length}
@@ -75,13 +75,13 @@ pub record FieldText : Type 0 where
 -- behind the empty line is looked at. B8: a line that opens no field makes the block unreadable. B6: a continuation belongs to the
 -- field above it; where there is none it opens no field, since no blank is of a name.
 unfoldable pub fields_within : ℕ → List ℕ → Option (List FieldText)
-fields_within zero s = some []
+fields_within zero s = Some []
 fields_within (suc k) s =
     elim (over s) [
-      | true ↦ some []
+      | true ↦ Some []
       | false ↦ elim (opens_field s) [
         | true ↦ in_front (record { name = name_of s; value = unfolded (raw_of s) }) (fields_within k (rest_of s))
-        | false ↦ none
+        | false ↦ None
       ]
     ]
 
@@ -92,7 +92,7 @@ fields s = fields_within (length s) s
 
 -- B1: all octets of the argument count, those behind the empty line too. B5: no octets are a readable block without fields.
 unfoldable pub fields_of : List ℕ → Option (List FieldText)
-fields_of s = elim (leb (length s) limit) [ true ↦ fields s | false ↦ none ]
+fields_of s = elim (leb (length s) limit) [ true ↦ fields s | false ↦ None ]
 
 -- B1, B6, B8: a block is readable where its fields can be told
 abbrev pub readable : List ℕ → Bool

@@ -5,7 +5,7 @@
 use Prim.Native.Nat.{ℕ}
 use mathlib.Core.Path.{◌≡◌, refl}
 use mathlib.Core.Bool.{Bool, true, false}
-use mathlib.Core.Option.{Option, some, none}
+use Rattle.std.specs.Prelude.{Option, Some, None}
 use mathlib.Core.List.{List}
 use lib.ListN.{length}
 use Rattle.octets.specs.Options.{or_else, is_some, IfSome}
@@ -25,14 +25,14 @@ present_or f d x false h = h refl
 
 pub present_back : {A : Type 0} (d : A) (o : Option A) → present (is_some o) (or_else d o) ≡ o
 unfolding is_some or_else
-present_back d none = refl
-present_back d (some x) = refl
+present_back d None = refl
+present_back d (Some x) = refl
 
 -- what holds of a part that is there and of what stands for one that is not
 pub half_holds : {A : Type 0} (P Q : A → Type 0) (d : A) → Q d → ((x : A) → P x → Q x) → (o : Option A) → IfSome P o → Q (or_else d o)
 unfolding or_else
-half_holds P Q d z f none g = z
-half_holds P Q d z f (some x) g = f x g
+half_holds P Q d z f None g = z
+half_holds P Q d z f (Some x) g = f x g
 
 pub changed_address : (e : Entry) (a : List ℕ) → head_for (renamed a e) ≡ head_address (length a) (head_for e)
 unfolding head_for renamed

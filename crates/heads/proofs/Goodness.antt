@@ -8,7 +8,7 @@
 use Prim.Native.Nat.{ℕ, ◌<◌, ◌≤◌, max}
 use mathlib.Core.Path.{◌≡◌, refl}
 use mathlib.Core.Bool.{Bool, true, not, ◌&&◌, ◌||◌}
-use mathlib.Core.Option.{Option, some, none}
+use Rattle.std.specs.Prelude.{Option, Some, None}
 use mathlib.Core.List.{List}
 use native.Mathlib.Nat.{le-max_left, max-le}
 use native.Mathlib.Omega.{arith}
@@ -29,8 +29,8 @@ use Rattle.heads.proofs.Entries.{half_holds}
 asked : {A : Type 0} (P : A → Type 0) (there gone : A → Bool) (d : A) → ((x : A) → P x → there x ≡ true) → gone d ≡ true → (o : Option A) → IfSome P o
     → ((not (is_some o) || there (or_else d o)) && (is_some o || gone (or_else d o))) ≡ true
 unfolding is_some or_else
-asked P there gone d f z none g = z
-asked P there gone d f z (some x) g = rw (f x g)
+asked P there gone d f z None g = z
+asked P there gone d f z (Some x) g = rw (f x g)
 
 key_range : {limit : ℕ} (k : List ℕ) → GoodKey limit k → one_to limit (length k) ≡ true
 key_range {limit} k h = rw (le-leb 1 (length k) h.some_octet, le-leb (length k) limit h.most)
@@ -76,13 +76,13 @@ module _ {limit : ℕ} (e : Entry) (g : Good limit e) where
   -- last seen is there where the direct half is
   beside : (o : Option Direct) → IfSome (GoodDirect limit e.last_seen) o → (not (is_some o) || is_some e.last_seen) ≡ true
   unfolding is_some
-  beside none h = refl
-  beside (some d) h = h.was_seen
+  beside None h = refl
+  beside (Some d) h = h.was_seen
 
   absent_zero : (o : Option ℕ) → (is_some o || eqb (or_else 0 o) 0) ≡ true
   unfolding is_some or_else
-  absent_zero none = refl
-  absent_zero (some t) = refl
+  absent_zero None = refl
+  absent_zero (Some t) = refl
 
   pub made_seen : seen_sound (head_for e) ≡ true
   unfolding head_for
@@ -121,10 +121,10 @@ unfolding newcomer
 good_newcomer a c o = record { canonical = c; octets = o; seen = tt; direct = tt; gossip = tt }
 
 -- a direct half stays good where last seen is raised
-seen_later : (limit : ℕ) (o : Option ℕ) (date : ℕ) (d : Option Direct) → IfSome (GoodDirect limit o) d → IfSome (GoodDirect limit (some (max (or_else 0 o) date))) d
+seen_later : (limit : ℕ) (o : Option ℕ) (date : ℕ) (d : Option Direct) → IfSome (GoodDirect limit o) d → IfSome (GoodDirect limit (Some (max (or_else 0 o) date))) d
 unfolding is_some or_else
-seen_later limit o date none g = tt
-seen_later limit o date (some d) g = record { key = g.key; was_seen = refl; not_below = omega (arith, g.not_below, le-max_left (or_else 0 o) date) }
+seen_later limit o date None g = tt
+seen_later limit o date (Some d) g = record { key = g.key; was_seen = refl; not_below = omega (arith, g.not_below, le-max_left (or_else 0 o) date) }
 
 module _ {limit : ℕ} (e : Entry) (g : Good limit e) where
   pub good_seen_by : (date : ℕ) → date ≤ time_limit → Good limit (seen_by date e)

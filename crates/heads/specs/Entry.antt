@@ -7,7 +7,7 @@
 --     renamed .. with_gossip   what a writer changes in an entry
 --     GoodKey .. Good          what a sound entry satisfies, with keys of at most `limit` octets
 use Rattle.std.specs.Prelude.{ℕ, ◌≤◌, max, ◌≡◌, Bool, true, false, List, [], length}
-use Rattle.std.proofs.Math.Option.{Option, some, none}
+use Rattle.std.specs.Prelude.{Option, Some, None}
 use Rattle.octets.specs.Octets.{AllOctets}
 use Rattle.octets.specs.Options.{is_some, or_else, IfSome}
 use Rattle.address.specs.Address.{is_canonical}
@@ -34,8 +34,8 @@ pub record Entry : Type 0 where
 
 -- T5, T6: whether something is there is told by its bit alone, since zero is as good a time as any other
 abbrev pub present : {A : Type 0} → Bool → A → Option A
-present true x = some x
-present false x = none
+present true x = Some x
+present false x = None
 
 -- T8.7: what stands in a head for a direct half that is absent
 abbrev pub no_direct : Direct
@@ -63,7 +63,7 @@ head_for e =
 
 -- U4: what an address that has no entry yet begins with: itself, and nothing else
 unfoldable pub newcomer : List ℕ → Entry
-newcomer a = record { address = a; last_seen = none; direct = none; gossip = none }
+newcomer a = record { address = a; last_seen = None; direct = None; gossip = None }
 
 -- T17: the address is replaced, and all else stays
 unfoldable pub renamed : List ℕ → Entry → Entry
@@ -72,15 +72,15 @@ renamed a e = record { address = a; last_seen = e.last_seen; direct = e.direct; 
 -- U7: last seen becomes the date if it was absent or smaller
 unfoldable pub seen_by : ℕ → Entry → Entry
 seen_by date e =
-    record { address = e.address; last_seen = some (max (or_else 0 e.last_seen) date); direct = e.direct; gossip = e.gossip }
+    record { address = e.address; last_seen = Some (max (or_else 0 e.last_seen) date); direct = e.direct; gossip = e.gossip }
 
 -- U8: the direct half is replaced, and all else stays
 unfoldable pub with_direct : Direct → Entry → Entry
-with_direct d e = record { address = e.address; last_seen = e.last_seen; direct = some d; gossip = e.gossip }
+with_direct d e = record { address = e.address; last_seen = e.last_seen; direct = Some d; gossip = e.gossip }
 
 -- G7: the gossip half is replaced. G8: last seen and the direct half stay.
 unfoldable pub with_gossip : Gossip → Entry → Entry
-with_gossip g e = record { address = e.address; last_seen = e.last_seen; direct = e.direct; gossip = some g }
+with_gossip g e = record { address = e.address; last_seen = e.last_seen; direct = e.direct; gossip = Some g }
 
 -- T8.6: a key has an octet at least, and so many at most
 pub record GoodKey (limit : ℕ) (k : List ℕ) : Type 0 where

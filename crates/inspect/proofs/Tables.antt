@@ -10,7 +10,7 @@ use Prim.Native.Nat.{ℕ, ◌%◌}
 use mathlib.Core.Path.{◌≡◌, sym, ap, ◌∙◌}
 use mathlib.Core.Bool.{true, false, ◌&&◌}
 use mathlib.Core.List.{List}
-use mathlib.Core.Option.{some, none}
+use Rattle.std.specs.Prelude.{Some, None}
 use native.Mathlib.Omega.{arith}
 use borrow.Author.Rules.{rules}
 use borrow.Author.Tests.{leb-true}
@@ -34,17 +34,17 @@ use Rattle.inspect.specs.Inspecting.{is_sound, broken_slot, table_rows_by, Opens
 
 module _ (how : Spelling) (t : List ℕ) where
   -- the check answers the length exactly where there are no whole slots
-  length_out : whole t ≡ false → first_of (table_rows_by how t) ≡ some TableLength
+  length_out : whole t ≡ false → first_of (table_rows_by how t) ≡ Some TableLength
   unfolding table_rows_by first_of
   length_out w = rw w
 
   -- where there are, by the answer
   module _ (w : whole t ≡ true) where
-    sound_in : checked_by how t ≡ Sound → first_of (table_rows_by how t) ≡ none
+    sound_in : checked_by how t ≡ Sound → first_of (table_rows_by how t) ≡ None
     unfolding table_rows_by first_of is_sound
     sound_in e = rw (w, e)
 
-    slot_in : (i : ℕ) → checked_by how t ≡ Slot i → first_of (table_rows_by how t) ≡ some (BrokenSlot i)
+    slot_in : (i : ℕ) → checked_by how t ≡ Slot i → first_of (table_rows_by how t) ≡ Some (BrokenSlot i)
     unfolding table_rows_by first_of is_sound broken_slot
     slot_in i e = rw (w, e)
 
@@ -52,31 +52,31 @@ module _ (how : Spelling) (t : List ℕ) where
   whole_unless : (c : Checked) → checked_by how t ≡ c → (c ≡ Length → ⊥) → whole t ≡ true
   whole_unless c e n = by_test (whole t) (λ w. w) (λ w. absurd (n (sym e ∙ checked_length how t w)))
 
-  pub length_rows : checked_by how t ≡ Length → first_of (table_rows_by how t) ≡ some TableLength
+  pub length_rows : checked_by how t ≡ Length → first_of (table_rows_by how t) ≡ Some TableLength
   length_rows e = length_out (checked_out how t e)
 
-  pub sound_rows : checked_by how t ≡ Sound → first_of (table_rows_by how t) ≡ none
+  pub sound_rows : checked_by how t ≡ Sound → first_of (table_rows_by how t) ≡ None
   sound_rows e = sound_in (whole_unless Sound e (λ q. let z : ◌≡◌ {A = ℕ} 0 1 = cc in omega arith)) e
 
-  pub slot_rows : (i : ℕ) → checked_by how t ≡ Slot i → first_of (table_rows_by how t) ≡ some (BrokenSlot i)
+  pub slot_rows : (i : ℕ) → checked_by how t ≡ Slot i → first_of (table_rows_by how t) ≡ Some (BrokenSlot i)
   slot_rows i e = slot_in (whole_unless (Slot i) e (λ q. let z : ◌≡◌ {A = ℕ} 0 1 = cc in omega arith)) i e
 
-  pub rows_sound : first_of (table_rows_by how t) ≡ none → checked_by how t ≡ Sound
+  pub rows_sound : first_of (table_rows_by how t) ≡ None → checked_by how t ≡ Sound
   rows_sound e =
-      by_check (checked_by how t) (λ q. q) (λ q. let z : none ≡ some TableLength = sym e ∙ length_rows q in cc)
-      (λ i q. let z : none ≡ some (BrokenSlot i) = sym e ∙ slot_rows i q in cc)
+      by_check (checked_by how t) (λ q. q) (λ q. let z : None ≡ Some TableLength = sym e ∙ length_rows q in cc)
+      (λ i q. let z : None ≡ Some (BrokenSlot i) = sym e ∙ slot_rows i q in cc)
 
-  pub lowest_broken : (i : ℕ) → first_of (table_rows_by how t) ≡ some (BrokenSlot i) → BrokenBy how t i
+  pub lowest_broken : (i : ℕ) → first_of (table_rows_by how t) ≡ Some (BrokenSlot i) → BrokenBy how t i
   lowest_broken i e =
       by_check (checked_by how t)
-      (λ q. let z : none ≡ some (BrokenSlot i) = sym (sound_rows q) ∙ e in let n : ◌≡◌ {A = ℕ} 0 1 = cc in absurd (omega arith))
-      (λ q. let z : some TableLength ≡ some (BrokenSlot i) = sym (length_rows q) ∙ e in let n : ◌≡◌ {A = ℕ} 0 1 = cc in absurd (omega arith))
+      (λ q. let z : None ≡ Some (BrokenSlot i) = sym (sound_rows q) ∙ e in let n : ◌≡◌ {A = ℕ} 0 1 = cc in absurd (omega arith))
+      (λ q. let z : Some TableLength ≡ Some (BrokenSlot i) = sym (length_rows q) ∙ e in let n : ◌≡◌ {A = ℕ} 0 1 = cc in absurd (omega arith))
       (λ j q.
-      let z : some (BrokenSlot j) ≡ some (BrokenSlot i) = sym (slot_rows j q) ∙ e in
+      let z : Some (BrokenSlot j) ≡ Some (BrokenSlot i) = sym (slot_rows j q) ∙ e in
       let p : j ≡ i = cc in
       checked_broken how t i (q ∙ ap Slot p))
 
-  pub broken_refused : (i : ℕ) → BrokenBy how t i → first_of (table_rows_by how t) ≡ some (BrokenSlot i)
+  pub broken_refused : (i : ℕ) → BrokenBy how t i → first_of (table_rows_by how t) ≡ Some (BrokenSlot i)
   broken_refused i b = slot_rows i (broken_checked how t i b)
 
   -- as the code has it

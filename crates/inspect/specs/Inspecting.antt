@@ -5,7 +5,7 @@
 --     showing_rows, refused_showing   one entry by its slot: rows 1, 2 and 12
 --     left_by_showing                 what the lent numbers hold afterwards. What they say is said by the crate `entry`
 use Rattle.std.specs.Prelude.{ℕ, ◌≡◌, Bool, true, false, List, [], ◌∷◌, ◌++◌, leb, length}
-use Rattle.std.proofs.Math.Option.{Option}
+use Rattle.std.specs.Prelude.{Option}
 use Rattle.octets.specs.Written.{onto}
 use Rattle.refusals.specs.Rows.{Row, ◌unless◌, first_of, answer_of, unless_refused}
 use Rattle.refusals.specs.declared.Refusal.{Refusal}

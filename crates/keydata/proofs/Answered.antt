@@ -6,7 +6,7 @@ use Prim.Native.Nat.{ℕ, ◌≤◌}
 use mathlib.Core.Path.{◌≡◌, refl}
 use mathlib.Core.Bool.{Bool, true, false, cond}
 use mathlib.Core.List.{List}
-use mathlib.Core.Option.{Option, some, none}
+use Rattle.std.specs.Prelude.{Option, Some, None}
 use native.Mathlib.Omega.{arith}
 use borrow.Author.Tests.{leb-true, leb-false}
 use lib.Dec.{leb}
@@ -21,22 +21,22 @@ use Rattle.keydata.specs.declared.Decoded.TheVariants.{Octets, Refused}
 
 -- the answers
 pub octets_answered : (o : Option (List ℕ)) (room n : ℕ) → Octets n ≡ decoded_of o room
-    → (o ≡ some (octets_in o)) × (length (octets_in o) ≡ n) × (n ≤ room)
+    → (o ≡ Some (octets_in o)) × (length (octets_in o) ≡ n) × (n ≤ room)
 unfolding decoded_of octets_in
-octets_answered none room n e = let z : ◌≡◌ {A = ℕ} 0 1 = cc in absurd (omega arith)
-octets_answered (some w) room n e = go (leb (length w) room) refl e
+octets_answered None room n e = let z : ◌≡◌ {A = ℕ} 0 1 = cc in absurd (omega arith)
+octets_answered (Some w) room n e = go (leb (length w) room) refl e
   where
     go : (b : Bool) → leb (length w) room ≡ b → Octets n ≡ cond b (Octets (length w)) Refused
-        → (some w ≡ some w) × (length w ≡ n) × (n ≤ room)
+        → (Some w ≡ Some w) × (length w ≡ n) × (n ≤ room)
     go true t q = let r : length w ≡ n = cc in (refl, r, omega (arith, leb-true (length w) room t))
     go false t q = let z : ◌≡◌ {A = ℕ} 0 1 = cc in absurd (omega arith)
 
 pub refused_answered : (o : Option (List ℕ)) (room : ℕ) → Refused ≡ decoded_of o room → NoneFit o room
 unfolding decoded_of
-refused_answered none room e = nothing_fits room
-refused_answered (some w) room e = go (leb (length w) room) refl e
+refused_answered None room e = nothing_fits room
+refused_answered (Some w) room e = go (leb (length w) room) refl e
   where
-    go : (b : Bool) → leb (length w) room ≡ b → Refused ≡ cond b (Octets (length w)) Refused → NoneFit (some w) room
+    go : (b : Bool) → leb (length w) room ≡ b → Refused ≡ cond b (Octets (length w)) Refused → NoneFit (Some w) room
     go true t q = let z : ◌≡◌ {A = ℕ} 0 1 = cc in absurd (omega arith)
     go false t q = record { over = λ v r. let e : w ≡ v = cc in rw e at (leb-false (length w) room t) }
 

@@ -7,7 +7,7 @@
 use Prim.Native.Nat.{ℕ, ◌+◌, ◌-◌, ◌<◌, ◌≤◌}
 use mathlib.Core.Path.{◌≡◌, refl, sym, ap, ◌∙◌}
 use mathlib.Core.List.{List, [], ◌∷◌, ◌++◌, append_assoc, append-nil}
-use mathlib.Core.Option.{Option, some, none}
+use Rattle.std.specs.Prelude.{Option, Some, None}
 use native.Mathlib.Nat.{zero-add}
 use native.Mathlib.Omega.{arith}
 use borrow.Author.Rules.{rules}
@@ -37,13 +37,13 @@ use Rattle.keydata.specs.declared.Decoded.TheVariants.{Octets, Refused}
 
 before_none : (o : Option (List ℕ)) → o ≡ before [] o
 unfolding before
-before_none none = refl
-before_none (some w) = refl
+before_none None = refl
+before_none (Some w) = refl
 
 before_all : (u v : List ℕ) (o : Option (List ℕ)) → before u (before v o) ≡ before (u ++ v) o
 unfolding before
-before_all u v none = refl
-before_all u v (some w) = ap some (sym (append_assoc u v w))
+before_all u v None = refl
+before_all u v (Some w) = ap Some (sym (append_assoc u v w))
 
 -- blanks are read
 pub run_blanks : (s : List ℕ) (at : ℕ) (d : List ℕ) (to i : ℕ) → at ≤ length s → to ≤ length d → i ≡ at + run_length Blank (drop at s) → Run s at d to d i to
@@ -108,7 +108,7 @@ module _ (s : List ℕ) (at : ℕ) (d : List ℕ) (to : ℕ) (out : List ℕ) (i
 pub ruleset grouping = (nearer_whole, run_blanks, run_whole, run_upto, run_room, run_long, rules)
 
 -- `write_next`: the octets that the text goes on with
-last_octets : (s : List ℕ) (at : ℕ) (v : List ℕ) → decode (without_blanks (drop at s)) ≡ some v
+last_octets : (s : List ℕ) (at : ℕ) (v : List ℕ) → decode (without_blanks (drop at s)) ≡ Some v
     → decode (without_blanks (drop at s)) ≡ before v (decode (without_blanks (drop (length s) s)))
 unfolding before decode
 last_octets s at v e = rw (e, drop_done s (length s) (omega arith), without_none blank, append-nil)
@@ -119,7 +119,7 @@ too_long v o room l = record {
   over = λ w q. let r = behind_three v w o q in omega (arith, ap length r.1, length-append v (octets_in o));
 }
 
-pub nothing_fits : (room : ℕ) → NoneFit none room
+pub nothing_fits : (room : ℕ) → NoneFit None room
 nothing_fits room = record { over = λ w q. let z : ◌≡◌ {A = ℕ} 0 1 = cc in absurd (omega arith) }
 
 module _ (s : List ℕ) (at : ℕ) (d : List ℕ) (to : ℕ) (l : at ≤ length s) (k : to ≤ length d) (g : Next) (h : NextGroup s at g) where
@@ -136,7 +136,7 @@ module _ (s : List ℕ) (at : ℕ) (d : List ℕ) (to : ℕ) (l : at ≤ length 
         record { same = run_long s at d to out n (to + 3) f; says = record { run = f; nearer = omega arith } }
 
   -- its last octets
-  module _ (v : List ℕ) (e : decode (without_blanks (drop at s)) ≡ some v) where
+  module _ (v : List ℕ) (e : decode (without_blanks (drop at s)) ≡ Some v) where
     last_full : length d - to < length v → Turned s at d to d TRefused
     unfolding TurnedTo
     last_full m = record { same = refl; says = rw (last_octets s at v e) (too_long v _ _ m) }
@@ -178,8 +178,8 @@ pub ruleset turning = (three_full, three_on, two_full, two_room, two_last, one_f
 -- `write`
 none_decoded : (o : Option (List ℕ)) (room : ℕ) → NoneFit o room → Refused ≡ decoded_of o room
 unfolding decoded_of
-none_decoded none room h = refl
-none_decoded (some w) room h = rw (lt-leb (length w) room (h.over w refl))
+none_decoded None room h = refl
+none_decoded (Some w) room h = rw (lt-leb (length w) room (h.over w refl))
 
 module _ (s d out : List ℕ) (i o : ℕ) (h : Run s 0 d 0 out i o) (out₁ : List ℕ) (j p : ℕ) (k : Run s i out o out₁ j p)
     (out₂ : List ℕ) (g : Turn) (t : Turned s j out₁ p out₂ g) where
@@ -205,7 +205,7 @@ module _ (s d out : List ℕ) (i o : ℕ) (h : Run s 0 d 0 out i o) (out₁ : Li
     unfolding TurnedTo
     all_run = run_then s 0 d 0 out₁ j p both out₂ (length s) n (rw e at t.says)
 
-    all_octets : decode (without_blanks s) ≡ some all_run.octets
+    all_octets : decode (without_blanks s) ≡ Some all_run.octets
     unfolding before decode
     all_octets = all_run.reads ∙ rw (drop_done s (length s) (omega arith), without_none blank, append-nil)
 

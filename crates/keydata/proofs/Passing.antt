@@ -8,7 +8,7 @@ use Prim.Native.Nat.{ℕ, ◌+◌, ◌-◌, ◌<◌, ◌≤◌}
 use mathlib.Core.Path.{◌≡◌, refl, sym, ap, ◌∙◌}
 use mathlib.Core.Bool.{true, false}
 use mathlib.Core.List.{List}
-use mathlib.Core.Option.{Option, some, none}
+use Rattle.std.specs.Prelude.{Option, Some, None}
 use native.Mathlib.Omega.{arith}
 use borrow.Author.Rules.{rules}
 use lib.ListN.{length, drop}
@@ -29,8 +29,8 @@ use Rattle.keydata.specs.Steps.{Passed}
 -- octets in front do not make a text Base64, nor keep it from being so
 before_some : (v : List ℕ) (o : Option (List ℕ)) → is_some (before v o) ≡ is_some o
 unfolding before is_some
-before_some v none = refl
-before_some v (some w) = refl
+before_some v None = refl
+before_some v (Some w) = refl
 
 pub pass_none : (s : List ℕ) → Passed s 0 0
 pass_none s = record { same = refl; onward = omega arith; upto = omega arith }
@@ -74,7 +74,7 @@ module _ (s : List ℕ) (i : ℕ) (h : Passed s 0 i) (j : ℕ) (k : Passed s i j
     next_nearer = let r = read_three s j g t x y z n e in omega (arith, k.onward)
 
   -- its last octets
-  last_some : (v : List ℕ) → decode (without_blanks (drop j s)) ≡ some v → true ≡ is_some (decode (without_blanks s))
+  last_some : (v : List ℕ) → decode (without_blanks (drop j s)) ≡ Some v → true ≡ is_some (decode (without_blanks s))
   unfolding is_some
   last_some v e = sym (both.same ∙ rw e)
 

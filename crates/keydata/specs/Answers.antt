@@ -2,7 +2,7 @@
 --     decoded_of   the answer for a text that stands for these octets, or for none, with so much room
 --     Decodes      what the lent memory holds after it: the octets over its beginning; after a refusal nothing is said
 use Rattle.std.specs.Prelude.{ℕ, ◌≡◌, cond, List, leb, length}
-use Rattle.std.proofs.Math.Option.{Option, some, none}
+use Rattle.std.specs.Prelude.{Option, Some, None}
 use Rattle.octets.specs.Written.{onto}
 use Rattle.letters.specs.Base64.{octets_in}
 use Rattle.keydata.specs.declared.Decoded.{Decoded}
@@ -10,8 +10,8 @@ use Rattle.keydata.specs.declared.Decoded.TheVariants.{Octets, Refused}
 
 -- F9: octets are answered where the text is Base64 and they have room; a caller sets the limit of F10 by the room that it lends
 unfoldable pub decoded_of : Option (List ℕ) → ℕ → Decoded
-decoded_of none room = Refused
-decoded_of (some w) room = cond (leb (length w) room) (Octets (length w)) Refused
+decoded_of None room = Refused
+decoded_of (Some w) room = cond (leb (length w) room) (Octets (length w)) Refused
 
 unfoldable pub Decodes : Option (List ℕ) → List ℕ → List ℕ → Decoded → Type 0
 Decodes o d out (Octets n) = out ≡ onto (octets_in o) d

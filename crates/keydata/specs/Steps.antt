@@ -4,7 +4,7 @@
 --     Turned           what `write_next` answers
 --     Passed           what `pass_groups` answers
 use Rattle.std.specs.Prelude.{ℕ, ◌+◌, ◌-◌, ◌<◌, ◌≤◌, ◌≡◌, List, length, drop}
-use Rattle.std.proofs.Math.Option.{Option, some}
+use Rattle.std.specs.Prelude.{Option, Some}
 use Rattle.octets.specs.Octets.{without_blanks}
 use Rattle.octets.specs.Options.{is_some}
 use Rattle.octets.specs.Written.{put_at}
@@ -24,7 +24,7 @@ pub record Run (s : List ℕ) (at : ℕ) (d : List ℕ) (to : ℕ) (out : List �
 
 -- o holds no octets that have room in so much
 pub record NoneFit (o : Option (List ℕ)) (room : ℕ) : Type 0 where
-  pub over : (w : List ℕ) → o ≡ some w → room < length w
+  pub over : (w : List ℕ) → o ≡ Some w → room < length w
 
 pub record Onward (s : List ℕ) (at : ℕ) (d : List ℕ) (to : ℕ) (out : List ℕ) (i o : ℕ) : Type 0 where
   pub run : Run s at d to out i o

@@ -6,17 +6,17 @@
 use Prim.Native.Nat.{ℕ}
 use mathlib.Core.Path.{◌≡◌, refl, sym, ap, ◌∙◌}
 use mathlib.Core.List.{List, [], ◌∷◌, ◌++◌}
-use mathlib.Core.Option.{Option, some, none}
+use Rattle.std.specs.Prelude.{Option, Some, None}
 use native.Mathlib.Omega.{arith}
 use Rattle.keyfield.specs.Field.{chosen}
 
 module _ {A : Type 0} (f : List ℕ → Option A) where
   module _ (v : List ℕ) (rest : List (List ℕ)) where
-    pub chosen_skip : f v ≡ none → chosen f (v ∷ rest) ≡ chosen f rest
+    pub chosen_skip : f v ≡ None → chosen f (v ∷ rest) ≡ chosen f rest
     unfolding chosen
     chosen_skip e = rw (chosen, e)
 
-    pub chosen_next : (x : A) → f v ≡ some x → chosen f (v ∷ rest) ≡ x ∷ chosen f rest
+    pub chosen_next : (x : A) → f v ≡ Some x → chosen f (v ∷ rest) ≡ x ∷ chosen f rest
     unfolding chosen
     chosen_next x e = rw (chosen, e)
 
@@ -26,14 +26,14 @@ module _ {A : Type 0} (f : List ℕ → Option A) where
   chosen_append (v ∷ s) t = go (f v) refl (chosen_append s t)
     where
       go : (o : Option A) → f v ≡ o → chosen f (s ++ t) ≡ chosen f s ++ chosen f t → chosen f (v ∷ (s ++ t)) ≡ chosen f (v ∷ s) ++ chosen f t
-      go none e h = rw (chosen_skip v (s ++ t) e, chosen_skip v s e) h
-      go (some x) e h = rw (chosen_next v (s ++ t) x e, chosen_next v s x e, h)
+      go None e h = rw (chosen_skip v (s ++ t) e, chosen_skip v s e) h
+      go (Some x) e h = rw (chosen_next v (s ++ t) x e, chosen_next v s x e, h)
 
-  pub chosen_value : (values : List (List ℕ)) (x : A) (more : List A) → chosen f values ≡ x ∷ more → (v : List ℕ) × (f v ≡ some x)
+  pub chosen_value : (values : List (List ℕ)) (x : A) (more : List A) → chosen f values ≡ x ∷ more → (v : List ℕ) × (f v ≡ Some x)
   unfolding chosen
   chosen_value [] x more e = let z : ◌≡◌ {A = ℕ} 0 1 = cc in absurd (omega arith)
   chosen_value (v ∷ rest) x more e = go (f v) refl (λ q. chosen_value rest x more q)
     where
-      go : (o : Option A) → f v ≡ o → (chosen f rest ≡ x ∷ more → (w : List ℕ) × (f w ≡ some x)) → (w : List ℕ) × (f w ≡ some x)
-      go none q later = later (sym (chosen_skip v rest q) ∙ e)
-      go (some y) q later = let k : y ∷ chosen f rest ≡ x ∷ more = sym (chosen_next v rest y q) ∙ e in let h : y ≡ x = cc in (v, q ∙ ap some h)
+      go : (o : Option A) → f v ≡ o → (chosen f rest ≡ x ∷ more → (w : List ℕ) × (f w ≡ Some x)) → (w : List ℕ) × (f w ≡ Some x)
+      go None q later = later (sym (chosen_skip v rest q) ∙ e)
+      go (Some y) q later = let k : y ∷ chosen f rest ≡ x ∷ more = sym (chosen_next v rest y q) ∙ e in let h : y ≡ x = cc in (v, q ∙ ap Some h)

@@ -11,7 +11,7 @@ use mathlib.Core.Path.{◌≡◌, refl, sym, ap, ◌∙◌}
 use mathlib.Core.Bool.{Bool, true}
 use mathlib.Core.Logic.{⊎_elim}
 use mathlib.Core.List.{List, [], ◌∷◌}
-use mathlib.Core.Option.{Option, some, none}
+use Rattle.std.specs.Prelude.{Option, Some, None}
 use native.Mathlib.Omega.{arith}
 use borrow.Author.Tests.{leb-true, le-leb, lt-ltb, ltb-true}
 use lib.Dec.{leb, ltb}
@@ -34,8 +34,8 @@ use Rattle.keyfield.specs.Field.{Said, said_with, if_last, said_from, said_of, l
 -- What holds of the address that is said, where it holds of each plain address that a piece of a kind names.
 module _ (Q : List ℕ → Type 0) (kind : List ℕ → Bool) (named : (p v : List ℕ) → kind p ≡ true → attribute_of p ≡ addr v → plain v ≡ true → Q v) where
   Seen : Option (List ℕ) → Type 0
-  Seen none = Unit
-  Seen (some a) = Q a
+  Seen None = Unit
+  Seen (Some a) = Q a
 
   After : Step → Type 0
   After (on a m) = Seen a
@@ -43,18 +43,18 @@ module _ (Q : List ℕ → Type 0) (kind : List ℕ → Bool) (named : (p v : Li
   After spoils = Unit
 
   SaidSo : Option Said → Type 0
-  SaidSo none = Unit
-  SaidSo (some x) = Q x.address
+  SaidSo None = Unit
+  SaidSo (Some x) = Q x.address
 
   with_address_lem : (address : Option (List ℕ)) (m : Option Bool) (v : List ℕ) → (plain v ≡ true → Q v) → After (with_address address m v)
   unfolding with_address After Seen
-  with_address_lem none m v h = by_test (plain v) (λ e. rw e (h e)) (λ e. rw e tt)
-  with_address_lem (some a) m v h = tt
+  with_address_lem None m v h = by_test (plain v) (λ e. rw e (h e)) (λ e. rw e tt)
+  with_address_lem (Some a) m v h = tt
 
   with_preference_lem : (address : Option (List ℕ)) (m : Option Bool) (v : List ℕ) → Seen address → After (with_preference address m v)
   unfolding with_preference After
-  with_preference_lem address none v h = h
-  with_preference_lem address (some b) v h = tt
+  with_preference_lem address None v h = h
+  with_preference_lem address (Some b) v h = tt
 
   after_step : (address : Option (List ℕ)) (m : Option Bool) (a : Attribute) → ((v : List ℕ) → a ≡ addr v → plain v ≡ true → Q v) → Seen address → After (step address m a)
   unfolding step After
@@ -66,8 +66,8 @@ module _ (Q : List ℕ → Type 0) (kind : List ℕ → Bool) (named : (p v : Li
 
   said_with_lem : (address : Option (List ℕ)) (m : Option Bool) (v : List ℕ) → Seen address → SaidSo (said_with address m v)
   unfolding said_with Seen SaidSo
-  said_with_lem none m v h = tt
-  said_with_lem (some a) m v h = h
+  said_with_lem None m v h = tt
+  said_with_lem (Some a) m v h = h
 
   if_last_lem : (rest : List (List ℕ)) (x : Option Said) → SaidSo x → SaidSo (if_last rest x)
   unfolding if_last SaidSo
@@ -87,9 +87,9 @@ module _ (Q : List ℕ → Type 0) (kind : List ℕ → Bool) (named : (p v : Li
       go more (last v) e k = rw (said_from, e) (if_last_lem rest (said_with address m v) (said_with_lem address m v h))
       go more spoils e k = rw (said_from, e) tt
 
-  said_so : (s : List ℕ) (x : Said) → every kind (pieces 59 s) ≡ true → said_of s ≡ some x → Q x.address
+  said_so : (s : List ℕ) (x : Said) → every kind (pieces 59 s) ≡ true → said_of s ≡ Some x → Q x.address
   unfolding said_of SaidSo Seen
-  said_so s x t e = rw e at (said_from_lem none none (pieces 59 s) t tt)
+  said_so s x t e = rw e at (said_from_lem None None (pieces 59 s) t tt)
 
 -- it is plain, whatever the pieces are
 every_kind : (ps : List (List ℕ)) → every (λ p. true) ps ≡ true
@@ -97,7 +97,7 @@ unfolding every
 every_kind [] = refl
 every_kind (p ∷ ps) = every_kind ps
 
-pub said_plain : (s : List ℕ) (x : Said) → said_of s ≡ some x → plain x.address ≡ true
+pub said_plain : (s : List ℕ) (x : Said) → said_of s ≡ Some x → plain x.address ≡ true
 said_plain s x e = said_so (λ v. plain v ≡ true) (λ p. true) (λ p v t n h. h) s x (every_kind (pieces 59 s)) e
 
 -- it is made of octets of the value
@@ -117,27 +117,27 @@ octets_all s e i =
     (λ (l : length s ≤ i). rw (get_or-eq_default s 0 {n = i} l) (omega arith))
     (lt_or_le i (length s))
 
-pub said_octets : (s : List ℕ) (x : Said) → AllOctets s → said_of s ≡ some x → AllOctets x.address
+pub said_octets : (s : List ℕ) (x : Said) → AllOctets s → said_of s ≡ Some x → AllOctets x.address
 said_octets s x h e =
     octets_all x.address
     (said_so (λ v. every is_octet v ≡ true) (every is_octet) (λ p v t n k. every_named is_octet p v t n) s x (every_pieces is_octet 59 s (all_octets s h)) e)
 
 -- a key is what its text decodes to
 pub record KeyOf (limit : ℕ) (v k : List ℕ) : Type 0 where
-  pub decoded : decode (without_blanks v) ≡ some k
+  pub decoded : decode (without_blanks v) ≡ Some k
   pub least : 1 ≤ length k
   pub most : length k ≤ limit
 
 module _ (limit : ℕ) where
-  limited_is : (o : Option (List ℕ)) (k : List ℕ) → limited limit o ≡ some k → (o ≡ some k) × (one_to limit (length k) ≡ true)
+  limited_is : (o : Option (List ℕ)) (k : List ℕ) → limited limit o ≡ Some k → (o ≡ Some k) × (one_to limit (length k) ≡ true)
   unfolding limited
-  limited_is none k e = let z : ◌≡◌ {A = ℕ} 0 1 = cc in absurd (omega arith)
-  limited_is (some w) k e =
+  limited_is None k e = let z : ◌≡◌ {A = ℕ} 0 1 = cc in absurd (omega arith)
+  limited_is (Some w) k e =
       by_test (one_to limit (length w))
-      (λ t. let q : some w ≡ some k = rw t at e in let r : w ≡ k = cc in (q, rw r at t))
-      (λ t. let q : none ≡ some k = rw t at e in let z : ◌≡◌ {A = ℕ} 0 1 = cc in absurd (omega arith))
+      (λ t. let q : Some w ≡ Some k = rw t at e in let r : w ≡ k = cc in (q, rw r at t))
+      (λ t. let q : None ≡ Some k = rw t at e in let z : ◌≡◌ {A = ℕ} 0 1 = cc in absurd (omega arith))
 
-  pub key_parts : (v k : List ℕ) → key_of limit v ≡ some k → KeyOf limit v k
+  pub key_parts : (v k : List ℕ) → key_of limit v ≡ Some k → KeyOf limit v k
   unfolding key_of
   key_parts v k e =
       let l = limited_is (decode (without_blanks v)) k e in
@@ -147,43 +147,43 @@ module _ (limit : ℕ) where
         most = leb-true (length k) limit (and_right (leb 1 (length k)) (leb (length k) limit) l.1);
       }
 
-  pub key_made : (v k : List ℕ) → KeyOf limit v k → key_of limit v ≡ some k
+  pub key_made : (v k : List ℕ) → KeyOf limit v k → key_of limit v ≡ Some k
   unfolding key_of limited
   key_made v k h = rw (h.decoded, le-leb 1 (length k) h.least, le-leb (length k) limit h.most)
 
 -- a field is made of what its value says and of its key
 pub record FieldOf (limit : ℕ) (s : List ℕ) (f : Field) : Type 0 where
   pub said : Said
-  pub says : said_of s ≡ some said
+  pub says : said_of s ≡ Some said
   pub address : f.address ≡ canonical said.address
   pub is_mutual : f.is_mutual ≡ said.is_mutual
-  pub key : key_of limit said.text ≡ some f.key
+  pub key : key_of limit said.text ≡ Some f.key
 
 module _ (limit : ℕ) (s : List ℕ) (f : Field) where
-  with_key_lem : (x : Said) → said_of s ≡ some x → (o : Option (List ℕ)) → key_of limit x.text ≡ o
-      → with_key x.address x.is_mutual o ≡ some f → FieldOf limit s f
+  with_key_lem : (x : Said) → said_of s ≡ Some x → (o : Option (List ℕ)) → key_of limit x.text ≡ o
+      → with_key x.address x.is_mutual o ≡ Some f → FieldOf limit s f
   unfolding with_key
-  with_key_lem x q none p e = let z : ◌≡◌ {A = ℕ} 0 1 = cc in absurd (omega arith)
-  with_key_lem x q (some k) p e =
+  with_key_lem x q None p e = let z : ◌≡◌ {A = ℕ} 0 1 = cc in absurd (omega arith)
+  with_key_lem x q (Some k) p e =
       let r : record { address = canonical x.address; is_mutual = x.is_mutual; key = k } ≡ f = cc in
       record {
         said = x;
         says = q;
         address = ap (λ (g : Field). g.address) (sym r);
         is_mutual = ap (λ (g : Field). g.is_mutual) (sym r);
-        key = p ∙ ap (λ (g : Field). some g.key) r;
+        key = p ∙ ap (λ (g : Field). Some g.key) r;
       }
 
-  by_said : (x : Option Said) → said_of s ≡ x → field_by limit x ≡ some f → FieldOf limit s f
+  by_said : (x : Option Said) → said_of s ≡ x → field_by limit x ≡ Some f → FieldOf limit s f
   unfolding field_by
-  by_said none q e = let z : ◌≡◌ {A = ℕ} 0 1 = cc in absurd (omega arith)
-  by_said (some x) q e = with_key_lem x q (key_of limit x.text) refl e
+  by_said None q e = let z : ◌≡◌ {A = ℕ} 0 1 = cc in absurd (omega arith)
+  by_said (Some x) q e = with_key_lem x q (key_of limit x.text) refl e
 
-  pub field_parts : field_of limit s ≡ some f → FieldOf limit s f
+  pub field_parts : field_of limit s ≡ Some f → FieldOf limit s f
   unfolding field_of
   field_parts e = by_said (said_of s) refl e
 
-  module _ (e : field_of limit s ≡ some f) where
+  module _ (e : field_of limit s ≡ Some f) where
     parts : FieldOf limit s f
     parts = field_parts e
 

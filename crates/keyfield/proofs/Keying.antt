@@ -7,7 +7,7 @@ use Prim.Native.Nat.{ℕ, ◌-◌, ◌≤◌}
 use mathlib.Core.Path.{◌≡◌, refl, sym, ap, ◌∙◌}
 use mathlib.Core.Bool.{and-false}
 use mathlib.Core.List.{List, ◌++◌, append_assoc}
-use mathlib.Core.Option.{Option, some, none}
+use Rattle.std.specs.Prelude.{Option, Some, None}
 use native.Mathlib.Omega.{arith}
 use native.Mathlib.Nat.{sub-zero}
 use borrow.Author.Rules.{rules}
@@ -31,10 +31,10 @@ use Rattle.keyfield.proofs.Fields.{key_made}
 abbrev octets : List ℕ → List ℕ
 octets text = octets_in (decode (without_blanks text))
 
-limited_none : (limit : ℕ) (o : Option (List ℕ)) → NoneFit o limit → limited limit o ≡ none
+limited_none : (limit : ℕ) (o : Option (List ℕ)) → NoneFit o limit → limited limit o ≡ None
 unfolding limited
-limited_none limit none h = refl
-limited_none limit (some k) h = rw (lt-leb (length k) limit (h.over k refl), and-false)
+limited_none limit None h = refl
+limited_none limit (Some k) h = rw (lt-leb (length k) limit (h.over k refl), and-false)
 
 module _ (text : List ℕ) (limit : ℕ) (d : List ℕ) (l : limit ≤ length d) where
   abbrev room : List ℕ
@@ -52,7 +52,7 @@ module _ (text : List ℕ) (limit : ℕ) (d : List ℕ) (l : limit ≤ length d)
     key_refused k key = limited_none limit _ (refused_answered (decode (without_blanks text)) limit (sym k ∙ told))
 
     module _ (n : ℕ) (k : g ≡ Octets n) where
-      answered : (decode (without_blanks text) ≡ some (octets text)) × (length (octets text) ≡ n) × (n ≤ limit)
+      answered : (decode (without_blanks text) ≡ Some (octets text)) × (length (octets text) ≡ n) × (n ≤ limit)
       answered = octets_answered (decode (without_blanks text)) limit n (sym k ∙ told)
 
       pub key_empty : n ≡ 0 → (key : List ℕ) → KeyAs limit text key NoKey
@@ -60,7 +60,7 @@ module _ (text : List ℕ) (limit : ℕ) (d : List ℕ) (l : limit ≤ length d)
       key_empty z key = rw (answered.0, answered.1, z)
 
       module _ (some_octet : n ≡ 0 → ⊥) (out : List ℕ) (p : Decodes (decode (without_blanks text)) (take (limit - 0) (drop 0 d)) out g) where
-        key_is : key_of limit text ≡ some (octets text)
+        key_is : key_of limit text ≡ Some (octets text)
         key_is =
             key_made limit text (octets text)
             (record { decoded = answered.0; least = omega (arith, answered.1); most = omega (arith, answered.1, answered.2) })

@@ -7,7 +7,7 @@ use Prim.Native.Nat.{ℕ}
 use mathlib.Core.Path.{◌≡◌, refl, sym, ap, ◌∙◌}
 use mathlib.Core.Bool.{Bool, true, false, cond, not, false≢true}
 use mathlib.Core.List.{List, [], ◌∷◌, ◌++◌}
-use mathlib.Core.Option.{Option, some, none}
+use Rattle.std.specs.Prelude.{Option, Some, None}
 use native.Mathlib.Omega.{arith}
 use borrow.Author.Tests.{ne_eqb}
 use lib.Dec.{eqb}
@@ -64,36 +64,36 @@ module _ (a text : List ℕ) (p : plain a ≡ true) (t : every (other 59) text �
   unfolding every
   key_piece = t
 
-  address_step : step none none (attribute_of (ascii " addr=" ++ a)) ≡ on (some a) none
+  address_step : step None None (attribute_of (ascii " addr=" ++ a)) ≡ on (Some a) None
   unfolding step with_address
   address_step = rw (address_joined a address_trimmed, p)
 
-  preference_step : step (some a) none (attribute_of (ascii " prefer-encrypt=mutual")) ≡ on (some a) (some true)
+  preference_step : step (Some a) None (attribute_of (ascii " prefer-encrypt=mutual")) ≡ on (Some a) (Some true)
   unfolding same_octets step with_preference
   preference_step = rw preference_joined
 
-  key_step : (m : Option Bool) → step (some a) m (attribute_of (ascii " keydata=" ++ text)) ≡ last (trimmed text)
+  key_step : (m : Option Bool) → step (Some a) m (attribute_of (ascii " keydata=" ++ text)) ≡ last (trimmed text)
   unfolding step
   key_step m = rw (key_joined text)
 
   -- the pieces, and what they say
-  written_said : (m : Bool) → said_of (value_of a m text) ≡ some (record { address = a; is_mutual = m; text = trimmed text })
+  written_said : (m : Bool) → said_of (value_of a m text) ≡ Some (record { address = a; is_mutual = m; text = trimmed text })
   unfolding said_of said_with every
   written_said true =
       rw (
         piece_cut 59 (ascii " addr=" ++ a) address_piece (ascii " prefer-encrypt=mutual; keydata=" ++ text),
         piece_cut 59 (ascii " prefer-encrypt=mutual") refl (ascii " keydata=" ++ text),
         piece_alone 59 (ascii " keydata=" ++ text) key_piece,
-        from_on none none (ascii " addr=" ++ a) (some a) none (ascii " prefer-encrypt=mutual" ∷ (ascii " keydata=" ++ text) ∷ []) address_step,
-        from_on (some a) none (ascii " prefer-encrypt=mutual") (some a) (some true) ((ascii " keydata=" ++ text) ∷ []) preference_step,
-        from_last (some a) (some true) (ascii " keydata=" ++ text) (trimmed text) (key_step (some true)),
+        from_on None None (ascii " addr=" ++ a) (Some a) None (ascii " prefer-encrypt=mutual" ∷ (ascii " keydata=" ++ text) ∷ []) address_step,
+        from_on (Some a) None (ascii " prefer-encrypt=mutual") (Some a) (Some true) ((ascii " keydata=" ++ text) ∷ []) preference_step,
+        from_last (Some a) (Some true) (ascii " keydata=" ++ text) (trimmed text) (key_step (Some true)),
       )
   written_said false =
       rw (
         piece_cut 59 (ascii " addr=" ++ a) address_piece (ascii " keydata=" ++ text),
         piece_alone 59 (ascii " keydata=" ++ text) key_piece,
-        from_on none none (ascii " addr=" ++ a) (some a) none ((ascii " keydata=" ++ text) ∷ []) address_step,
-        from_last (some a) none (ascii " keydata=" ++ text) (trimmed text) (key_step none),
+        from_on None None (ascii " addr=" ++ a) (Some a) None ((ascii " keydata=" ++ text) ∷ []) address_step,
+        from_last (Some a) None (ascii " keydata=" ++ text) (trimmed text) (key_step None),
       )
 
   pub read_back : (limit : ℕ) (m : Bool) → field_of limit (value_of a m text) ≡ with_key a m (key_of limit text)
@@ -101,7 +101,7 @@ module _ (a text : List ℕ) (p : plain a ≡ true) (t : every (other 59) text �
   read_back limit m = rw (written_said m, key_trimmed limit text)
 
   pub read_back_key :
-      (limit : ℕ) (m : Bool) (k : List ℕ) → key_of limit text ≡ some k
-      → field_of limit (value_of a m text) ≡ some (record { address = canonical a; is_mutual = m; key = k })
+      (limit : ℕ) (m : Bool) (k : List ℕ) → key_of limit text ≡ Some k
+      → field_of limit (value_of a m text) ≡ Some (record { address = canonical a; is_mutual = m; key = k })
   unfolding with_key
   read_back_key limit m k e = read_back limit m ∙ rw e

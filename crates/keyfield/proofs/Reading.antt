@@ -6,7 +6,7 @@ use Prim.Native.Nat.{ℕ, ◌-◌, ◌≤◌}
 use mathlib.Core.Path.{◌≡◌, ◌∙◌}
 use mathlib.Core.Bool.{Bool}
 use mathlib.Core.List.{List}
-use mathlib.Core.Option.{none}
+use Rattle.std.specs.Prelude.{None}
 use borrow.Author.Rules.{rules}
 use lib.ListN.{length, take, drop}
 use Rattle.attributes.specs.Answers.{part}
@@ -31,7 +31,7 @@ module _ (limit : ℕ) (s : List ℕ) (g : Scanned) (t : Scans s g) where
 
     pub read_keyless : r ≡ NoKey → ReadAs limit s key Spoiled
     unfolding ReadAs KeyAs with_key part
-    read_keyless q = let e : key_of limit (take (end - start) (drop start s)) ≡ none = rw q at a in field_is ∙ rw e
+    read_keyless q = let e : key_of limit (take (end - start) (drop start s)) ≡ None = rw q at a in field_is ∙ rw e
 
     pub read_valid : (n : ℕ) → r ≡ Length n → ReadAs limit s key (Valid from to m n)
     unfolding ReadAs KeyAs WholeWithin with_key part

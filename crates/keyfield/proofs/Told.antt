@@ -7,7 +7,7 @@ use Prim.Native.Nat.{ℕ, ◌≤◌}
 use mathlib.Core.Path.{◌≡◌}
 use mathlib.Core.Bool.{Bool}
 use mathlib.Core.List.{List}
-use mathlib.Core.Option.{none}
+use Rattle.std.specs.Prelude.{None}
 use lib.ListN.{length}
 use Rattle.keyfield.specs.Field.{field_of}
 use Rattle.keyfield.specs.Answers.{ReadAt, ReadAs}
@@ -15,7 +15,7 @@ use Rattle.keyfield.specs.declared.Read.{Read}
 use Rattle.keyfield.specs.declared.Read.TheVariants.{Valid, Spoiled}
 
 module _ (limit : ℕ) (s key : List ℕ) (r : Read) (a : ReadAs limit s key r) where
-  pub told_spoiled : r ≡ Spoiled → field_of limit s ≡ none
+  pub told_spoiled : r ≡ Spoiled → field_of limit s ≡ None
   unfolding ReadAs
   told_spoiled q = rw q at a
 

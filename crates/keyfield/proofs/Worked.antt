@@ -3,7 +3,7 @@ use Prim.Native.Nat.{ℕ}
 use mathlib.Core.Path.{◌≡◌, refl}
 use mathlib.Core.Bool.{Bool, true, false}
 use mathlib.Core.List.{List, [], ◌∷◌}
-use mathlib.Core.Option.{Option, some, none}
+use Rattle.std.specs.Prelude.{Option, Some, None}
 use Rattle.octets.specs.Octets.{ascii, lower, lowered, same_octets, starts_with, blank}
 use Rattle.octets.specs.Options.{only_one, in_front, or_else}
 use Rattle.octets.specs.Finding.{holds}
@@ -37,33 +37,33 @@ Counts f values = counted 2048 values (canonical (ascii "A@B.example")) ≡ f
 
 abbrev pub WhatCounts : Type 0
 WhatCounts =
-    Counts (some foo) (ascii "addr=a@b.example; keydata=Zm9v" ∷ [])
-    × Counts none (ascii "addr=a@b.example; type=1; keydata=Zm9v" ∷ [])
-    × Counts (some foo) (ascii "addr=a@b.example; _type=1; keydata=Zm9v" ∷ [])
-    × Counts none (ascii "addr=a@b.example; keydata=Zm9v;" ∷ [])
-    × Counts none (ascii "addr=a@b.example; keydata=Zm9v" ∷ ascii "addr=a@b.example; keydata=Zm9v" ∷ [])
-    × Counts (some foo) (ascii "addr=c@d; keydata=Zm9v" ∷ ascii "addr=a@b.example; keydata=Zm9v" ∷ ascii "spoiled" ∷ [])
+    Counts (Some foo) (ascii "addr=a@b.example; keydata=Zm9v" ∷ [])
+    × Counts None (ascii "addr=a@b.example; type=1; keydata=Zm9v" ∷ [])
+    × Counts (Some foo) (ascii "addr=a@b.example; _type=1; keydata=Zm9v" ∷ [])
+    × Counts None (ascii "addr=a@b.example; keydata=Zm9v;" ∷ [])
+    × Counts None (ascii "addr=a@b.example; keydata=Zm9v" ∷ ascii "addr=a@b.example; keydata=Zm9v" ∷ [])
+    × Counts (Some foo) (ascii "addr=c@d; keydata=Zm9v" ∷ ascii "addr=a@b.example; keydata=Zm9v" ∷ ascii "spoiled" ∷ [])
 
 -- F9, C14: unused bits have to be zero, and padding has to be there
 abbrev pub KeyData : Type 0
 KeyData =
-    (field_of 2048 (ascii "addr=a@b;keydata=Zg==") ≡ some plain_f)
-    × (field_of 2048 (ascii "addr=a@b;keydata=Zh==") ≡ none)
-    × (field_of 2048 (ascii "addr=a@b;keydata=Zg") ≡ none)
+    (field_of 2048 (ascii "addr=a@b;keydata=Zg==") ≡ Some plain_f)
+    × (field_of 2048 (ascii "addr=a@b;keydata=Zh==") ≡ None)
+    × (field_of 2048 (ascii "addr=a@b;keydata=Zg") ≡ None)
 
 -- F10: a key of as many octets as the limit says is one, and a key of one octet more is none
 abbrev Limits : Type 0
 Limits =
-    (field_of 3 (ascii "addr=a@b.example;keydata=Zm9v") ≡ some foo)
-    × (field_of 2 (ascii "addr=a@b.example;keydata=Zm9v") ≡ none)
+    (field_of 3 (ascii "addr=a@b.example;keydata=Zm9v") ≡ Some foo)
+    × (field_of 2 (ascii "addr=a@b.example;keydata=Zm9v") ≡ None)
 
 -- F2, F5, F7, F9: blanks around names and values and in key data, another value of `prefer-encrypt`, ignored names, an address with `=`
 abbrev GoodOnes : Type 0
 GoodOnes =
-    (field_of 2048 (ascii " addr = A@b\t; prefer-encrypt\t= mutual ;keydata= Z g=\t= ") ≡ some mutual_f)
-    × (field_of 2048 (ascii "addr=a@b; prefer-encrypt=Mutual; keydata=Zg==") ≡ some plain_f)
-    × (field_of 2048 (ascii "_=; _=1; addr=a@b; _x=y=z; _=; keydata=Zg==") ≡ some plain_f)
-    × (field_of 2048 (ascii "addr=a=b@c; keydata=Zg==") ≡ some (record { address = ascii "a=b@c"; is_mutual = false; key = ascii "f" }))
+    (field_of 2048 (ascii " addr = A@b\t; prefer-encrypt\t= mutual ;keydata= Z g=\t= ") ≡ Some mutual_f)
+    × (field_of 2048 (ascii "addr=a@b; prefer-encrypt=Mutual; keydata=Zg==") ≡ Some plain_f)
+    × (field_of 2048 (ascii "_=; _=1; addr=a@b; _x=y=z; _=; keydata=Zg==") ≡ Some plain_f)
+    × (field_of 2048 (ascii "addr=a=b@c; keydata=Zg==") ≡ Some (record { address = ascii "a=b@c"; is_mutual = false; key = ascii "f" }))
 
 -- what spoils a field: F1 to F8, and empty key data (F10)
 spoiled_ones : List (List ℕ)
@@ -89,8 +89,8 @@ spoiled_ones =
     ∷ []
 
 is_spoiled : Option Field → Bool
-is_spoiled none = true
-is_spoiled (some f) = false
+is_spoiled None = true
+is_spoiled (Some f) = false
 
 worked : WhatCounts × KeyData × Limits × GoodOnes × (every (λ s. is_spoiled (field_of 2048 s)) spoiled_ones ≡ true)
 unfolding spoiled_ones is_spoiled counted only_one valid_fields chosen valid_for naming field_of field_by with_key key_of limited said_of said_from if_last said_with step with_address with_preference attribute_of holds attribute name_of trimmed trimmed_back trimmed_front blank every on_first pieces before behind plain local_part atom domain domain_form address_form labels.label_octet labels.label_form labels.fits labels.label labels.labelled belongs free_ends canonical from lowering.lower_text lowering.lower_points lowering.lower_point utf8.points utf8.tails utf8.lead_of utf8.encoded utf8.encoded_one in_front lowered lower same_octets starts_with base64.decode base64.follow base64.before base64.at_end base64.grouped base64.closed base64.sign_of without following joined or_else

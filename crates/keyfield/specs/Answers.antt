@@ -6,7 +6,7 @@
 --     KeyAs                the answer on a key alone
 --     ReadAt, ReadAs       the answer on a field
 use Rattle.std.specs.Prelude.{ℕ, ◌-◌, ◌≤◌, ◌≡◌, Bool, List, length, take, drop}
-use Rattle.std.proofs.Math.Option.{Option, some, none}
+use Rattle.std.specs.Prelude.{Option, Some, None}
 use Rattle.address.specs.Address.{canonical}
 use Rattle.attributes.specs.Answers.{part, Within}
 use Rattle.attributes.specs.Steps.{PlainAt, stated}
@@ -28,8 +28,8 @@ whole_of (At from to) preference start end = Whole from to (mutual_by (stated pr
 
 -- what an answer shows of the value s
 unfoldable pub said_at : List ℕ → Scanned → Option Said
-said_at s (Whole from to m start end) = some (record { address = part s from to; is_mutual = m; text = part s start end })
-said_at s Broken = none
+said_at s (Whole from to m start end) = Some (record { address = part s from to; is_mutual = m; text = part s start end })
+said_at s Broken = None
 
 -- the places of an answer lie in the value, and those of the address are around a plain one
 unfoldable pub WholeWithin : List ℕ → Scanned → Type 0
@@ -49,21 +49,21 @@ pub record Opens (limit : ℕ) (key : List ℕ) (n : ℕ) : Type 0 where
 
 -- Key data stands for the key that opens the lent memory.
 pub record KeyAt (limit : ℕ) (text key : List ℕ) (n : ℕ) : Type 0 where
-  pub is : key_of limit text ≡ some (take n key)
+  pub is : key_of limit text ≡ Some (take n key)
   pub opens : Opens limit key n
 
 -- the answer on key data: a key of so many octets, or that there is none
 unfoldable pub KeyAs : ℕ → List ℕ → List ℕ → Key → Type 0
 KeyAs limit text key (Length n) = KeyAt limit text key n
-KeyAs limit text key NoKey = key_of limit text ≡ none
+KeyAs limit text key NoKey = key_of limit text ≡ None
 
 -- The field is valid in form: its address stands between the places, and its key opens the lent memory.
 pub record ReadAt (limit : ℕ) (s key : List ℕ) (from to : ℕ) (m : Bool) (n : ℕ) : Type 0 where
-  pub is : field_of limit s ≡ some (record { address = canonical (take (to - from) (drop from s)); is_mutual = m; key = take n key })
+  pub is : field_of limit s ≡ Some (record { address = canonical (take (to - from) (drop from s)); is_mutual = m; key = take n key })
   pub stands : PlainAt s from to
   pub opens : Opens limit key n
 
 -- the answer on a field: what it says, or that it is spoiled
 unfoldable pub ReadAs : ℕ → List ℕ → List ℕ → Read → Type 0
 ReadAs limit s key (Valid from to m n) = ReadAt limit s key from to m n
-ReadAs limit s key Spoiled = field_of limit s ≡ none
+ReadAs limit s key Spoiled = field_of limit s ≡ None

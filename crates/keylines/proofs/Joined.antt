@@ -9,7 +9,7 @@ use Prim.Native.Nat.{ℕ, zero, suc}
 use mathlib.Core.Path.{◌≡◌, refl}
 use mathlib.Core.Bool.{Bool, true, false}
 use mathlib.Core.List.{List, [], ◌∷◌}
-use mathlib.Core.Option.{some}
+use Rattle.std.specs.Prelude.{Some}
 use Rattle.octets.specs.Octets.{AllOctets, space, blank, without_blanks}
 use Rattle.octets.specs.Tests.{without}
 use Rattle.octets.proofs.Without.{without_other}
@@ -71,8 +71,8 @@ module _ (s : List ℕ) where
   pub spread_encode : without_blanks (spread (encode s)) ≡ encode s
   spread_encode = without_spread (encode s) (encode_free blank blank_other s)
 
-  pub spread_read_back : AllOctets s → decode (without_blanks (spread (encode s))) ≡ some s
+  pub spread_read_back : AllOctets s → decode (without_blanks (spread (encode s))) ≡ Some s
   spread_read_back h = rw spread_encode (decode_encode s h)
 
-  pub lines_read_back : AllOctets s → decode (without_blanks (joined (lines (encode s)))) ≡ some s
+  pub lines_read_back : AllOctets s → decode (without_blanks (joined (lines (encode s)))) ≡ Some s
   lines_read_back h = rw joined_encode (spread_read_back h)

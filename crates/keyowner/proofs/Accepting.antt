@@ -8,7 +8,7 @@ use Prim.Native.Nat.{ℕ, ◌-◌, ◌≤◌}
 use mathlib.Core.Path.{◌≡◌, refl, sym, ap, ◌∙◌}
 use mathlib.Core.Bool.{Bool, true, false}
 use mathlib.Core.List.{List}
-use mathlib.Core.Option.{Option, some, none}
+use Rattle.std.specs.Prelude.{Option, Some, None}
 use native.Mathlib.Omega.{arith}
 use native.Mathlib.Nat.{sub-zero}
 use borrow.Author.Rules.{rules}
@@ -36,16 +36,16 @@ use Rattle.keyowner.specs.declared.Accepted.{Accepted}
 use Rattle.keyowner.specs.declared.Accepted.TheVariants.{Gossip, NotAccepted}
 
 module _ (recipients : List (List ℕ)) where
-  pub by_none : accepted_by recipients none ≡ none
+  pub by_none : accepted_by recipients None ≡ None
   unfolding accepted_by
   by_none = refl
 
   module _ (f : Field) where
-    pub by_listed : among f.address recipients ≡ true → accepted_by recipients (some f) ≡ some (record { address = f.address; key = f.key })
+    pub by_listed : among f.address recipients ≡ true → accepted_by recipients (Some f) ≡ Some (record { address = f.address; key = f.key })
     unfolding accepted_by
     by_listed e = rw (accepted_by, e)
 
-    pub by_other : among f.address recipients ≡ false → accepted_by recipients (some f) ≡ none
+    pub by_other : among f.address recipients ≡ false → accepted_by recipients (Some f) ≡ None
     unfolding accepted_by
     by_other e = rw (accepted_by, e)
 
@@ -107,7 +107,7 @@ module _ (limit : ℕ) (recipients : List (List ℕ)) (s address key : List ℕ)
     tested : b ≡ among field.address recipients
     tested = e ∙ ap (λ (x : List ℕ). among x recipients) (rw sub-zero o.there)
 
-    by_field : accepted_for limit recipients s ≡ accepted_by recipients (some field)
+    by_field : accepted_for limit recipients s ≡ accepted_by recipients (Some field)
     unfolding accepted_for
     by_field = ap (accepted_by recipients) o.field.is
 
@@ -128,7 +128,7 @@ module _ (limit : ℕ) (recipients : List (List ℕ)) (s address key : List ℕ)
         is =
             by_field from to m l o e
             ∙ by_listed recipients (field from to m l o e) (sym (tested from to m l o e) ∙ t)
-            ∙ ap some (λ i. record { address = sym o.there i; key = take l key });
+            ∙ ap Some (λ i. record { address = sym o.there i; key = take l key });
         canonical = rw o.there (plain_is_canonical (take (to - from) (drop from s)) o.field.stands.plainly);
         address_within = o.within;
         opens = o.field.opens;
@@ -143,6 +143,6 @@ module _ (limit : ℕ) (o : Option Gossiped) (address key : List ℕ) (r : Accep
   unfolding AcceptedAs
   accepted_at n k q = rw q at p
 
-  pub accepted_nothing : r ≡ NotAccepted → o ≡ none
+  pub accepted_nothing : r ≡ NotAccepted → o ≡ None
   unfolding AcceptedAs
   accepted_nothing q = rw q at p

@@ -6,7 +6,7 @@ use Prim.Native.Nat.{ℕ, ◌-◌}
 use mathlib.Core.Path.{◌≡◌, refl, sym, ◌∙◌}
 use mathlib.Core.Bool.{Bool, true, false}
 use mathlib.Core.List.{List}
-use mathlib.Core.Option.{Option, none}
+use Rattle.std.specs.Prelude.{Option, None}
 use borrow.Author.Rules.{rules}
 use lib.ListN.{take, drop}
 use Rattle.octets.specs.Octets.{same_octets}
@@ -59,6 +59,6 @@ module _ (limit : ℕ) (sender : List ℕ) (o : Option Field) (key : List ℕ) (
   unfolding OwnAs
   own_at m n q = rw q at p
 
-  pub own_nothing : r ≡ NoKey → o ≡ none
+  pub own_nothing : r ≡ NoKey → o ≡ None
   unfolding OwnAs
   own_nothing q = rw q at p

@@ -3,7 +3,7 @@
 --     Accepts                     a gossip field that may be accepted: what the roll of the recipients and lent memory have to be
 --     AcceptedAt, AcceptedAs      one that is accepted, its address and its key in lent memory
 use Rattle.std.specs.Prelude.{ℕ, ◌≤◌, ◌≡◌, Bool, true, List, length, take}
-use Rattle.std.proofs.Math.Option.{Option, some, none}
+use Rattle.std.specs.Prelude.{Option, Some, None}
 use Rattle.address.specs.Address.{is_canonical}
 use Rattle.slots.specs.Slot.{address_room}
 use Rattle.keyfield.specs.Field.{Field}
@@ -17,13 +17,13 @@ use Rattle.keyowner.specs.declared.Accepted.TheVariants.{Gossip, NotAccepted}
 
 -- The field has this preference, and its key opens the lent memory.
 pub record OwnAt (limit : ℕ) (sender : List ℕ) (field : Option Field) (key : List ℕ) (m : Bool) (n : ℕ) : Type 0 where
-  pub is : field ≡ some (record { address = sender; is_mutual = m; key = take n key })
+  pub is : field ≡ Some (record { address = sender; is_mutual = m; key = take n key })
   pub opens : Opens limit key n
 
 -- the answer on a field of the sender: its preference and its key, or that it is none
 unfoldable pub OwnAs : ℕ → List ℕ → Option Field → List ℕ → Own → Type 0
 OwnAs limit sender field key (Key m n) = OwnAt limit sender field key m n
-OwnAs limit sender field key NoKey = field ≡ none
+OwnAs limit sender field key NoKey = field ≡ None
 
 -- The roll of the recipients has its index, and the two lent memories have room.
 pub record Accepts (limit : ℕ) (recipients tags places address key : List ℕ) : Type 0 where
@@ -33,7 +33,7 @@ pub record Accepts (limit : ℕ) (recipients tags places address key : List ℕ)
 
 -- The gossip has this address, in canonical form, and this key, which open the two lent memories.
 pub record AcceptedAt (limit : ℕ) (gossip : Option Gossiped) (address key : List ℕ) (n k : ℕ) : Type 0 where
-  pub is : gossip ≡ some (record { address = take n address; key = take k key })
+  pub is : gossip ≡ Some (record { address = take n address; key = take k key })
   pub canonical : is_canonical (take n address) ≡ true
   pub address_within : n ≤ length address
   pub opens : Opens limit key k
@@ -41,4 +41,4 @@ pub record AcceptedAt (limit : ℕ) (gossip : Option Gossiped) (address key : Li
 -- the answer on a gossip field: its address and its key, or that it is not accepted
 unfoldable pub AcceptedAs : ℕ → Option Gossiped → List ℕ → List ℕ → Accepted → Type 0
 AcceptedAs limit gossip address key (Gossip n k) = AcceptedAt limit gossip address key n k
-AcceptedAs limit gossip address key NotAccepted = gossip ≡ none
+AcceptedAs limit gossip address key NotAccepted = gossip ≡ None

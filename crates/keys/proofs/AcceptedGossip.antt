@@ -6,7 +6,7 @@ use Prim.Native.Nat.{ℕ}
 use mathlib.Core.Path.{◌≡◌, ap, ◌∙◌}
 use mathlib.Core.Bool.{true}
 use mathlib.Core.List.{List, ◌∷◌, ◌++◌}
-use mathlib.Core.Option.{some}
+use Rattle.std.specs.Prelude.{Some}
 use Rattle.header.specs.Header.{FieldText}
 use Rattle.addresslist.specs.List.{among}
 use Rattle.keyfield.specs.Field.{Field, field_of}
@@ -25,7 +25,7 @@ module _ (limit : ℕ) (recipients : List (List ℕ)) where
       ap (accepted limit recipients) (values_append AutocryptGossip fs gs)
       ∙ chosen_append (accepted_for limit recipients) (values_of AutocryptGossip fs) (values_of AutocryptGossip gs)
 
-  pub accepted_listed : (v : List ℕ) (f : Field) (rest : List (List ℕ)) → field_of limit v ≡ some f → among f.address recipients ≡ true
+  pub accepted_listed : (v : List ℕ) (f : Field) (rest : List (List ℕ)) → field_of limit v ≡ Some f → among f.address recipients ≡ true
       → accepted limit recipients (v ∷ rest) ≡ record { address = f.address; key = f.key } ∷ accepted limit recipients rest
   unfolding accepted accepted_for
   accepted_listed v f rest e l =

@@ -5,7 +5,7 @@
 use Prim.Native.Nat.{ℕ, ◌≤◌}
 use mathlib.Core.Path.{◌≡◌, refl}
 use mathlib.Core.List.{List, [], ◌∷◌}
-use mathlib.Core.Option.{Option, some, none}
+use Rattle.std.specs.Prelude.{Option, Some, None}
 use native.Mathlib.Omega.{arith}
 use Rattle.octets.specs.Octets.{AllOctets}
 use Rattle.octets.specs.Options.{Each}
@@ -27,7 +27,7 @@ use Rattle.keyowner.specs.Owners.{accepted_by, accepted_for}
 use Rattle.keys.specs.Keys.{counted_in, accepted, gossip_in}
 
 module _ (limit : ℕ) (small : limit ≤ key_limit) where
-  field_key : (v : List ℕ) (f : Field) → field_of limit v ≡ some f → GoodKey f.key
+  field_key : (v : List ℕ) (f : Field) → field_of limit v ≡ Some f → GoodKey f.key
   field_key v f e =
       record {
         some_octet = field_least limit v f e;
@@ -35,30 +35,30 @@ module _ (limit : ℕ) (small : limit ≤ key_limit) where
         octets = field_key_octets limit v f e;
       }
 
-  pub counted_key : (fs : List FieldText) (sender : List ℕ) (f : Field) → counted_in limit fs sender ≡ some f → GoodKey f.key
+  pub counted_key : (fs : List FieldText) (sender : List ℕ) (f : Field) → counted_in limit fs sender ≡ Some f → GoodKey f.key
   unfolding counted_in
   counted_key fs sender f e = let v = counted_value limit sender (values_of Autocrypt fs) f e in field_key v.0 f v.1
 
   module _ (recipients : List (List ℕ)) where
     -- one gossip field that is accepted, and all of them
-    by_good : (v : List ℕ) (o : Option Field) (g : Gossiped) → AllOctets v → field_of limit v ≡ o → accepted_by recipients o ≡ some g → GoodGossiped g
+    by_good : (v : List ℕ) (o : Option Field) (g : Gossiped) → AllOctets v → field_of limit v ≡ o → accepted_by recipients o ≡ Some g → GoodGossiped g
     unfolding accepted_by
-    by_good v none g o q e = let z : ◌≡◌ {A = ℕ} 0 1 = cc in absurd (omega arith)
-    by_good v (some f) g o q e =
+    by_good v None g o q e = let z : ◌≡◌ {A = ℕ} 0 1 = cc in absurd (omega arith)
+    by_good v (Some f) g o q e =
         by_test (among f.address recipients)
         (λ t.
-        let k : some (record { address = f.address; key = f.key }) ≡ some g = rw (accepted_by, t) at e in
+        let k : Some (record { address = f.address; key = f.key }) ≡ Some g = rw (accepted_by, t) at e in
         let h : record { address = f.address; key = f.key } ≡ g = cc in
         rw (← h) (record { canonical = field_canonical limit v f q; octets = field_octets limit v f q o; key = field_key v f q }))
-        (λ t. let k : none ≡ some g = rw (accepted_by, t) at e in let z : ◌≡◌ {A = ℕ} 0 1 = cc in absurd (omega arith))
+        (λ t. let k : None ≡ Some g = rw (accepted_by, t) at e in let z : ◌≡◌ {A = ℕ} 0 1 = cc in absurd (omega arith))
 
     front_good : (v : List ℕ) (rest : List (List ℕ)) → AllOctets v → GoodGossipeds (accepted limit recipients rest) → GoodGossipeds (accepted limit recipients (v ∷ rest))
     unfolding GoodGossipeds accepted accepted_for
     front_good v rest h more = go (accepted_for limit recipients v) refl
       where
         go : (o : Option Gossiped) → accepted_for limit recipients v ≡ o → GoodGossipeds (accepted limit recipients (v ∷ rest))
-        go none e = rw (chosen_skip (accepted_for limit recipients) v rest e) more
-        go (some g) e = rw (chosen_next (accepted_for limit recipients) v rest g e) (by_good v (field_of limit v) g h refl e, more)
+        go None e = rw (chosen_skip (accepted_for limit recipients) v rest e) more
+        go (Some g) e = rw (chosen_next (accepted_for limit recipients) v rest g e) (by_good v (field_of limit v) g h refl e, more)
 
     pub gossip_good : (fs : List FieldText) → ValuesOctets fs → GoodGossipeds (gossip_in limit recipients fs)
     unfolding gossip_in values_of accepted chosen Each GoodGossipeds

@@ -9,7 +9,7 @@ use Prim.Native.Nat.{ℕ, ◌-◌, ◌<◌, ◌≤◌}
 use mathlib.Core.Path.{◌≡◌, refl, sym, ap, ◌∙◌}
 use mathlib.Core.Bool.{true}
 use mathlib.Core.List.{List, [], ◌∷◌}
-use mathlib.Core.Option.{Option, some, none}
+use Rattle.std.specs.Prelude.{Option, Some, None}
 use native.Mathlib.Omega.{arith}
 use borrow.Author.Rules.{rules}
 use lib.ListN.{length, take}
@@ -75,7 +75,7 @@ module _ {A : Type 0} (f : List ℕ → Option A) (kind : Kind) (s : List ℕ) (
         front : chosen f (values_from kind s at) ≡ chosen f (take n text ∷ values_from kind s e)
         front = h.same ∙ ap (chosen f) taken.first
 
-        pub past_next : f (take n text) ≡ none → Past f kind s at e
+        pub past_next : f (take n text) ≡ None → Past f kind s at e
         past_next y =
             record {
               same = front ∙ chosen_skip f (take n text) (values_from kind s e) y;
@@ -83,7 +83,7 @@ module _ {A : Type 0} (f : List ℕ → Option A) (kind : Kind) (s : List ℕ) (
               behind = omega (arith, h.behind, taken.later);
             }
 
-        pub past_found : (x : A) → f (take n text) ≡ some x → chosen f (values_from kind s at) ≡ x ∷ chosen f (values_from kind s e)
+        pub past_found : (x : A) → f (take n text) ≡ Some x → chosen f (values_from kind s at) ≡ x ∷ chosen f (values_from kind s e)
         past_found x y = front ∙ chosen_next f (take n text) (values_from kind s e) x y
 
         pub past_later : at < e

@@ -4,7 +4,7 @@ use Prim.Native.String.{String}
 use mathlib.Core.Path.{◌≡◌, refl}
 use mathlib.Core.Bool.{false}
 use mathlib.Core.List.{[], ◌∷◌, map}
-use mathlib.Core.Option.{Option, some, none}
+use Rattle.std.specs.Prelude.{Option, Some, None}
 use Rattle.octets.specs.Octets.{ascii, lower, lowered, same_name, same_octets, starts_with, blank}
 use Rattle.octets.specs.Options.{only_one, or_else, in_front}
 use Rattle.octets.specs.Finding.{holds}
@@ -31,7 +31,7 @@ abbrev counted_of : String → Option Field
 counted_of s = counted_in 2048 (fields_in (ascii s)) (ascii "a@b")
 
 abbrev key : String → Option Field
-key k = some (record { address = ascii "a@b"; is_mutual = false; key = ascii k })
+key k = Some (record { address = ascii "a@b"; is_mutual = false; key = ascii k })
 
 -- F13: from a@b one valid field counts, folded and from a field name in any case, also beside one of another address, a spoiled one and gossip. Of
 -- two none counts, even if they are equal.
@@ -43,7 +43,7 @@ counts :
     ∷ "Autocrypt: addr=a@b; keydata=Zg==\nAutocrypt: addr=a@b; keydata=Zg=="
     ∷ "Autocrypt: addr=c@d; keydata=Zg=="
     ∷ [])
-    ≡ key "f" ∷ key "f" ∷ none ∷ none ∷ none ∷ []
+    ≡ key "f" ∷ key "f" ∷ None ∷ None ∷ None ∷ []
 unfolding header.fields_of header.fields header.fields_within in_front header.unfolded header.over header.of_ending header.opens_field run header.raw_length belongs header.closes same_name same_octets starts_with lowered lower trimmed_front trimmed_back trimmed name_of attribute holds attribute_of with_address with_preference step said_with if_last said_from said_of limited key_of with_key field_by field_of naming valid_for chosen valid_fields only_one counted base64.decode base64.follow base64.before base64.at_end base64.grouped base64.closed base64.sign_of without blank every on_first pieces before behind atom local_part free_ends labels.label_octet labels.label_form labels.fits labels.label labels.labelled domain domain_form address_form plain canonical from lowering.lower_text lowering.lower_points lowering.lower_point utf8.points utf8.tails utf8.lead_of utf8.encoded utf8.encoded_one or_else fields_in is_kind values_of counted_in following joined
 counts = refl
 

@@ -2,7 +2,7 @@
 --     counted_in               the Autocrypt field that counts
 --     accepted, gossip_in      the accepted gossip fields
 use Rattle.std.specs.Prelude.{ℕ, List}
-use Rattle.std.proofs.Math.Option.{Option}
+use Rattle.std.specs.Prelude.{Option}
 use Rattle.header.specs.Header.{FieldText}
 use Rattle.keyfield.specs.Field.{Field, chosen, counted}
 use Rattle.update.specs.Message.{Gossiped}

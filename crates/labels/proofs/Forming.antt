@@ -13,7 +13,7 @@ use Prim.Native.Nat.{ℕ, ◌+◌, ◌-◌, ◌<◌, ◌≤◌}
 use mathlib.Core.Path.{◌≡◌, refl, sym, ap, ◌∙◌}
 use mathlib.Core.Bool.{Bool, true, false, not, ◌&&◌, ◌||◌, false≢true}
 use mathlib.Core.List.{List, [], ◌∷◌, ◌++◌}
-use mathlib.Core.Option.{some, none}
+use Rattle.std.specs.Prelude.{Some, None}
 use mathlib.Core.Logic.{⊎_elim}
 use native.Mathlib.Omega.{arith}
 use borrow.Author.Tests.{leb-true, eqb-true, ltb-true, le-leb, lt-leb, lt-ltb, ne_eqb}
@@ -118,7 +118,7 @@ pub record Own (w : List ℕ) : Type 0 where
   pub short : length w ≤ 63
 
 module _ (w : List ℕ) (o : Own w) where
-  pub own_form : label_form w ≡ some w
+  pub own_form : label_form w ≡ Some w
   unfolding label_form
   own_form = rw (forms_ascii w o.octets, forms_lowered w o.octets)
 
@@ -198,7 +198,7 @@ module _ (ps : List ℕ) (e : every label_octet (encoded ps) ≡ true) (a : all_
       }
 
 module _ (s : List ℕ) where
-  pub form_ascii : all_ascii s ≡ true → label_form s ≡ some (lowered s)
+  pub form_ascii : all_ascii s ≡ true → label_form s ≡ Some (lowered s)
   unfolding label_form
   form_ascii a = rw a
 
@@ -207,11 +207,11 @@ module _ (s : List ℕ) where
     unfolding label_form
     form_coded = rw a
 
-    pub coded_as : (ps : List ℕ) → points s ≡ some ps → label_form s ≡ some (opening ++ encode (lower_points ps))
+    pub coded_as : (ps : List ℕ) → points s ≡ Some ps → label_form s ≡ Some (opening ++ encode (lower_points ps))
     unfolding coded
     coded_as ps e = form_coded ∙ ap coded e
 
-    coded_none : points s ≡ none → label_form s ≡ none
+    coded_none : points s ≡ None → label_form s ≡ None
     unfolding coded
     coded_none e = form_coded ∙ ap coded e
 
@@ -236,17 +236,17 @@ module _ (s : List ℕ) where
     unfolding label
     is_fit = and_right (leb 1 (length s) && every label_octet s && free_ends s) (fits (label_form s)) h
 
-    pub fit_most : (w : List ℕ) → label_form s ≡ some w → length w ≤ 63
+    pub fit_most : (w : List ℕ) → label_form s ≡ Some w → length w ≤ 63
     unfolding fits
     fit_most w e = leb-true (length w) 63 (rw e at is_fit)
 
     -- a label that is not ASCII has code points
-    pub label_points : {P : Type 0} → all_ascii s ≡ false → ((ps : List ℕ) → points s ≡ some ps → P) → P
+    pub label_points : {P : Type 0} → all_ascii s ≡ false → ((ps : List ℕ) → points s ≡ Some ps → P) → P
     unfolding fits
     label_points a go =
         by_option (points s) (λ e. absurd (false≢true (rw (coded_none a e) at is_fit))) (λ ps e. go ps e)
 
-    labelled_own : (w : List ℕ) → label_form s ≡ some w → Own w → Own (labelled s)
+    labelled_own : (w : List ℕ) → label_form s ≡ Some w → Own w → Own (labelled s)
     unfolding labelled or_else
     labelled_own w e o = rw e o
 
@@ -266,17 +266,17 @@ module _ (s : List ℕ) where
         label_points a
         (λ ps e.
         let q : encoded ps ≡ s = encoded_points s ps e in
-        let f : label_form s ≡ some (opening ++ encode (lower_points ps)) = coded_as a ps e in
+        let f : label_form s ≡ Some (opening ++ encode (lower_points ps)) = coded_as a ps e in
         labelled_own _ f (coded_own ps (rw q all_label) (rw q a) (fit_most _ f))))
 
-    pub label_of_lem : label_of s ≡ some (labelled s)
+    pub label_of_lem : label_of s ≡ Some (labelled s)
     unfolding label_of labelled or_else fits
     label_of_lem =
         by_option (label_form s) (λ e. absurd (false≢true (rw e at is_fit))) (λ w e. rw (h, e))
 
-  pub of_label : (w : List ℕ) → label_of s ≡ some w → (label s ≡ true) × (w ≡ labelled s)
+  pub of_label : (w : List ℕ) → label_of s ≡ Some w → (label s ≡ true) × (w ≡ labelled s)
   unfolding label_of
   of_label w e =
       by_test (label s)
-      (λ h. (h, let p : some w ≡ some (labelled s) = sym e ∙ label_of_lem h in cc))
-      (λ h. absurd (let p : none ≡ some w = rw h at e in let z : ◌≡◌ {A = ℕ} 0 1 = cc in omega arith))
+      (λ h. (h, let p : Some w ≡ Some (labelled s) = sym e ∙ label_of_lem h in cc))
+      (λ h. absurd (let p : None ≡ Some w = rw h at e in let z : ◌≡◌ {A = ℕ} 0 1 = cc in omega arith))

@@ -5,7 +5,7 @@ use Prim.Native.Nat.{ℕ, ◌*◌, ◌≤◌}
 use mathlib.Core.Path.{◌≡◌}
 use mathlib.Core.Bool.{true}
 use mathlib.Core.List.{List, ◌++◌}
-use mathlib.Core.Option.{some}
+use Rattle.std.specs.Prelude.{Some}
 use native.Mathlib.Omega.{arith}
 use lib.ListN.{length}
 use Rattle.octets.specs.Octets.{lowered}
@@ -22,7 +22,7 @@ use Rattle.labels.specs.Labels.{opening, label_form, label, labelled}
 use Rattle.labels.proofs.Forming.{form_ascii, coded_as, label_points}
 
 module _ (s : List ℕ) (h : label s ≡ true) where
-  labelled_as : (w : List ℕ) → label_form s ≡ some w → length s ≤ 4 * length w → length s ≤ 4 * length (labelled s)
+  labelled_as : (w : List ℕ) → label_form s ≡ Some w → length s ≤ 4 * length w → length s ≤ 4 * length (labelled s)
   unfolding labelled or_else
   labelled_as w e l = rw e l
 

@@ -11,7 +11,7 @@ use Prim.Native.Nat.{ℕ, ◌+◌, ◌-◌, ◌<◌, ◌≤◌}
 use mathlib.Core.Path.{◌≡◌, refl, sym, ap, ◌∙◌}
 use mathlib.Core.Bool.{Bool, true, false, not, ◌&&◌, ◌||◌}
 use mathlib.Core.List.{List, [], ◌++◌, append-nil}
-use mathlib.Core.Option.{some, none}
+use Rattle.std.specs.Prelude.{Some, None}
 use native.Mathlib.Nat.{sub-zero}
 use native.Mathlib.Omega.{arith}
 use borrow.Author.Rules.{rules}
@@ -65,30 +65,30 @@ module _ (s : List ℕ) where
 pub ruleset judging = (octet_is, judged_empty, judged_whole, rules)
 
 -- a form that is too long is none
-fits_some : (w : List ℕ) → length w ≤ 63 → fitting (some w) ≡ some w
+fits_some : (w : List ℕ) → length w ≤ 63 → fitting (Some w) ≡ Some w
 unfolding fitting fits
 fits_some w l = rw (le-leb (length w) 63 l)
 
-fits_none : (w : List ℕ) → 63 < length w → fitting (some w) ≡ none
+fits_none : (w : List ℕ) → 63 < length w → fitting (Some w) ≡ None
 unfolding fitting fits
 fits_none w l = rw (lt-leb (length w) 63 l)
 
-fitting_none : fitting none ≡ none
+fitting_none : fitting None ≡ None
 unfolding fitting fits
 fitting_none = refl
 
-never : {P : Type 0} {w : List ℕ} → none ≡ some w → P
+never : {P : Type 0} {w : List ℕ} → None ≡ Some w → P
 never p = absurd (let z : ◌≡◌ {A = ℕ} 0 1 = cc in omega arith)
 
-equal : {u w : List ℕ} → some u ≡ some w → u ≡ w
+equal : {u w : List ℕ} → Some u ≡ Some w → u ≡ w
 equal p = cc
 
 module _ (s d : List ℕ) (at : ℕ) where
-  pub small_long : 63 < length s → Untold d at d (fitting (some (lowered s)))
+  pub small_long : 63 < length s → Untold d at d (fitting (Some (lowered s)))
   small_long l = untold_none d at d _ (fits_none (lowered s) (rw length_lowered l)) refl
 
   module _ (i : at ≤ length d) (m : length s ≤ 63) where
-    pub small_full : length d - at < length s → Untold d at d (fitting (some (lowered s)))
+    pub small_full : length d - at < length s → Untold d at d (fitting (Some (lowered s)))
     small_full l =
         untold_long d at d _ (lowered s) (fits_some (lowered s) (rw length_lowered m)) (rw length_lowered (omega arith)) refl
 
@@ -96,7 +96,7 @@ module _ (s d : List ℕ) (at : ℕ) where
       pub small_room : at + length s ≤ length d
       small_room = omega arith
 
-      pub small_put : (e : List ℕ) → e ≡ put_at d at (lowered s) → Told d at e (at + length s) (fitting (some (lowered s)))
+      pub small_put : (e : List ℕ) → e ≡ put_at d at (lowered s) → Told d at e (at + length s) (fitting (Some (lowered s)))
       small_put e q =
           record {
             text = lowered s;
@@ -131,7 +131,7 @@ module _ (d s p₀ p : List ℕ) (l : length p₀ ≡ 59) (o : Read) where
     pub code_prefix : n ≤ length p
     code_prefix = shown.upto
 
-    is_code : code_of (small_of (points s)) ≡ some (encode (take n p))
+    is_code : code_of (small_of (points s)) ≡ Some (encode (take n p))
     unfolding code_of
     is_code = ap code_of shown.text
 
@@ -185,15 +185,15 @@ module _ (s : List ℕ) (a : all_ascii s ≡ false) where
   coded_of = form_coded s a
 
   -- by its code
-  form_of_lem : (w : List ℕ) → code_of (small_of (points s)) ≡ some w → label_form s ≡ some (opening ++ w)
+  form_of_lem : (w : List ℕ) → code_of (small_of (points s)) ≡ Some w → label_form s ≡ Some (opening ++ w)
   unfolding code_of small_of coded
   form_of_lem w e =
       by_option (points s)
       (λ t. never (sym (ap (λ o. code_of (small_of o)) t) ∙ e))
-      (λ ps t. coded_of ∙ ap coded t ∙ ap (λ v. some (opening ++ v)) (equal (sym (ap (λ o. code_of (small_of o)) t) ∙ e)))
+      (λ ps t. coded_of ∙ ap coded t ∙ ap (λ v. Some (opening ++ v)) (equal (sym (ap (λ o. code_of (small_of o)) t) ∙ e)))
 
   -- and the other way round
-  code_of_lem : (w : List ℕ) → label_form s ≡ some w → (v : List ℕ) × ((code_of (small_of (points s)) ≡ some v) × (w ≡ opening ++ v))
+  code_of_lem : (w : List ℕ) → label_form s ≡ Some w → (v : List ℕ) × ((code_of (small_of (points s)) ≡ Some v) × (w ≡ opening ++ v))
   unfolding code_of small_of coded
   code_of_lem w e =
       by_option (points s)
@@ -217,10 +217,10 @@ module _ (s : List ℕ) (a : all_ascii s ≡ false) where
       told : Told c₀ 0 c n (code_of (small_of (points s)))
       told = rw q at h
 
-      is_form : label_form s ≡ some (opening ++ told.text)
+      is_form : label_form s ≡ Some (opening ++ told.text)
       is_form = form_of_lem told.text told.is
 
-      fit_form : fitting (label_form s) ≡ some (opening ++ told.text)
+      fit_form : fitting (label_form s) ≡ Some (opening ++ told.text)
       fit_form = ap fitting is_form ∙ fits_some (opening ++ told.text) (omega (arith, told.counts, told.room))
 
       pub coded_end : n ≤ length c
@@ -253,7 +253,7 @@ module _ (s : List ℕ) where
     label_none n = untold_none d at d _ (rw (label_is, ← j, not-true b n)) refl
 
     module _ (n : not b ≡ false) (e : List ℕ) (r : Laid) where
-      pub label_small : all_ascii s ≡ true → PutsText d e at (fitting (some (lowered s))) r → PutsText d e at (label_of s) r
+      pub label_small : all_ascii s ≡ true → PutsText d e at (fitting (Some (lowered s))) r → PutsText d e at (label_of s) r
       label_small a h = rw (of_judged (sym j ∙ not-false b n), form_ascii s a) h
 
       pub label_other : PutsText d e at (fitting (label_form s)) r → PutsText d e at (label_of s) r

@@ -4,7 +4,7 @@
 --     fitting            a form that is not too long
 --     label_of           the form of a label; what is no label has none
 use Rattle.std.specs.Prelude.{ℕ, Bool, cond, ◌&&◌, List, leb, length}
-use Rattle.std.proofs.Math.Option.{Option, some, none}
+use Rattle.std.specs.Prelude.{Option, Some, None}
 use Rattle.octets.specs.Tests.{every}
 use Rattle.punycode.specs.Punycode.{encode}
 use Rattle.asciiaddress.specs.Ascii.{free_ends}
@@ -16,13 +16,13 @@ judged s = leb 1 (length s) && every label_octet s && free_ends s
 
 -- L22: what stands behind the opening
 unfoldable pub code_of : Option (List ℕ) → Option (List ℕ)
-code_of none = none
-code_of (some ps) = some (encode ps)
+code_of None = None
+code_of (Some ps) = Some (encode ps)
 
 -- L7: a form of more than 63 octets is none
 unfoldable pub fitting : Option (List ℕ) → Option (List ℕ)
-fitting o = cond (fits o) o none
+fitting o = cond (fits o) o None
 
 -- L7, L22: what is no label has no form
 unfoldable pub label_of : List ℕ → Option (List ℕ)
-label_of s = cond (label s) (label_form s) none
+label_of s = cond (label s) (label_form s) None

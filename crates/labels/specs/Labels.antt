@@ -5,7 +5,7 @@
 --     fits, label         what a label is
 --     labelled            the form, or the text where there is none
 use Rattle.std.specs.Prelude.{ℕ, Bool, false, cond, ◌&&◌, ◌||◌, List, ◌++◌, leb, length}
-use Rattle.std.proofs.Math.Option.{Option, some, none}
+use Rattle.std.specs.Prelude.{Option, Some, None}
 use Rattle.octets.specs.Octets.{ascii, lowered}
 use Rattle.octets.specs.Options.{or_else}
 use Rattle.octets.specs.Tests.{every}
@@ -27,17 +27,17 @@ opening = ascii "xn--"
 
 -- L22: the Punycode of code points that are put into lower case (L21), behind the opening; an ill-formed label has none
 unfoldable pub coded : Option (List ℕ) → Option (List ℕ)
-coded none = none
-coded (some ps) = some (opening ++ encode (lower_points ps))
+coded None = None
+coded (Some ps) = Some (opening ++ encode (lower_points ps))
 
 -- L22: in ASCII the lower case is the form, whatever the label opens with
 unfoldable pub label_form : List ℕ → Option (List ℕ)
-label_form s = cond (all_ascii s) (some (lowered s)) (coded (points s))
+label_form s = cond (all_ascii s) (Some (lowered s)) (coded (points s))
 
 -- L7: the form ends at 63 octets
 unfoldable pub fits : Option (List ℕ) → Bool
-fits none = false
-fits (some w) = leb (length w) longest_label
+fits None = false
+fits (Some w) = leb (length w) longest_label
 
 -- L7: octets and ends are judged as they stand, and only the form is measured
 unfoldable pub label : List ℕ → Bool

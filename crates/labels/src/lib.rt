@@ -3,7 +3,7 @@
 #![tactic(auto)]
 
 ghost use Rattle.std.specs.Prelude.{◌≤◌, ◌≡◌, false, ◌++◌, length};
-ghost use Rattle.std.proofs.Math.Option.{some};
+ghost use Rattle.std.specs.Prelude.{Some};
 ghost use Rattle.octets.specs.Octets.{lowered};
 ghost use Rattle.octets.specs.Puts.{Puts, PutsText};
 ghost use Rattle.octets.specs.Tests.{every};
@@ -62,7 +62,7 @@ fn judged(s: &[u8]) -> bool
 // Writes the form of a label in ASCII.
 fn put_small(s: &[u8], out: &mut [u8], at: usize) -> Laid
     requires { at ≤ length out.old }
-    ensures { PutsText out.old out.new at (fitting (some (lowered s.now))) result }
+    ensures { PutsText out.old out.new at (fitting (Some (lowered s.now))) result }
 {
     if LONGEST_LABEL < s.len() {
         return Laid::NoRoom;

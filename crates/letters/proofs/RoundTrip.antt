@@ -4,7 +4,7 @@
 use Prim.Native.Nat.{ℕ, suc, ◌+◌, ◌*◌, ◌/◌, ◌%◌, ◌<◌}
 use mathlib.Core.Path.{◌≡◌, refl}
 use mathlib.Core.List.{List, [], ◌∷◌}
-use mathlib.Core.Option.{some}
+use Rattle.std.specs.Prelude.{Some}
 use native.Mathlib.Omega.{arith}
 use Rattle.octets.specs.Octets.{AllOctets}
 use Rattle.letters.specs.Base64.{letter, sign_of, closed, grouped, group_of, before, at_end, follow, decode, encode}
@@ -38,7 +38,7 @@ group_one a h =
     let z : a % 4 * 16 % 16 ≡ 0 = omega arith in
     rw (sign_of_letter (a / 4) (omega arith), sign_of_letter (a % 4 * 16) (omega arith)) (rw (x, z))
 
-pub decode_encode : (s : List ℕ) → AllOctets s → decode (encode s) ≡ some s
+pub decode_encode : (s : List ℕ) → AllOctets s → decode (encode s) ≡ Some s
 unfolding decode encode follow before at_end
 decode_encode [] h = refl
 decode_encode (a ∷ []) h = rw (group_one a (h 0))

@@ -6,7 +6,7 @@
 use Prim.Native.Nat.{ℕ, ◌%◌, ◌<◌}
 use mathlib.Core.Path.{◌≡◌, refl}
 use mathlib.Core.List.{List, [], ◌∷◌, ◌++◌}
-use mathlib.Core.Option.{Option, some, none}
+use Rattle.std.specs.Prelude.{Option, Some, None}
 use native.Mathlib.Omega.{arith}
 use lib.Dec.{eqb}
 use Rattle.octets.specs.Octets.{AllOctets}
@@ -20,10 +20,10 @@ use Rattle.letters.specs.declared.Group.{Group}
 use Rattle.letters.specs.declared.Group.TheVariants.{Three, Two, One, Broken}
 
 -- what a text stands for, where it goes on with three octets
-pub behind_three : (w v : List ℕ) (o : Option (List ℕ)) → before w o ≡ some v → (o ≡ some (octets_in o)) × (v ≡ w ++ octets_in o)
+pub behind_three : (w v : List ℕ) (o : Option (List ℕ)) → before w o ≡ Some v → (o ≡ Some (octets_in o)) × (v ≡ w ++ octets_in o)
 unfolding before octets_in
-behind_three w v none e = let z : ◌≡◌ {A = ℕ} 0 1 = cc in absurd (omega arith)
-behind_three w v (some u) e = (refl, cc)
+behind_three w v None e = let z : ◌≡◌ {A = ℕ} 0 1 = cc in absurd (omega arith)
+behind_three w v (Some u) e = (refl, cc)
 
 -- a text and the octets that it stands for, group by group
 pub data Stands : List ℕ → List ℕ → Type 0 where
@@ -33,8 +33,8 @@ pub data Stands : List ℕ → List ℕ → Type 0 where
   one : {a b c d x : ℕ} → group_of a b c d ≡ One x → Stands (a ∷ b ∷ c ∷ d ∷ []) (x ∷ [])
 
 module _ (a b c d : ℕ) (w : List ℕ) where
-  stands_by : (g : Group) → group_of a b c d ≡ g → (t : List ℕ) → ((v : List ℕ) → decode t ≡ some v → Stands t v)
-      → follow g t (decode t) ≡ some w → Stands (a ∷ b ∷ c ∷ d ∷ t) w
+  stands_by : (g : Group) → group_of a b c d ≡ g → (t : List ℕ) → ((v : List ℕ) → decode t ≡ Some v → Stands t v)
+      → follow g t (decode t) ≡ Some w → Stands (a ∷ b ∷ c ∷ d ∷ t) w
   unfolding follow at_end
   stands_by (Three x y z) q t ih e =
       let r = behind_three (x ∷ y ∷ z ∷ []) w (decode t) e in
@@ -45,7 +45,7 @@ module _ (a b c d : ℕ) (w : List ℕ) where
   stands_by (One x) q (k ∷ t) ih e = let z : ◌≡◌ {A = ℕ} 0 1 = cc in absurd (omega arith)
   stands_by Broken q t ih e = let z : ◌≡◌ {A = ℕ} 0 1 = cc in absurd (omega arith)
 
-pub stands : (t w : List ℕ) → decode t ≡ some w → Stands t w
+pub stands : (t w : List ℕ) → decode t ≡ Some w → Stands t w
 unfolding decode
 stands [] w e = let r : w ≡ [] = cc in rw r nothing
 stands (a ∷ []) w e = let z : ◌≡◌ {A = ℕ} 0 1 = cc in absurd (omega arith)
@@ -103,5 +103,5 @@ all_octets (two {a} {b} {c} {d} {x} {y} q) =
     let o = rw q at (group_octets a b c d) in more_octets x (y ∷ []) o.0 (more_octets y [] o.1 octets_none)
 all_octets (one {a} {b} {c} {d} {x} q) = more_octets x [] (rw q at (group_octets a b c d)) octets_none
 
-pub decode_octets : (t w : List ℕ) → decode t ≡ some w → AllOctets w
+pub decode_octets : (t w : List ℕ) → decode t ≡ Some w → AllOctets w
 decode_octets t w e = all_octets (stands t w e)

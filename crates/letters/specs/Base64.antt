@@ -6,7 +6,7 @@
 --     octets_in        the octets, where there are some
 --     encode           the padded text of octets
 use Rattle.std.specs.Prelude.{ℕ, ◌+◌, ◌-◌, ◌*◌, ◌/◌, ◌%◌, Bool, cond, ◌&&◌, List, [], ◌∷◌, ◌++◌, leb, ltb, eqb}
-use Rattle.std.proofs.Math.Option.{Option, some, none}
+use Rattle.std.specs.Prelude.{Option, Some, None}
 use Rattle.octets.specs.Octets.{octet}
 use Rattle.letters.specs.declared.Sign.{Sign}
 use Rattle.letters.specs.declared.Sign.TheVariants.{Value, Pad, Other}
@@ -66,32 +66,32 @@ group_of a b c d = grouped (sign_of a) (sign_of b) (sign_of c) (sign_of d)
 
 -- w in front of what the rest of the text gives
 unfoldable pub before : List ℕ → Option (List ℕ) → Option (List ℕ)
-before w none = none
-before w (some v) = some (w ++ v)
+before w None = None
+before w (Some v) = Some (w ++ v)
 
 -- w, where the text ends here
 unfoldable pub at_end : List ℕ → List ℕ → Option (List ℕ)
-at_end w [] = some w
-at_end w (x ∷ rest) = none
+at_end w [] = Some w
+at_end w (x ∷ rest) = None
 
 -- F9: a group, the characters behind it and what those give; only the last group has pads
 unfoldable pub follow : Group → List ℕ → Option (List ℕ) → Option (List ℕ)
 follow (Three x y z) rest octets = before (x ∷ y ∷ z ∷ []) octets
 follow (Two x y) rest octets = at_end (x ∷ y ∷ []) rest
 follow (One x) rest octets = at_end (x ∷ []) rest
-follow Broken rest octets = none
+follow Broken rest octets = None
 
 -- F9: a text, its blanks taken out, comes in whole groups of four characters
 unfoldable pub decode : List ℕ → Option (List ℕ)
-decode [] = some []
-decode (a ∷ []) = none
-decode (a ∷ b ∷ []) = none
-decode (a ∷ b ∷ c ∷ []) = none
+decode [] = Some []
+decode (a ∷ []) = None
+decode (a ∷ b ∷ []) = None
+decode (a ∷ b ∷ c ∷ []) = None
 decode (a ∷ b ∷ c ∷ d ∷ rest) = follow (group_of a b c d) rest (decode rest)
 
 unfoldable pub octets_in : Option (List ℕ) → List ℕ
-octets_in none = []
-octets_in (some w) = w
+octets_in None = []
+octets_in (Some w) = w
 
 -- F9, W4: 24 bits make four letters; 8 or 16 bits at the end are filled up with zero bits, and the group with pads
 unfoldable pub encode : List ℕ → List ℕ

@@ -13,7 +13,7 @@ use Prim.Native.Nat.{ℕ, ◌-◌, ◌≤◌, min}
 use mathlib.Core.Path.{◌≡◌, refl, sym, ap, ◌∙◌}
 use mathlib.Core.Bool.{Bool, true, false, ◌&&◌}
 use mathlib.Core.List.{List}
-use mathlib.Core.Option.{Option, some, none}
+use Rattle.std.specs.Prelude.{Option, Some, None}
 use native.Mathlib.Nat.{sub-zero}
 use native.Mathlib.Omega.{arith}
 use borrow.Author.Rules.{rules}
@@ -53,17 +53,17 @@ use Rattle.lint.specs.declared.Linted.TheVariants.{Done, Refused}
 
 -- R31: the rows in order
 module _ (outer payload : List ℕ) (room : ℕ) where
-  first_outer : readable outer ≡ false → refused_linting outer payload room ≡ some OuterBlock
+  first_outer : readable outer ≡ false → refused_linting outer payload room ≡ Some OuterBlock
   unfolding refused_linting linting_rows first_of
   first_outer o = rw o
 
   module _ (o : readable outer ≡ true) where
-    first_sender : sender_in (fields_in outer) ≡ none → refused_linting outer payload room ≡ some Sender
+    first_sender : sender_in (fields_in outer) ≡ None → refused_linting outer payload room ≡ Some Sender
     unfolding refused_linting linting_rows first_of is_some
     first_sender s = rw (o, s)
 
-    module _ (sender : List ℕ) (s : sender_in (fields_in outer) ≡ some sender) where
-      first_payload : readable payload ≡ false → refused_linting outer payload room ≡ some PayloadBlock
+    module _ (sender : List ℕ) (s : sender_in (fields_in outer) ≡ Some sender) where
+      first_payload : readable payload ≡ false → refused_linting outer payload room ≡ Some PayloadBlock
       unfolding refused_linting linting_rows first_of is_some
       first_payload p = rw (o, s, p)
 
@@ -72,7 +72,7 @@ module _ (outer payload : List ℕ) (room : ℕ) where
       first_list p = rw (o, s, p)
 
 -- a refusal answers itself, and leaves the list
-module _ (outer payload list : List ℕ) (r : Refusal) (e : refused_linting outer payload (length list) ≡ some r) where
+module _ (outer payload list : List ℕ) (r : Refusal) (e : refused_linting outer payload (length list) ≡ Some r) where
   answered : Refused r ≡ linted_of outer payload (length list)
   unfolding linted_of
   answered = sym (refused_is Refused (Done (length (mail_faults outer payload))) (refused_linting outer payload (length list)) r e)
@@ -115,7 +115,7 @@ module _ (outer : List ℕ) (survey : Survey) (payload text₀ : List ℕ) (h : 
 
   module _ (r : Told) (t : r ≡ sender_of (sender_in (fields_in outer))) where
     module _ (list : List ℕ) (q : r ≡ NotOne) where
-      no_sender : sender_in (fields_in outer) ≡ none
+      no_sender : sender_in (fields_in outer) ≡ None
       no_sender = answer_none (sender_in (fields_in outer)) (sym q ∙ t)
 
       pub sender_answered : Refused Sender ≡ linted_of outer payload (length list)
@@ -128,7 +128,7 @@ module _ (outer : List ℕ) (survey : Survey) (payload text₀ : List ℕ) (h : 
       pub address_within : n ≤ length out
       address_within = left_within (sender_in (fields_in outer)) r t out d l n q
 
-      is_sender : sender_in (fields_in outer) ≡ some (take (n - 0) (drop 0 out))
+      is_sender : sender_in (fields_in outer) ≡ Some (take (n - 0) (drop 0 out))
       is_sender = rw sub-zero (left_is (sender_in (fields_in outer)) r t out d l n q)
 
       module _ (b : Bool) (p : b ≡ readable payload) where

@@ -9,7 +9,7 @@ use Prim.Native.Nat.{ℕ, ◌*◌, ◌≤◌}
 use mathlib.Core.Path.{◌≡◌, refl, sym, ap, ◌∙◌}
 use mathlib.Core.Bool.{Bool, true, false, not}
 use mathlib.Core.List.{List, [], ◌∷◌}
-use mathlib.Core.Option.{Option, some, none}
+use Rattle.std.specs.Prelude.{Option, Some, None}
 use native.Mathlib.Omega.{arith}
 use borrow.Author.Tests.{leb-true, leb-false, not-true, not-false}
 use lib.Dec.{leb}
@@ -31,15 +31,15 @@ use Rattle.lint.specs.declared.Linted.{Linted}
 use Rattle.lint.specs.declared.Linted.TheVariants.{Done, Refused}
 
 module _ (d : ℕ) where
-  answer_refused : (o : Option Refusal) (r : Refusal) → answered_by o Refused (Done d) ≡ Refused r → o ≡ some r
+  answer_refused : (o : Option Refusal) (r : Refusal) → answered_by o Refused (Done d) ≡ Refused r → o ≡ Some r
   unfolding answered_by
-  answer_refused (some q) r e = ap some cc
-  answer_refused none r e = cc
+  answer_refused (Some q) r e = ap Some cc
+  answer_refused None r e = cc
 
-  answer_done : (o : Option Refusal) (n : ℕ) → answered_by o Refused (Done d) ≡ Done n → (o ≡ none) × (d ≡ n)
+  answer_done : (o : Option Refusal) (n : ℕ) → answered_by o Refused (Done d) ≡ Done n → (o ≡ None) × (d ≡ n)
   unfolding answered_by
-  answer_done (some q) n e = (cc, cc)
-  answer_done none n e = (refl, cc)
+  answer_done (Some q) n e = (cc, cc)
+  answer_done None n e = (refl, cc)
 
 -- the faults of two readable blocks are few
 mail_few : (outer payload : List ℕ) → readable outer ≡ true → readable payload ≡ true → length (mail_faults outer payload) ≤ fault_room
@@ -47,16 +47,16 @@ unfolding mail_faults
 mail_few outer payload o p = few_faults (or_else [] (sender_in (fields_in outer))) (recipients_in (fields_in outer)) outer payload o p
 
 module _ (outer payload : List ℕ) (room : ℕ) where
-  pub refused_row : (r : Refusal) → linted_of outer payload room ≡ Refused r → refused_linting outer payload room ≡ some r
+  pub refused_row : (r : Refusal) → linted_of outer payload room ≡ Refused r → refused_linting outer payload room ≡ Some r
   unfolding linted_of
   refused_row r e = answer_refused (length (mail_faults outer payload)) (refused_linting outer payload room) r e
 
-  pub done_row : (n : ℕ) → linted_of outer payload room ≡ Done n → (refused_linting outer payload room ≡ none) × (length (mail_faults outer payload) ≡ n)
+  pub done_row : (n : ℕ) → linted_of outer payload room ≡ Done n → (refused_linting outer payload room ≡ None) × (length (mail_faults outer payload) ≡ n)
   unfolding linted_of
   done_row n e = answer_done (length (mail_faults outer payload)) (refused_linting outer payload room) n e
 
   -- no row holds
-  module _ (e : refused_linting outer payload room ≡ none) where
+  module _ (e : refused_linting outer payload room ≡ None) where
     row_outer : readable outer ≡ true
     unfolding refused_linting linting_rows
     row_outer = not-false (readable outer) (none_here OuterBlock _ _ e)
@@ -106,7 +106,7 @@ module _ (outer payload list : List ℕ) where
   pub done_lists : (n : ℕ) → linted_of outer payload (length list) ≡ Done n → Lists outer payload list n
   unfolding left_by_linting
   done_lists n e =
-      let none_holds : refused ≡ none = (done_row outer payload (length list) n e).0 in
+      let none_holds : refused ≡ None = (done_row outer payload (length list) n e).0 in
       record {
         outer_readable = row_outer outer payload (length list) none_holds;
         sent = row_sender outer payload (length list) none_holds;

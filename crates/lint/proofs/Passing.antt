@@ -12,7 +12,7 @@ use Prim.Native.Nat.{ℕ, ◌+◌, ◌*◌, ◌-◌, ◌/◌, ◌<◌, ◌≤◌
 use mathlib.Core.Path.{◌≡◌, refl, sym, ap, ◌∙◌}
 use mathlib.Core.Bool.{Bool, true, false, not}
 use mathlib.Core.List.{List, [], ◌∷◌, ◌++◌}
-use mathlib.Core.Option.{none}
+use Rattle.std.specs.Prelude.{None}
 use native.Mathlib.Omega.{arith}
 use borrow.Author.Rules.{rules}
 use borrow.Author.Tests.{le-leb, lt-leb}
@@ -177,7 +177,7 @@ module _ (outer payload sender recipients : List ℕ) where
       short_left list l = rw (lt-leb (3 * length mail) (length list) (omega (arith, needed_is)))
 
       module _ (list : List ℕ) (l : n ≤ length list) where
-        roomy : first_of (list_rows mail (length list)) ≡ none
+        roomy : first_of (list_rows mail (length list)) ≡ None
         unfolding list_rows first_of
         roomy = rw (le-leb (3 * length mail) (length list) (omega (arith, needed_is)))
 

@@ -6,7 +6,7 @@
 --     linted_of, left_by_linting      the answer, and what the list holds afterwards
 --     FewFaults                       an answer has no more faults than that room is for
 use Rattle.std.specs.Prelude.{ℕ, ◌*◌, ◌≤◌, List, [], ◌∷◌, ◌++◌, leb, length}
-use Rattle.std.proofs.Math.Option.{Option}
+use Rattle.std.specs.Prelude.{Option}
 use Rattle.octets.specs.Options.{is_some, or_else}
 use Rattle.octets.specs.Written.{onto}
 use Rattle.refusals.specs.Rows.{Row, ◌unless◌, first_of, answered_by, unless_refused}

@@ -7,7 +7,7 @@
 --     Readied                       the recipients are known
 --     PassedAs                      what a pass over both blocks answers and leaves
 use Rattle.std.specs.Prelude.{ℕ, ◌≤◌, min, ◌≡◌, Bool, true, List, ◌++◌, length}
-use Rattle.std.proofs.Math.Option.{some}
+use Rattle.std.specs.Prelude.{Some}
 use Rattle.octets.specs.Written.{onto}
 use Rattle.refusals.specs.Rows.{first_of, answered_by, unless_refused}
 use Rattle.header.specs.Header.{limit, readable}
@@ -55,7 +55,7 @@ pub record Walked (outer : List ℕ) (survey : Survey) (payload text : List ℕ)
 
 pub record Sent (outer : List ℕ) (survey : Survey) (payload sender text : List ℕ) : Type 0 where
   pub surveyed : SurveyAs outer survey
-  pub sent : sender_in (fields_in outer) ≡ some sender
+  pub sent : sender_in (fields_in outer) ≡ Some sender
   pub readably : readable payload ≡ true
   pub outer_fits : length outer ≤ length text
   pub payload_fits : length payload ≤ length text

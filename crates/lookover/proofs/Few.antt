@@ -11,7 +11,7 @@ use Prim.Native.Nat.{ℕ, suc, ◌+◌, ◌*◌, ◌-◌, ◌≤◌, zero-le}
 use mathlib.Core.Path.{◌≡◌, refl, sym, ap, ◌∙◌}
 use mathlib.Core.Bool.{Bool, true, false, not, cond, ◌||◌}
 use mathlib.Core.List.{List, [], ◌∷◌, ◌++◌}
-use mathlib.Core.Option.{Option, some, none}
+use Rattle.std.specs.Prelude.{Option, Some, None}
 use native.Mathlib.Omega.{arith}
 use lib.ListN.{length, take, drop, length-append, length-take}
 use Rattle.octets.specs.Octets.{lowered, same_name}
@@ -132,8 +132,8 @@ weight_at s at n v e p =
 
 weight_else : (n : ℕ) (o : Option (List FieldText)) → Takes text_of n o → weight (or_else [] o) ≤ n
 unfolding or_else total
-weight_else n none h = zero-le
-weight_else n (some fs) h = h
+weight_else n None h = zero-le
+weight_else n (Some fs) h = h
 
 pub block_weight : (s : List ℕ) → readable s ≡ true → weight (fields_in s) ≤ limit
 unfolding fields_in total

@@ -12,7 +12,7 @@ use Prim.Native.Nat.{ℕ}
 use mathlib.Core.Path.{◌≡◌, refl, sym, ap, ◌∙◌}
 use mathlib.Core.Bool.{Bool, true, false, not, cond, false≢true, and-true, and-false}
 use mathlib.Core.List.{List, [], ◌∷◌}
-use mathlib.Core.Option.{Option, some, none}
+use Rattle.std.specs.Prelude.{Option, Some, None}
 use native.Mathlib.Omega.{arith}
 use lib.Dec.{eqb}
 use lib.ListN.{take}
@@ -158,8 +158,8 @@ module _ (p : List ℕ) (h : attribute_of p ≡ spoiling → ⊥) where
 
 -- addresses, with the one in front that was seen
 seen : Option (List ℕ) → List (List ℕ) → List (List ℕ)
-seen none vs = vs
-seen (some a) vs = a ∷ vs
+seen None vs = vs
+seen (Some a) vs = a ∷ vs
 
 -- what a piece brings that the reading goes on behind: at most an address
 record Goes (a b : Option (List ℕ)) (x : Attribute) : Type 0 where
@@ -175,16 +175,16 @@ After a x spoils = Unit
 
 after_address : (a : Option (List ℕ)) (m : Option Bool) (v : List ℕ) → After a (addr v) (with_address a m v)
 unfolding with_address After seen more called_as
-after_address none m v =
+after_address None m v =
     by_test (plain v)
     (λ t. rw t (record { addressed = λ vs. refl; known = λ vs. refl; keyless = λ vs. refl }))
     (λ t. rw t tt)
-after_address (some c) m v = tt
+after_address (Some c) m v = tt
 
 after_preference : (a : Option (List ℕ)) (m : Option Bool) (v : List ℕ) → After a (prefer_encrypt v) (with_preference a m v)
 unfolding with_preference After more called_as
-after_preference a none v = record { addressed = λ vs. refl; known = λ vs. refl; keyless = λ vs. refl }
-after_preference a (some c) v = tt
+after_preference a None v = record { addressed = λ vs. refl; known = λ vs. refl; keyless = λ vs. refl }
+after_preference a (Some c) v = tt
 
 after : (a : Option (List ℕ)) (m : Option Bool) (x : Attribute) → After a x (step a m x)
 unfolding step After more
@@ -209,10 +209,10 @@ ends_front p [] e = absurd (false≢true e)
 ends_front p (q ∷ more) e = e
 
 -- what is said at the key data
-said_with_lem : (a : Option (List ℕ)) (m : Option Bool) (v : List ℕ) (x : Said) → said_with a m v ≡ some x → (seen a [] ≡ x.address ∷ []) × (v ≡ x.text)
+said_with_lem : (a : Option (List ℕ)) (m : Option Bool) (v : List ℕ) (x : Said) → said_with a m v ≡ Some x → (seen a [] ≡ x.address ∷ []) × (v ≡ x.text)
 unfolding said_with seen
-said_with_lem none m v x e = let z : ◌≡◌ {A = ℕ} 0 1 = cc in absurd (omega arith)
-said_with_lem (some c) m v x e =
+said_with_lem None m v x e = let z : ◌≡◌ {A = ℕ} 0 1 = cc in absurd (omega arith)
+said_with_lem (Some c) m v x e =
     let q : record { address = c; is_mutual = mutual_by m; text = v } ≡ x = cc in
     (ap (λ (y : Said). y.address ∷ []) q, ap (λ (y : Said). y.text) q)
 
@@ -233,7 +233,7 @@ module _ (a : Option (List ℕ)) (m : Option Bool) (p : List ℕ) (x : Said) whe
         ends = ends_front p rest h.ends;
       }
 
-  said_last : (v : List ℕ) (rest : List (List ℕ)) → step a m (attribute_of p) ≡ last v → if_last rest (said_with a m v) ≡ some x → SaidAs a (p ∷ rest) x
+  said_last : (v : List ℕ) (rest : List (List ℕ)) → step a m (attribute_of p) ≡ last v → if_last rest (said_with a m v) ≡ Some x → SaidAs a (p ∷ rest) x
   unfolding After if_last last_of values_called more called_as said_as
   said_last v [] e q =
       let k : attribute_of p ≡ keydata v = rw e at (after a m (attribute_of p)) in
@@ -247,28 +247,28 @@ module _ (a : Option (List ℕ)) (m : Option Bool) (p : List ℕ) (x : Said) whe
       }
   said_last v (r ∷ rest) e q = let z : ◌≡◌ {A = ℕ} 0 1 = cc in absurd (omega arith)
 
-said_from_lem : (a : Option (List ℕ)) (m : Option Bool) (ps : List (List ℕ)) (x : Said) → said_from a m ps ≡ some x → SaidAs a ps x
+said_from_lem : (a : Option (List ℕ)) (m : Option Bool) (ps : List (List ℕ)) (x : Said) → said_from a m ps ≡ Some x → SaidAs a ps x
 unfolding said_from
 said_from_lem a m [] x e = let z : ◌≡◌ {A = ℕ} 0 1 = cc in absurd (omega arith)
 said_from_lem a m (p ∷ rest) x e = go (λ b n q. said_from_lem b n rest x q) (step a m (attribute_of p)) refl
   where
-    go : ((b : Option (List ℕ)) (n : Option Bool) → said_from b n rest ≡ some x → SaidAs b rest x) → (s : Step) → step a m (attribute_of p) ≡ s → SaidAs a (p ∷ rest) x
+    go : ((b : Option (List ℕ)) (n : Option Bool) → said_from b n rest ≡ Some x → SaidAs b rest x) → (s : Step) → step a m (attribute_of p) ≡ s → SaidAs a (p ∷ rest) x
     go ih (on b n) q = said_on a m p x b n rest q (ih b n (sym (rw (said_from, q)) ∙ e))
     go ih (last v) q = said_last a m p x v rest q (sym (rw (said_from, q)) ∙ e)
-    go ih spoils q = let k : none ≡ some x = sym (rw (said_from, q)) ∙ e in let z : ◌≡◌ {A = ℕ} 0 1 = cc in absurd (omega arith)
+    go ih spoils q = let k : None ≡ Some x = sym (rw (said_from, q)) ∙ e in let z : ◌≡◌ {A = ℕ} 0 1 = cc in absurd (omega arith)
 
 -- a valid value names its address, has no unknown attribute, and has its key data
-module _ (limit : ℕ) (v : List ℕ) (f : Field) (e : field_of limit v ≡ some f) where
+module _ (limit : ℕ) (v : List ℕ) (f : Field) (e : field_of limit v ≡ Some f) where
   parts : FieldOf limit v f
   parts = field_parts limit v f e
 
-  pieces_are : SaidAs none (pieces 59 v) parts.said
+  pieces_are : SaidAs None (pieces 59 v) parts.said
   unfolding said_of
-  pieces_are = said_from_lem none none (pieces 59 v) parts.said parts.says
+  pieces_are = said_from_lem None None (pieces 59 v) parts.said parts.says
 
-  pub field_named : named v ≡ some f.address
+  pub field_named : named v ≡ Some f.address
   unfolding named named_by saying only_one seen
-  field_named = rw (pieces_are.addressed, said_plain v parts.said parts.says) (ap some (sym parts.address))
+  field_named = rw (pieces_are.addressed, said_plain v parts.said parts.says) (ap Some (sym parts.address))
 
   pub field_known : occurs Unknown v ≡ false
   unfolding occurs saying is_empty
@@ -294,8 +294,8 @@ flaws_by m a u k =
 -- what is wrong with an Autocrypt value. `seen` says whether a valid one stands before it
 module _ (sender v : List ℕ) where
   -- a valid one: nothing but that
-  module _ (f : Field) (e : valid_for key_limit sender v ≡ some f) where
-    field_is : field_of key_limit v ≡ some f
+  module _ (f : Field) (e : valid_for key_limit sender v ≡ Some f) where
+    field_is : field_of key_limit v ≡ Some f
     field_is = (valid_is key_limit sender v f e).0
 
     pub valid_true : true ≡ is_valid sender v
@@ -311,7 +311,7 @@ module _ (sender v : List ℕ) where
     own_valid seen = rw (← valid_true, valid_names, field_known key_limit v f field_is, field_keyed key_limit v f field_is, and-true)
 
   -- any other: not that
-  module _ (e : valid_for key_limit sender v ≡ none) where
+  module _ (e : valid_for key_limit sender v ≡ None) where
     pub valid_false : false ≡ is_valid sender v
     unfolding is_valid is_some
     valid_false = rw e
@@ -337,5 +337,5 @@ module _ (sender v key : List ℕ) (seen : Bool) (o : Own) (a : OwnAs key_limit 
       (record { flaws = flaws_by false (not n) u (not k); valid = false })
   unfolding OwnAs
   judged_spoiled q n u k en eu ek =
-      let h : valid_for key_limit sender v ≡ none = rw q at a in
+      let h : valid_for key_limit sender v ≡ None = rw q at a in
       record { flawed = rw (en, eu, ek) (own_spoiled sender v h seen); validly = valid_false sender v h }

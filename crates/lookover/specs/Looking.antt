@@ -8,7 +8,7 @@
 --     faults_in                    the faults of a block
 --     missing, faults_of           those of both blocks
 use Rattle.std.specs.Prelude.{ℕ, ◌+◌, Bool, true, false, not, cond, ◌&&◌, ◌||◌, List, [], ◌∷◌, ◌++◌}
-use Rattle.std.proofs.Math.Option.{Option, some, none}
+use Rattle.std.specs.Prelude.{Option, Some, None}
 use Rattle.octets.specs.Octets.{same_octets}
 use Rattle.octets.specs.Options.{is_some}
 use Rattle.header.specs.Header.{FieldText}
@@ -39,8 +39,8 @@ is_valid sender v = is_some (valid_for key_limit sender v)
 
 -- O6: an address is this one, in canonical form
 unfoldable pub is_just : List ℕ → Option (List ℕ) → Bool
-is_just sender none = false
-is_just sender (some a) = same_octets a sender
+is_just sender None = false
+is_just sender (Some a) = same_octets a sender
 
 -- O6: the value names the sender
 unfoldable pub names_only : List ℕ → List ℕ → Bool
@@ -48,8 +48,8 @@ names_only sender v = is_just sender (named v)
 
 -- O6: an address is one of some
 unfoldable pub is_one_of : List (List ℕ) → Option (List ℕ) → Bool
-is_one_of recipients none = false
-is_one_of recipients (some a) = among a recipients
+is_one_of recipients None = false
+is_one_of recipients (Some a) = among a recipients
 
 -- O6: the value names a recipient
 unfoldable pub lists : List (List ℕ) → List ℕ → Bool

@@ -8,7 +8,7 @@
 use Prim.Native.Nat.{ℕ, ◌+◌, ◌*◌, ◌<◌, ◌≤◌}
 use mathlib.Core.Path.{◌≡◌, refl, sym, ◌∙◌}
 use mathlib.Core.Bool.{true}
-use mathlib.Core.Option.{some, none}
+use Rattle.std.specs.Prelude.{Some, None}
 use mathlib.Core.List.{List}
 use native.Mathlib.Omega.{arith}
 use borrow.Author.Rules.{rules}
@@ -71,7 +71,7 @@ by_held NoEntry a b = b refl
 
 pub record Tells (t a : List ℕ) (n : Head) (d g : ℕ) : Type 0 where
   pub slot : List ℕ
-  pub whose : entry_in t a ≡ some (entry_of slot)
+  pub whose : entry_in t a ≡ Some (entry_of slot)
   pub is_sound : sound slot ≡ true
   pub numbers : n ≡ head_of slot
   pub direct_lies : n.direct ≡ true → (take n.direct_length (drop d t) ≡ direct_key_of slot) × (d + n.direct_length ≤ length t)
@@ -104,7 +104,7 @@ module _ (t a : List ℕ) (s : checked t ≡ Sound) (i : ℕ) (e : found t a ≡
       }
 
 module _ (t a : List ℕ) where
-  pub held_not : held_of t a ≡ NoEntry → entry_in t a ≡ none
+  pub held_not : held_of t a ≡ NoEntry → entry_in t a ≡ None
   held_not q =
       by_found (found t a)
       (λ i e.

@@ -7,7 +7,7 @@
 use Prim.Native.Nat.{ℕ, ◌≤◌, max}
 use mathlib.Core.Path.{◌≡◌, refl, sym, ap, ◌∙◌}
 use mathlib.Core.Bool.{Bool, true, false, not, ◌&&◌, ◌||◌, false≢true}
-use mathlib.Core.Option.{Option, some, none}
+use Rattle.std.specs.Prelude.{Option, Some, None}
 use native.Mathlib.Omega.{arith}
 use native.Mathlib.Nat.{zero-max, max-eq_left, max-eq_right, le-max_left, le-max_right}
 use borrow.Author.Tests.{ltb-true, ltb-false}
@@ -22,7 +22,7 @@ use Rattle.merge.specs.Steps.{with_seen, with_later_gossip}
 
 -- b is what the code found out by bits and times
 module _ {A : Type 0} (time : A → ℕ) (x y : A) (b : Bool) where
-  pub later_taken : (p q : Bool) → b ≡ (q && (not p || ltb (time x) (time y))) → b ≡ true → some y ≡ later_of time (present p x) (present q y)
+  pub later_taken : (p q : Bool) → b ≡ (q && (not p || ltb (time x) (time y))) → b ≡ true → Some y ≡ later_of time (present p x) (present q y)
   unfolding later_of
   later_taken true true e t = rw (later_of, sym e ∙ t)
   later_taken false true e t = refl
@@ -38,54 +38,54 @@ module _ {A : Type 0} (time : A → ℕ) (x y : A) (b : Bool) where
 
 pub later_holds : {A : Type 0} (time : A → ℕ) (P : A → Type 0) (p q : Option A) → IfSome P p → IfSome P q → IfSome P (later_of time p q)
 unfolding later_of
-later_holds time P none q g h = h
-later_holds time P (some a) none g h = g
-later_holds time P (some a) (some b) g h = by_test (ltb (time a) (time b)) (λ e. rw (later_of, e) h) (λ e. rw (later_of, e) g)
+later_holds time P None q g h = h
+later_holds time P (Some a) None g h = g
+later_holds time P (Some a) (Some b) g h = by_test (ltb (time a) (time b)) (λ e. rw (later_of, e) h) (λ e. rw (later_of, e) g)
 
-pub later_none : {A : Type 0} (time : A → ℕ) (o : Option A) → o ≡ later_of time o none
+pub later_none : {A : Type 0} (time : A → ℕ) (o : Option A) → o ≡ later_of time o None
 unfolding later_of
-later_none time none = refl
-later_none time (some x) = refl
+later_none time None = refl
+later_none time (Some x) = refl
 
-pub later_seen : (o : Option ℕ) (date : ℕ) → later_of (λ (t : ℕ). t) o (some date) ≡ some (max (or_else 0 o) date)
+pub later_seen : (o : Option ℕ) (date : ℕ) → later_of (λ (t : ℕ). t) o (Some date) ≡ Some (max (or_else 0 o) date)
 unfolding later_of or_else
-later_seen none date = ap some (sym (zero-max date))
-later_seen (some t) date =
+later_seen None date = ap Some (sym (zero-max date))
+later_seen (Some t) date =
     by_test (ltb t date)
-    (λ e. rw (later_of, e) (ap some (sym (max-eq_right (omega (arith, ltb-true t date e))))))
-    (λ e. rw (later_of, e) (ap some (sym (max-eq_left (omega (arith, ltb-false t date e))))))
+    (λ e. rw (later_of, e) (ap Some (sym (max-eq_right (omega (arith, ltb-true t date e))))))
+    (λ e. rw (later_of, e) (ap Some (sym (max-eq_left (omega (arith, ltb-false t date e))))))
 
 -- last seen of either entry is not above that of both
 module _ (date : ℕ) where
-  seen_own : (o : Option ℕ) → or_else 0 o ≤ or_else 0 (later_of (λ (t : ℕ). t) o (some date))
+  seen_own : (o : Option ℕ) → or_else 0 o ≤ or_else 0 (later_of (λ (t : ℕ). t) o (Some date))
   unfolding or_else
   seen_own o = rw (later_seen o date) (le-max_left (or_else 0 o) date)
 
-  seen_other : (o : Option ℕ) → date ≤ or_else 0 (later_of (λ (t : ℕ). t) o (some date))
+  seen_other : (o : Option ℕ) → date ≤ or_else 0 (later_of (λ (t : ℕ). t) o (Some date))
   unfolding or_else
   seen_other o = rw (later_seen o date) (le-max_right (or_else 0 o) date)
 
-  seen_there : (o : Option ℕ) → is_some (later_of (λ (t : ℕ). t) o (some date)) ≡ true
+  seen_there : (o : Option ℕ) → is_some (later_of (λ (t : ℕ). t) o (Some date)) ≡ true
   unfolding is_some
   seen_there o = rw (later_seen o date)
 
 -- so a good direct half of either is good beside it
 direct_own : (o p : Option ℕ) (d : Direct) → GoodDirect o d → GoodDirect (later_of (λ (t : ℕ). t) o p) d
 unfolding later_of is_some
-direct_own none p d g = let z : false ≡ true = g.was_seen in absurd (false≢true z)
-direct_own (some t) none d g = g
-direct_own (some t) (some date) d g =
-    record { key = g.key; was_seen = seen_there date (some t); not_below = omega (arith, g.not_below, seen_own date (some t)) }
+direct_own None p d g = let z : false ≡ true = g.was_seen in absurd (false≢true z)
+direct_own (Some t) None d g = g
+direct_own (Some t) (Some date) d g =
+    record { key = g.key; was_seen = seen_there date (Some t); not_below = omega (arith, g.not_below, seen_own date (Some t)) }
 
 direct_other : (o p : Option ℕ) (d : Direct) → GoodDirect p d → GoodDirect (later_of (λ (t : ℕ). t) o p) d
 unfolding is_some or_else
-direct_other o none d g = absurd (false≢true g.was_seen)
-direct_other o (some date) d g =
+direct_other o None d g = absurd (false≢true g.was_seen)
+direct_other o (Some date) d g =
     record { key = g.key; was_seen = seen_there date o; not_below = omega (arith, g.not_below, seen_other date o) }
 
 each_some : {A : Type 0} (P Q : A → Type 0) → ((x : A) → P x → Q x) → (o : Option A) → IfSome P o → IfSome Q o
-each_some P Q f none g = tt
-each_some P Q f (some x) g = f x g
+each_some P Q f None g = tt
+each_some P Q f (Some x) g = f x g
 
 -- of the other entry all but its address is good
 module _ (e other : Entry) (g : Good e) (h : Good (renamed e.address other)) where

@@ -9,7 +9,7 @@ use Prim.Native.Nat.{ℕ, ◌+◌, ◌-◌, ◌≤◌}
 use mathlib.Core.Path.{◌≡◌, sym, ap, ◌∙◌}
 use mathlib.Core.Bool.{Bool, true, false, not, ◌&&◌, ◌||◌}
 use mathlib.Core.List.{List}
-use mathlib.Core.Option.{Option, some}
+use Rattle.std.specs.Prelude.{Option, Some}
 use native.Mathlib.Omega.{arith}
 use borrow.Author.Rules.{rules}
 use mir.Syntax.{w8, w64}
@@ -148,7 +148,7 @@ module _ (s o : List ℕ) (m : Merges s o) where
           gossip_taken out t q =
               q
               ∙ same_gossip (entry_of s) _ _
-              ((λ j. some (record { timestamp = (e j).gossip_timestamp; key = gossip_key_told n e j }))
+              ((λ j. Some (record { timestamp = (e j).gossip_timestamp; key = gossip_key_told n e j }))
               ∙ later_taken (λ (x : Gossip). x.timestamp) (gossip_in s) (gossip_in o) b (has_gossip s) (has_gossip o) gossip_test t)
 
           pub gossip_left : b ≡ false → s ≡ slot_of (with_later_gossip (entry_of o) (entry_of s))
@@ -170,7 +170,7 @@ module _ (s o : List ℕ) (m : Merges s o) where
           direct_taken out t q =
               q
               ∙ same_direct (entry_of s) _ _
-              ((λ j. some (record { timestamp = (e j).timestamp; key = direct_key n e j; «mutual» = (e j).«mutual» }))
+              ((λ j. Some (record { timestamp = (e j).timestamp; key = direct_key n e j; «mutual» = (e j).«mutual» }))
               ∙ later_taken (λ (x : Direct). x.timestamp) (direct_in s) (direct_in o) b (has_direct s) (has_direct o) direct_test t)
 
           pub direct_left : b ≡ false → s ≡ slot_of (with_later_direct (entry_of o) (entry_of s))

@@ -5,7 +5,7 @@
 use mathlib.Core.Path.{◌≡◌, refl}
 use mathlib.Core.Bool.{true, false}
 use mathlib.Core.List.{[], ◌∷◌}
-use mathlib.Core.Option.{some, none}
+use Rattle.std.specs.Prelude.{Some, None}
 use Rattle.octets.specs.Octets.{ascii}
 use Rattle.heads.specs.Entry.{Entry}
 use Rattle.merge.specs.Merging.{later_of, merged}
@@ -14,21 +14,21 @@ abbrev lower : Entry
 lower =
     record {
       address = ascii "a@b";
-      last_seen = some 7;
-      direct = some (record { timestamp = 5; key = 1 ∷ []; «mutual» = true });
-      gossip = none;
+      last_seen = Some 7;
+      direct = Some (record { timestamp = 5; key = 1 ∷ []; «mutual» = true });
+      gossip = None;
     }
 
 abbrev higher : Entry
 higher =
     record {
       address = ascii "a@b";
-      last_seen = some 9;
-      direct = some (record { timestamp = 5; key = 2 ∷ []; «mutual» = false });
-      gossip = some (record { timestamp = 0; key = 3 ∷ [] });
+      last_seen = Some 9;
+      direct = Some (record { timestamp = 5; key = 2 ∷ []; «mutual» = false });
+      gossip = Some (record { timestamp = 0; key = 3 ∷ [] });
     }
 
-tie : ((merged lower higher).last_seen ≡ some 9) × ((merged lower higher).direct ≡ lower.direct) × ((merged higher lower).direct ≡ higher.direct)
+tie : ((merged lower higher).last_seen ≡ Some 9) × ((merged lower higher).direct ≡ lower.direct) × ((merged higher lower).direct ≡ higher.direct)
 unfolding merged later_of
 tie = (refl, refl, refl)
 

@@ -5,7 +5,7 @@
 use Prim.Native.Nat.{ℕ, ◌≤◌}
 use mathlib.Core.Path.{◌≡◌, refl, ap, ◌∙◌}
 use mathlib.Core.List.{List}
-use mathlib.Core.Option.{Option, some, none}
+use Rattle.std.specs.Prelude.{Option, Some, None}
 use Rattle.octets.specs.Octets.{AllOctets}
 use Rattle.octets.specs.Options.{IfSome}
 use Rattle.header.specs.Header.{FieldText, fields_of}
@@ -29,12 +29,12 @@ unfolding direct_by
 direct_good most l date fs sender = go (counted_in most fs sender) refl
   where
     go : (o : Option Field) → counted_in most fs sender ≡ o → IfSome (GoodBrought date) (direct_by date (counted_in most fs sender))
-    go none e = rw e tt
-    go (some f) e = rw e (record { dated = refl; key = counted_key most l fs sender f e })
+    go None e = rw e tt
+    go (Some f) e = rw e (record { dated = refl; key = counted_key most l fs sender f e })
 
-module _ (most : ℕ) (l : most ≤ key_limit) (receipt : ℕ) (h : receipt ≤ time_limit) (outer : List ℕ) (o : AllOctets outer) (fs : List FieldText) (e : fields_of outer ≡ some fs)
-    (sender : List ℕ) (s : sender_in fs ≡ some sender) where
-  sent : sender_in (fields_in outer) ≡ some sender
+module _ (most : ℕ) (l : most ≤ key_limit) (receipt : ℕ) (h : receipt ≤ time_limit) (outer : List ℕ) (o : AllOctets outer) (fs : List FieldText) (e : fields_of outer ≡ Some fs)
+    (sender : List ℕ) (s : sender_in fs ≡ Some sender) where
+  sent : sender_in (fields_in outer) ≡ Some sender
   sent = ap sender_in (fields_are outer fs e) ∙ s
 
   pub brought_good : (payload : List FieldText) → ValuesOctets payload → GoodMessage (message_by most receipt sender fs payload)

@@ -6,7 +6,7 @@ use Prim.Native.Nat.{ℕ, ◌≤◌}
 use mathlib.Core.Path.{◌≡◌, refl, subst}
 use mathlib.Core.Bool.{Bool, true, false, not, ◌&&◌}
 use mathlib.Core.List.{List, []}
-use mathlib.Core.Option.{Option, some, none}
+use Rattle.std.specs.Prelude.{Option, Some, None}
 use borrow.Author.Tests.{leb-true, not-false}
 use lib.Dec.{leb}
 use Rattle.octets.specs.Octets.{AllOctets}
@@ -29,20 +29,20 @@ use Rattle.message.specs.Message.{payload_in, message_rows, message_of}
 use Rattle.message.proofs.Good.{brought_good}
 
 -- there is a sender
-sender_there : (o : Option (List ℕ)) → is_some o ≡ true → o ≡ some (or_else [] o)
+sender_there : (o : Option (List ℕ)) → is_some o ≡ true → o ≡ Some (or_else [] o)
 unfolding is_some or_else
-sender_there none e = cc
-sender_there (some a) e = refl
+sender_there None e = cc
+sender_there (Some a) e = refl
 
 pub record InOrder (receipt : ℕ) (outer payload : List ℕ) (g : Gossip) : Type 0 where
   pub in_time : receipt ≤ time_limit
   pub outer_read : readable outer ≡ true
-  pub sent : sender_in (fields_in outer) ≡ some (or_else [] (sender_in (fields_in outer)))
+  pub sent : sender_in (fields_in outer) ≡ Some (or_else [] (sender_in (fields_in outer)))
   pub no_report : is_reported (fields_in outer) ≡ false
   pub payload_read : (taken g && not (readable payload)) ≡ false
 
 module _ (receipt : ℕ) (outer payload : List ℕ) (g : Gossip) where
-  pub in_order : first_of (message_rows receipt outer payload g) ≡ none → InOrder receipt outer payload g
+  pub in_order : first_of (message_rows receipt outer payload g) ≡ None → InOrder receipt outer payload g
   unfolding message_rows
   in_order e =
       let behind_three = none_rest ReceiptTime _ _ e in

@@ -10,7 +10,7 @@ use Prim.Native.Nat.{ℕ, ◌-◌, ◌<◌, ◌≤◌}
 use mathlib.Core.Path.{◌≡◌, sym, ◌∙◌}
 use mathlib.Core.Bool.{true}
 use mathlib.Core.List.{List, []}
-use mathlib.Core.Option.{none}
+use Rattle.std.specs.Prelude.{None}
 use native.Mathlib.Omega.{arith}
 use native.Mathlib.Nat.{sub-zero}
 use borrow.Author.Rules.{rules}
@@ -166,7 +166,7 @@ module _ (most receipt : ℕ) (outer : List ℕ) (v : Survey) (text₀ sender ke
             is = rw (whole, h.sent, p.fields) (brought.is fs);
           }
 
-      in_order : (fs : List FieldText) → Passes (is_reported (fields_in outer)) payload g fs → first_of (message_rows receipt outer payload g) ≡ none
+      in_order : (fs : List FieldText) → Passes (is_reported (fields_in outer)) payload g fs → first_of (message_rows receipt outer payload g) ≡ None
       in_order fs p = first_none receipt outer payload g h.in_time outer_read sender h.sent p.no_report p.no_row
 
       pub read_alone : j ≡ Passed → ReadAs most receipt outer payload g sender key (Alone b)

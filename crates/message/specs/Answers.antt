@@ -6,7 +6,7 @@
 --     BringsAs                     what the message of a sender brings
 --     AloneAs, CarryingAs, ReadAs  the whole reading: the first of rows 3 to 7 that holds; where none does, what the message brings
 use Rattle.std.specs.Prelude.{ℕ, ◌≤◌, ◌≡◌, Bool, true, false, not, ◌&&◌, List, [], length, take}
-use Rattle.std.proofs.Math.Option.{Option, some, none}
+use Rattle.std.specs.Prelude.{Option, Some, None}
 use Rattle.refusals.specs.Rows.{first_of}
 use Rattle.settings.specs.Settings.{taken}
 use Rattle.settings.specs.declared.Gossip.{Gossip}
@@ -56,8 +56,8 @@ JudgedAs reported payload g Searched = IsSearched reported payload g
 
 -- the direct half of the field that was found, whose key opens the lent memory
 unfoldable pub direct_from : ℕ → List ℕ → Own → Option Direct
-direct_from date key NoKey = none
-direct_from date key (Key m n) = some (record { timestamp = date; key = take n key; «mutual» = m })
+direct_from date key NoKey = None
+direct_from date key (Key m n) = Some (record { timestamp = date; key = take n key; «mutual» = m })
 
 -- the message that an answer brings, by the sender and the key in lent memory
 unfoldable pub mail_of : List ℕ → List ℕ → Brought → List Gossiped → Message
@@ -98,13 +98,13 @@ pub record Brings (sender key : List ℕ) (b : Brought) (gossip : List Gossiped)
 
 -- no row holds, and the message brings no gossip
 pub record AloneAs (most receipt : ℕ) (outer payload : List ℕ) (g : Gossip) (sender key : List ℕ) (b : Brought) : Type 0 where
-  pub in_order : first_of (message_rows receipt outer payload g) ≡ none
+  pub in_order : first_of (message_rows receipt outer payload g) ≡ None
   pub brings : Brings sender key b [] (message_of most receipt outer payload g)
 
 -- no row holds, gossip is taken, and the message brings what there is of it in its payload
 pub record CarryingAs (most receipt : ℕ) (outer payload : List ℕ) (g : Gossip) (sender key : List ℕ) (b : Brought) (survey : Survey) : Type 0 where
   pub takes : taken g ≡ true
-  pub in_order : first_of (message_rows receipt outer payload g) ≡ none
+  pub in_order : first_of (message_rows receipt outer payload g) ≡ None
   pub surveyed : SurveyAs outer survey
   pub readably : readable payload ≡ true
   pub brings : Brings sender key b (heard_in most outer payload) (message_of most receipt outer payload g)
@@ -113,4 +113,4 @@ pub record CarryingAs (most receipt : ℕ) (outer payload : List ℕ) (g : Gossi
 unfoldable pub ReadAs : ℕ → ℕ → List ℕ → List ℕ → Gossip → List ℕ → List ℕ → Reading → Type 0
 ReadAs most receipt outer payload g sender key (Alone b) = AloneAs most receipt outer payload g sender key b
 ReadAs most receipt outer payload g sender key (Carrying b v) = CarryingAs most receipt outer payload g sender key b v
-ReadAs most receipt outer payload g sender key (Refused r) = first_of (message_rows receipt outer payload g) ≡ some r
+ReadAs most receipt outer payload g sender key (Refused r) = first_of (message_rows receipt outer payload g) ≡ Some r

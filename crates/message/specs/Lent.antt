@@ -4,7 +4,7 @@
 --     Opened     that much is known, the receipt time is in range, and there is room for an address and a key
 --     Sent       that much is known, the receipt time is in range, this is the sender, and there is room for a key
 use Rattle.std.specs.Prelude.{ℕ, ◌≤◌, min, ◌≡◌, List, length}
-use Rattle.std.proofs.Math.Option.{some}
+use Rattle.std.specs.Prelude.{Some}
 use Rattle.header.specs.Header.{limit}
 use Rattle.fields.specs.Fields.{fields_in}
 use Rattle.fields.specs.Spans.{SurveyAs}
@@ -33,6 +33,6 @@ pub record Opened (most receipt : ℕ) (outer : List ℕ) (survey : Survey) (tex
 pub record Sent (most receipt : ℕ) (outer : List ℕ) (survey : Survey) (text sender key : List ℕ) : Type 0 where
   pub in_time : receipt ≤ time_limit
   pub walked : Walked outer survey text
-  pub sent : sender_in (fields_in outer) ≡ some sender
+  pub sent : sender_in (fields_in outer) ≡ Some sender
   pub key_room : most ≤ length key
   pub key_most : most ≤ key_limit

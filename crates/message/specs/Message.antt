@@ -5,7 +5,7 @@
 --     message_by      what it brings, by its sender and the fields of its blocks
 --     message_of      what it brings, by its blocks
 use Rattle.std.specs.Prelude.{ℕ, true, false, not, ◌&&◌, List, [], ◌∷◌, leb}
-use Rattle.std.proofs.Math.Option.{Option, some, none}
+use Rattle.std.specs.Prelude.{Option, Some, None}
 use Rattle.octets.specs.Options.{is_some, or_else}
 use Rattle.refusals.specs.Rows.{Row, ◌when◌, ◌unless◌}
 use Rattle.refusals.specs.declared.Refusal.TheVariants.{ReceiptTime, OuterBlock, Sender, Report, PayloadBlock}
@@ -38,8 +38,8 @@ message_rows receipt outer payload g =
 
 -- U8: the direct half of a counted field, with the effective date as its timestamp
 unfoldable pub direct_by : ℕ → Option Field → Option Direct
-direct_by date none = none
-direct_by date (some f) = some (record { timestamp = date; key = f.key; «mutual» = f.is_mutual })
+direct_by date None = None
+direct_by date (Some f) = Some (record { timestamp = date; key = f.key; «mutual» = f.is_mutual })
 
 -- D14, F13, G4, G5: what a message brings, by its sender and by the fields of the outer block and of the payload, with keys of at most so many
 -- octets: the effective date for all of it, the counted field, and the accepted gossip about the recipients

@@ -11,57 +11,57 @@ use Prim.Native.Nat.{ℕ, ◌+◌, ◌≤◌}
 use mathlib.Core.Path.{◌≡◌, refl}
 use mathlib.Core.Bool.{true}
 use mathlib.Core.List.{List, [], ◌∷◌}
-use mathlib.Core.Option.{Option, some, none}
+use Rattle.std.specs.Prelude.{Option, Some, None}
 use native.Mathlib.Omega.{arith}
 use lib.ListN.{length}
 use Rattle.octets.specs.Options.{is_some, or_else, in_front, only_one, IfSome, Each, total}
 
 module _ {A : Type 0} where
-  pub by_option : {P : Type 0} (o : Option A) → (o ≡ none → P) → ((x : A) → o ≡ some x → P) → P
-  by_option none f g = f refl
-  by_option (some x) f g = g x refl
+  pub by_option : {P : Type 0} (o : Option A) → (o ≡ None → P) → ((x : A) → o ≡ Some x → P) → P
+  by_option None f g = f refl
+  by_option (Some x) f g = g x refl
 
   pub some_front : (x : A) (o : Option (List A)) → is_some (in_front x o) ≡ is_some o
   unfolding is_some in_front
-  some_front x none = refl
-  some_front x (some rest) = refl
+  some_front x None = refl
+  some_front x (Some rest) = refl
 
   pub else_front : (x : A) (o : Option (List A)) → is_some o ≡ true → or_else [] (in_front x o) ≡ x ∷ or_else [] o
   unfolding is_some or_else in_front
-  else_front x none e = cc
-  else_front x (some rest) e = refl
+  else_front x None e = cc
+  else_front x (Some rest) e = refl
 
-  pub front_some : (x : A) (o : Option (List A)) (all : List A) → in_front x o ≡ some all → (rest : List A) × ((o ≡ some rest) × (all ≡ x ∷ rest))
+  pub front_some : (x : A) (o : Option (List A)) (all : List A) → in_front x o ≡ Some all → (rest : List A) × ((o ≡ Some rest) × (all ≡ x ∷ rest))
   unfolding in_front
-  front_some x none all e = let z : ◌≡◌ {A = ℕ} 0 1 = cc in absurd (omega arith)
-  front_some x (some rest) all e = (rest, (refl, cc))
+  front_some x None all e = let z : ◌≡◌ {A = ℕ} 0 1 = cc in absurd (omega arith)
+  front_some x (Some rest) all e = (rest, (refl, cc))
 
-  pub some_else : (d : A) (o : Option A) → is_some o ≡ true → o ≡ some (or_else d o)
+  pub some_else : (d : A) (o : Option A) → is_some o ≡ true → o ≡ Some (or_else d o)
   unfolding is_some or_else
-  some_else d none e = cc
-  some_else d (some x) e = refl
+  some_else d None e = cc
+  some_else d (Some x) e = refl
 
-  pub only_one_lem : (xs : List A) (x : A) → only_one xs ≡ some x → xs ≡ x ∷ []
+  pub only_one_lem : (xs : List A) (x : A) → only_one xs ≡ Some x → xs ≡ x ∷ []
   unfolding only_one
   only_one_lem [] x e = cc
   only_one_lem (y ∷ []) x e = cc
   only_one_lem (y ∷ z ∷ rest) x e = cc
 
   -- of a list that may be absent
-  pub only_listed : (o : Option (List A)) (x : A) → only_one (or_else [] o) ≡ some x → o ≡ some (x ∷ [])
+  pub only_listed : (o : Option (List A)) (x : A) → only_one (or_else [] o) ≡ Some x → o ≡ Some (x ∷ [])
   unfolding only_one or_else
-  only_listed none x e = cc
-  only_listed (some xs) x e = rw (only_one_lem xs x e)
+  only_listed None x e = cc
+  only_listed (Some xs) x e = rw (only_one_lem xs x e)
 
-  pub only_two : (x y : A) (o : Option (List A)) → only_one (or_else [] (in_front x (in_front y o))) ≡ none
+  pub only_two : (x y : A) (o : Option (List A)) → only_one (or_else [] (in_front x (in_front y o))) ≡ None
   unfolding only_one or_else in_front
-  only_two x y none = refl
-  only_two x y (some rest) = refl
+  only_two x y None = refl
+  only_two x y (Some rest) = refl
 
   pub each_front : (P : A → Type 0) (x : A) (o : Option (List A)) → P x → IfSome (Each P) o → IfSome (Each P) (in_front x o)
   unfolding in_front Each
-  each_front P x none p h = tt
-  each_front P x (some rest) p h = (p, h)
+  each_front P x None p h = tt
+  each_front P x (Some rest) p h = (p, h)
 
 module _ {A : Type 0} (text : A → List ℕ) where
   pub total_none : total text [] ≡ 0
@@ -79,10 +79,10 @@ module _ {A : Type 0} (text : A → List ℕ) where
   Takes n o = IfSome (λ (xs : List A). total text xs ≤ n) o
 
   pub takes_more : (n m : ℕ) (o : Option (List A)) → n ≤ m → Takes n o → Takes m o
-  takes_more n m none l h = tt
-  takes_more n m (some xs) l h = omega arith
+  takes_more n m None l h = tt
+  takes_more n m (Some xs) l h = omega arith
 
   pub takes_front : (n m : ℕ) (x : A) (o : Option (List A)) → length (text x) + 1 + n ≤ m → Takes n o → Takes m (in_front x o)
   unfolding in_front
-  takes_front n m x none l h = tt
-  takes_front n m x (some xs) l h = omega (arith, total_one x xs)
+  takes_front n m x None l h = tt
+  takes_front n m x (Some xs) l h = omega (arith, total_one x xs)

@@ -13,7 +13,7 @@
 use Prim.Native.Nat.{ℕ, ◌+◌, ◌-◌, ◌<◌, ◌≤◌}
 use mathlib.Core.Path.{◌≡◌, refl, sym, ap, ◌∙◌}
 use mathlib.Core.List.{List, [], ◌∷◌, ◌++◌, append_assoc, append-nil}
-use mathlib.Core.Option.{Option, some, none}
+use Rattle.std.specs.Prelude.{Option, Some, None}
 use native.Mathlib.Nat.{zero-add, sub-zero}
 use native.Mathlib.Omega.{arith}
 use lib.ListN.{length, take, drop, set, length-append}
@@ -81,17 +81,17 @@ told_front d e m o h =
     rw (sub-zero, h.writes) (take_at h.text (drop (0 + length h.text) d) m (sym (h.counts ∙ zero-add _)))
 
 module _ (d : List ℕ) (at : ℕ) (e : List ℕ) (o : Option (List ℕ)) where
-  pub untold_none : o ≡ none → length e ≡ length d → Untold d at e o
+  pub untold_none : o ≡ None → length e ≡ length d → Untold d at e o
   untold_none n l = record { long = λ w p. absurd (let z : ◌≡◌ {A = ℕ} 0 1 = cc in omega arith); same = l }
 
-  pub untold_long : (w : List ℕ) → o ≡ some w → length d < at + length w → length e ≡ length d → Untold d at e o
+  pub untold_long : (w : List ℕ) → o ≡ Some w → length d < at + length w → length e ≡ length d → Untold d at e o
   untold_long w q l k = record { long = λ v p. let u : v ≡ w = cc in rw u l; same = k }
 
 pub text_long : (d e : List ℕ) (at : ℕ) (o : Option (List ℕ)) (r : Laid) → PutsText d e at o r → length e ≡ length d
 text_long d e at o (At m) h = told_long d at e m o h
 text_long d e at o NoRoom h = h.same
 
-pub put_told : (d e : List ℕ) (at : ℕ) (o : Option (List ℕ)) (w : List ℕ) → o ≡ some w → (r : Laid) → Puts d e at w r → PutsText d e at o r
+pub put_told : (d e : List ℕ) (at : ℕ) (o : Option (List ℕ)) (w : List ℕ) → o ≡ Some w → (r : Laid) → Puts d e at w r → PutsText d e at o r
 put_told d e at o w q (At m) h =
     let u : w ≡ h.octets = h.splits ∙ append-nil h.octets in
     record { text = w; is = q; writes = rw u h.writes; counts = rw u h.counts; room = h.room }

@@ -6,7 +6,7 @@
 --     Told, Untold    a text that there may not be is written; it is not
 --     PutsText    what writing a text answers that there may not be
 use Rattle.std.specs.Prelude.{ℕ, ◌+◌, ◌<◌, ◌≤◌, ◌≡◌, List, [], ◌++◌, length}
-use Rattle.std.proofs.Math.Option.{Option, some}
+use Rattle.std.specs.Prelude.{Option, Some}
 use Rattle.octets.specs.Written.{put_at}
 use Rattle.octets.specs.declared.Laid.{Laid}
 use Rattle.octets.specs.declared.Laid.TheVariants.{At, NoRoom}
@@ -29,14 +29,14 @@ Puts d e at w NoRoom = TooLong d at e w
 -- there is a text, and it is written
 pub record Told (d : List ℕ) (at : ℕ) (e : List ℕ) (to : ℕ) (o : Option (List ℕ)) : Type 0 where
   pub text : List ℕ
-  pub is : o ≡ some text
+  pub is : o ≡ Some text
   pub writes : e ≡ put_at d at text
   pub counts : to ≡ at + length text
   pub room : to ≤ length d
 
 -- there is none, or none that has room
 pub record Untold (d : List ℕ) (at : ℕ) (e : List ℕ) (o : Option (List ℕ)) : Type 0 where
-  pub long : (w : List ℕ) → o ≡ some w → length d < at + length w
+  pub long : (w : List ℕ) → o ≡ Some w → length d < at + length w
   pub same : length e ≡ length d
 
 abbrev pub PutsText : List ℕ → List ℕ → ℕ → Option (List ℕ) → Laid → Type 0

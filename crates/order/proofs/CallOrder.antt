@@ -9,7 +9,7 @@ use mathlib.Core.Logic.{⊎_elim}
 use mathlib.Core.Bool.{true}
 use mathlib.Core.List.Permᴰ
 use mathlib.Core.List.{List, [], ◌∷◌, map, Memᴰ, Permᴰ}
-use mathlib.Core.Option.{some}
+use Rattle.std.specs.Prelude.{Some}
 use Rattle.refusals.specs.declared.Refusal.TheVariants.{NoFreeSlot}
 use Rattle.refusals.specs.declared.Answer.TheVariants.{Refused}
 use Rattle.update.specs.Message.{Message}
@@ -22,7 +22,7 @@ use Rattle.order.proofs.FetchOrder.{Alike, fetched_one, fetch_alike}
 pub record Delivers {T : Type 0} (form : Form T) (calling : Calling T) : Type 0 where
   pub leaves : (t : T) → form.IsSound t → (c : Call) → calling.left t c ≡ after form t (calling.brings c)
   pub fitting : (t : T) → form.IsSound t → (c : Call) → (Refused NoFreeSlot ≡ calling.answer t c → ⊥) → fits form t (calling.brings c) ≡ true
-  pub good : (c : Call) → OctetCall c → (m : Message) → calling.brings c ≡ some m → form.IsGood m
+  pub good : (c : Call) → OctetCall c → (m : Message) → calling.brings c ≡ Some m → form.IsGood m
 
 -- what stands in a list of changed elements was made of an element
 map_stands : {A B : Type 0} (f : A → B) (list : List A) (y : B) → Memᴰ y (map f list) → (x : A) × Memᴰ x list × (y ≡ f x)
@@ -51,7 +51,7 @@ module _ {T : Type 0} (form : Form T) (law : Lawful form) (calling : Calling T) 
 
   pub calls_alike : (t : T) (cs ds : List Call) → form.IsSound t → ((c : Call) → Memᴰ c cs → OctetCall c) → Permᴰ cs ds
       → (Memᴰ (Refused NoFreeSlot) (answers_of calling t cs) → ⊥) → (Memᴰ (Refused NoFreeSlot) (answers_of calling t ds) → ⊥)
-      → ((c d : Call) → Memᴰ c cs → Memᴰ d cs → (m n : Message) → calling.brings c ≡ some m → calling.brings d ≡ some n → Agree m n)
+      → ((c d : Call) → Memᴰ c cs → Memᴰ d cs → (m n : Message) → calling.brings c ≡ Some m → calling.brings d ≡ Some n → Agree m n)
       → Alike form (left_by_all calling t cs) (left_by_all calling t ds)
   unfolding Agreeing
   calls_alike t cs ds s octets p n₁ n₂ agree =
@@ -59,9 +59,9 @@ module _ {T : Type 0} (form : Form T) (law : Lawful form) (calling : Calling T) 
       let second = calls_run ds t s (λ c i. octets c (permuted_stands c (Permᴰ.symm p) i)) n₂ in
       rw (first.0, second.0)
       (fetch_alike form law t (map calling.brings cs) (map calling.brings ds) s
-      (λ m i. let r = map_stands calling.brings cs (some m) i in d.good r.0 (octets r.0 r.1) m (sym r.2))
+      (λ m i. let r = map_stands calling.brings cs (Some m) i in d.good r.0 (octets r.0 r.1) m (sym r.2))
       (Permᴰ.map calling.brings p) first.1 second.1
       (λ m n i j.
-      let r = map_stands calling.brings cs (some m) i in
-      let q = map_stands calling.brings cs (some n) j in
+      let r = map_stands calling.brings cs (Some m) i in
+      let q = map_stands calling.brings cs (Some n) j in
       agree r.0 q.0 r.1 q.1 m n (sym r.2) (sym q.2)))

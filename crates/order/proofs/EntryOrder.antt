@@ -7,7 +7,7 @@ use Prim.Native.Nat.{ℕ}
 use mathlib.Core.Path.{◌≡◌, refl, sym, ap, ◌∙◌}
 use mathlib.Core.Bool.{true}
 use mathlib.Core.List.{List, [], ◌∷◌}
-use mathlib.Core.Option.{Option, some, none}
+use Rattle.std.specs.Prelude.{Option, Some, None}
 use native.Mathlib.Omega.{arith}
 use Rattle.octets.specs.Octets.{same_octets}
 use Rattle.octets.specs.Options.{or_else}
@@ -24,8 +24,8 @@ use Rattle.order.proofs.Shares.{Share, sent_by, heard_of, shared, heard_both, Kn
 
 -- a key by gossip, as the half of a date
 unfoldable heard_at : ℕ → Option (List ℕ) → Option Gossip
-heard_at date none = none
-heard_at date (some key) = some (record { timestamp = date; key = key })
+heard_at date None = None
+heard_at date (Some key) = Some (record { timestamp = date; key = key })
 
 unfoldable share_of : Message → List ℕ → Share
 share_of m b =
@@ -45,14 +45,14 @@ module _ (date : ℕ) (b : List ℕ) where
   unfolding entry_put heard_of heard_at key_about heard
   put_heard g e =
       by_test (same_octets g.address b)
-      (λ t. rw (entry_put, key_about, t) (ap (λ (a : List ℕ). some (heard date g.key (or_else (newcomer a) e))) (same_true g.address b t)))
+      (λ t. rw (entry_put, key_about, t) (ap (λ (a : List ℕ). Some (heard date g.key (or_else (newcomer a) e))) (same_true g.address b t)))
       (λ f. rw (entry_put, key_about, f))
 
   last_later : (first last : Option (List ℕ)) → later the_gossip (above the_gossip) (heard_at date last) (heard_at date first) ≡ heard_at date (last_of first last)
   unfolding later heard_at last_of
-  last_later first none = refl
-  last_later none (some key) = refl
-  last_later (some k) (some key) = above_equal the_gossip (record { timestamp = date; key = k }) (record { timestamp = date; key = key }) refl
+  last_later first None = refl
+  last_later None (Some key) = refl
+  last_later (Some k) (Some key) = above_equal the_gossip (record { timestamp = date; key = k }) (record { timestamp = date; key = key }) refl
 
   heard_last : (first last : Option (List ℕ)) (e : Option Entry) → told last (told first e) ≡ told (last_of first last) e
   heard_last first last e =
@@ -72,7 +72,7 @@ put_sent : (m : Message) (b : List ℕ) (e : Option Entry)
 unfolding entry_put sent_by updated
 put_sent m b e =
     by_test (same_octets m.sender b)
-    (λ t. rw (entry_put, t) (ap (λ (a : List ℕ). some (updated m.date m.direct (or_else (newcomer a) e))) (same_true m.sender b t)))
+    (λ t. rw (entry_put, t) (ap (λ (a : List ℕ). Some (updated m.date m.direct (or_else (newcomer a) e))) (same_true m.sender b t)))
     (λ f. rw (entry_put, f))
 
 entry_share : (m : Message) (b : List ℕ) (e : Option Entry) → entry_after m b e ≡ shared (above the_direct) (above the_gossip) b (share_of m b) e
@@ -85,12 +85,12 @@ entry_keeps m b e s k =
     rw (entry_share m b e) (share_keeps (above the_direct) (above the_gossip) (above_orderly the_direct) (above_orderly the_gossip) b (share_of m b) s e k)
 
 -- two messages that agree on what they bring at one date
-settled_gossip : (c d : ℕ) (x y : Option (List ℕ)) → ((k l : List ℕ) → x ≡ some k → y ≡ some l → c ≡ d → k ≡ l)
+settled_gossip : (c d : ℕ) (x y : Option (List ℕ)) → ((k l : List ℕ) → x ≡ Some k → y ≡ Some l → c ≡ d → k ≡ l)
     → Settled the_gossip (above the_gossip) (heard_at d y) (heard_at c x)
 unfolding Settled heard_at
-settled_gossip c d x none agree u v p q f g = let z : ◌≡◌ {A = ℕ} 0 1 = cc in absurd (omega arith)
-settled_gossip c d none (some l) agree u v p q f g = let z : ◌≡◌ {A = ℕ} 0 1 = cc in absurd (omega arith)
-settled_gossip c d (some k) (some l) agree u v p q f g =
+settled_gossip c d x None agree u v p q f g = let z : ◌≡◌ {A = ℕ} 0 1 = cc in absurd (omega arith)
+settled_gossip c d None (Some l) agree u v p q f g = let z : ◌≡◌ {A = ℕ} 0 1 = cc in absurd (omega arith)
+settled_gossip c d (Some k) (Some l) agree u v p q f g =
     let pu : record { timestamp = d; key = l } ≡ u = cc in
     let pv : record { timestamp = c; key = k } ≡ v = cc in
     let date : c ≡ d = ap (λ (h : Gossip). h.timestamp) pv ∙ sym (above_tied the_gossip u v f g) ∙ sym (ap (λ (h : Gossip). h.timestamp) pu) in

@@ -8,7 +8,7 @@ use Prim.Native.Nat.{ℕ}
 use mathlib.Core.Path.{◌≡◌, refl, sym, ap, ◌∙◌}
 use mathlib.Core.Bool.{true, false}
 use mathlib.Core.List.{List, [], ◌∷◌, Memᴰ, Permᴰ}
-use mathlib.Core.Option.{Option, some, none}
+use Rattle.std.specs.Prelude.{Option, Some, None}
 use native.Mathlib.Omega.{arith}
 use Rattle.octets.specs.Octets.{AllOctets}
 use Rattle.octets.proofs.Tests.{by_test}
@@ -43,20 +43,20 @@ module _ (c : Call) where
   abbrev message : Message
   message = message_of key_limit c.receipt c.outer c.payload c.setting
 
-  brings_none : (r : Refusal) → early ≡ some r → message_in c ≡ none
+  brings_none : (r : Refusal) → early ≡ Some r → message_in c ≡ None
   unfolding message_in
-  brings_none r e = refused_is (λ (x : Refusal). none) (some message) early r e
+  brings_none r e = refused_is (λ (x : Refusal). None) (Some message) early r e
 
-  pub brings_message : early ≡ none → message_in c ≡ some message
+  pub brings_message : early ≡ None → message_in c ≡ Some message
   unfolding message_in
-  brings_message e = done_is (λ (x : Refusal). none) (some message) early e
+  brings_message e = done_is (λ (x : Refusal). None) (Some message) early e
 
-  pub call_good : OctetCall c → (m : Message) → message_in c ≡ some m → GoodMessage m
+  pub call_good : OctetCall c → (m : Message) → message_in c ≡ Some m → GoodMessage m
   call_good o m e =
       by_refusal early
-      (λ r q. let z : none ≡ some m = sym (brings_none r q) ∙ e in let n : ◌≡◌ {A = ℕ} 0 1 = cc in absurd (omega arith))
+      (λ r q. let z : None ≡ Some m = sym (brings_none r q) ∙ e in let n : ◌≡◌ {A = ℕ} 0 1 = cc in absurd (omega arith))
       (λ q.
-      let z : some message ≡ some m = sym (brings_message q) ∙ e in
+      let z : Some message ≡ Some m = sym (brings_message q) ∙ e in
       let p : message ≡ m = cc in
       rw (sym p) (message_good c.receipt c.outer c.payload c.setting (in_order c.receipt c.outer c.payload c.setting q) key_limit (omega arith) o.outer o.payload))
 
@@ -66,9 +66,9 @@ module _ (c : Call) where
     refusal = refused_processing t c.receipt c.outer c.payload c.setting
 
     -- the three ways that a call can go: refused by 3 to 7, or by 8, or not at all
-    by_way : {P : Type 0} → ((r : Refusal) → early ≡ some r → refusal ≡ some r → P)
-        → (early ≡ none → has_room t message ≡ false → refusal ≡ some NoFreeSlot → P)
-        → (early ≡ none → has_room t message ≡ true → refusal ≡ none → P) → P
+    by_way : {P : Type 0} → ((r : Refusal) → early ≡ Some r → refusal ≡ Some r → P)
+        → (early ≡ None → has_room t message ≡ false → refusal ≡ Some NoFreeSlot → P)
+        → (early ≡ None → has_room t message ≡ true → refusal ≡ None → P) → P
     by_way refused full done =
         by_refusal early
         (λ r e. refused r e (message_refused t c.receipt c.outer c.payload c.setting s r e))
@@ -77,7 +77,7 @@ module _ (c : Call) where
         (λ h. done e h (message_fits t c.receipt c.outer c.payload c.setting s e h))
         (λ h. full e h (message_full t c.receipt c.outer c.payload c.setting s e h)))
 
-    stays : (r : Refusal) → refusal ≡ some r → left_by t c ≡ t
+    stays : (r : Refusal) → refusal ≡ Some r → left_by t c ≡ t
     unfolding left_by
     stays r e = refused_left t c.receipt c.outer c.payload c.setting r e
 
@@ -105,7 +105,7 @@ process_delivers = record { leaves = λ t h c. left_after c t h.sound; fitting =
 pub calls_in_any_order : (t : List ℕ) (cs ds : List Call) → AllOctets t → checked t ≡ Sound → ((c : Call) → Memᴰ c cs → OctetCall c)
     → Permᴰ cs ds
     → (Memᴰ (Refused NoFreeSlot) (answers t cs) → ⊥) → (Memᴰ (Refused NoFreeSlot) (answers t ds) → ⊥)
-    → ((c d : Call) → Memᴰ c cs → Memᴰ d cs → (m n : Message) → message_in c ≡ some m → message_in d ≡ some n → Agree m n)
+    → ((c d : Call) → Memᴰ c cs → Memᴰ d cs → (m n : Message) → message_in c ≡ Some m → message_in d ≡ Some n → Agree m n)
     → SayTheSame (table_after t cs) (table_after t ds)
 calls_in_any_order t cs ds o s octets p n₁ n₂ agree =
     say_the_same (table_after t cs) (table_after t ds)

@@ -9,7 +9,7 @@ use mathlib.Core.Path.{◌≡◌, refl, sym, ap, ◌∙◌}
 use mathlib.Core.Bool.{true}
 use mathlib.Core.List.Permᴰ
 use mathlib.Core.List.{List, [], ◌∷◌, Memᴰ, Permᴰ}
-use mathlib.Core.Option.{Option, some, none}
+use Rattle.std.specs.Prelude.{Option, Some, None}
 use Rattle.octets.specs.Octets.{AllOctets}
 use Rattle.octets.proofs.Tests.{and_left, and_right}
 use Rattle.heads.specs.Entry.{Entry}
@@ -25,8 +25,8 @@ use Rattle.order.proofs.Forms.{Lawful, slots_lawful}
 
 -- what a call does to the entry of an address
 unfoldable pub step : List ℕ → Option Message → Option Entry → Option Entry
-step b none e = e
-step b (some m) e = entry_after m b e
+step b None e = e
+step b (Some m) e = entry_after m b e
 
 -- a run from t to u: u is a sound table, and each address has what its entry in t becomes, message by message
 pub record Fetched {T : Type 0} (form : Form T) (t u : T) (list : List (Option Message)) : Type 0 where
@@ -39,29 +39,29 @@ pub record Alike {T : Type 0} (form : Form T) (t u : T) : Type 0 where
   pub entry : (a : List ℕ) → form.entry t a ≡ form.entry u a
 
 module _ {T : Type 0} (form : Form T) (law : Lawful form) where
-  module _ (list : List (Option Message)) (good : (m : Message) → Memᴰ (some m) list → form.IsGood m) (agree : Agreeing list) where
+  module _ (list : List (Option Message)) (good : (m : Message) → Memᴰ (Some m) list → form.IsGood m) (agree : Agreeing list) where
     call_keeps : (b : List ℕ) (c : Option Message) → Memᴰ c list → (e : Option Entry) → Known e → Known (step b c e)
     unfolding step
-    call_keeps b none i e k = k
-    call_keeps b (some m) i e k = entry_keeps m b e (law.stamped m (good m i)) k
+    call_keeps b None i e k = k
+    call_keeps b (Some m) i e k = entry_keeps m b e (law.stamped m (good m i)) k
 
     call_swaps : (b : List ℕ) (c d : Option Message) → Memᴰ c list → Memᴰ d list → (e : Option Entry) → Known e
         → step b d (step b c e) ≡ step b c (step b d e)
     unfolding step Agreeing
-    call_swaps b none d i j e k = refl
-    call_swaps b (some m) none i j e k = refl
-    call_swaps b (some m) (some n) i j e k = entry_swap m n (law.stamped m (good m i)) (law.stamped n (good n j)) (agree m n i j) b e k
+    call_swaps b None d i j e k = refl
+    call_swaps b (Some m) None i j e k = refl
+    call_swaps b (Some m) (Some n) i j e k = entry_swap m n (law.stamped m (good m i)) (law.stamped n (good n j)) (agree m n i j) b e k
 
     calls_steps : (b : List ℕ) → Steps (step b) Known list
     calls_steps b = record { keeps = call_keeps b; swaps = call_swaps b }
 
-  pub fetched_one : (t : T) (c : Option Message) → form.IsSound t → ((m : Message) → c ≡ some m → form.IsGood m) → fits form t c ≡ true
+  pub fetched_one : (t : T) (c : Option Message) → form.IsSound t → ((m : Message) → c ≡ Some m → form.IsGood m) → fits form t c ≡ true
       → Fetched form t (after form t c) (c ∷ [])
   unfolding after fits step folded
-  fetched_one t none s good r = record { sound = s; entries = λ b. refl }
-  fetched_one t (some m) s good r = record { sound = law.kept t m s (good m refl) r; entries = law.entries t m s (good m refl) r }
+  fetched_one t None s good r = record { sound = s; entries = λ b. refl }
+  fetched_one t (Some m) s good r = record { sound = law.kept t m s (good m refl) r; entries = law.entries t m s (good m refl) r }
 
-  pub fetched_well : (list : List (Option Message)) (t : T) → form.IsSound t → ((m : Message) → Memᴰ (some m) list → form.IsGood m)
+  pub fetched_well : (list : List (Option Message)) (t : T) → form.IsSound t → ((m : Message) → Memᴰ (Some m) list → form.IsGood m)
       → all_fit_in form t list ≡ true → Fetched form t (fetched_in form t list) list
   unfolding fetched_in all_fit_in folded
   fetched_well [] t s good r = record { sound = s; entries = λ b. refl }
@@ -73,11 +73,11 @@ module _ {T : Type 0} (form : Form T) (law : Lawful form) where
       (and_right (fits form t c) (all_fit_in form (after form t c) rest) r) in
       record { sound = others.sound; entries = λ b. others.entries b ∙ ap (folded (step b) rest) (one.entries b) }
 
-  pub fetch_alike : (t : T) (ms ns : List (Option Message)) → form.IsSound t → ((m : Message) → Memᴰ (some m) ms → form.IsGood m)
+  pub fetch_alike : (t : T) (ms ns : List (Option Message)) → form.IsSound t → ((m : Message) → Memᴰ (Some m) ms → form.IsGood m)
       → Permᴰ ms ns → all_fit_in form t ms ≡ true → all_fit_in form t ns ≡ true → Agreeing ms → Alike form (fetched_in form t ms) (fetched_in form t ns)
   fetch_alike t ms ns s good p r q agree =
       let first : Fetched form t (fetched_in form t ms) ms = fetched_well ms t s good r in
-      let second : Fetched form t (fetched_in form t ns) ns = fetched_well ns t s (λ m i. good m (permuted_stands (some m) (Permᴰ.symm p) i)) q in
+      let second : Fetched form t (fetched_in form t ns) ns = fetched_well ns t s (λ m i. good m (permuted_stands (Some m) (Permᴰ.symm p) i)) q in
       record {
         sound = first.sound;
         sound_too = second.sound;
@@ -100,7 +100,7 @@ say_the_same t u h =
 -- C11: from one sound table, two orders of the same messages lead to tables that say the same, where neither order refuses one for room and any two
 -- that bring an address something at the same date bring it the same.
 pub fetch_order : (t : List ℕ) (ms ns : List (Option Message)) → AllOctets t → checked t ≡ Sound
-    → ((m : Message) → Memᴰ (some m) ms → GoodMessage m) → Permᴰ ms ns → all_fit t ms ≡ true → all_fit t ns ≡ true → Agreeing ms
+    → ((m : Message) → Memᴰ (Some m) ms → GoodMessage m) → Permᴰ ms ns → all_fit t ms ≡ true → all_fit t ns ≡ true → Agreeing ms
     → SayTheSame (fetched t ms) (fetched t ns)
 fetch_order t ms ns o s good p r q agree =
     say_the_same (fetched t ms) (fetched t ns)

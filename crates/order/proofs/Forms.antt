@@ -5,7 +5,7 @@
 use mathlib.Core.Path.{◌≡◌, refl}
 use mathlib.Core.Bool.{true}
 use mathlib.Core.List.{List}
-use mathlib.Core.Option.{Option, some, none}
+use Rattle.std.specs.Prelude.{Option, Some, None}
 use Prim.Native.Nat.{ℕ}
 use Rattle.octets.specs.Options.{IfSome}
 use Rattle.heads.specs.Entry.{Direct, Entry}
@@ -32,24 +32,24 @@ unfolding Stamped
 good_stamped m g = go m.direct g.direct
   where
     go : (brought : Option Direct) → IfSome (GoodBrought m.date) brought → IfSome (λ (d : Direct). d.timestamp ≡ m.date) brought
-    go none h = tt
-    go (some d) h = h.dated
+    go None h = tt
+    go (Some d) h = h.dated
 
 good_timely : (e : Entry) → Good e → Timely e
 unfolding Timely
 good_timely e g = go e.direct g.direct
   where
     go : (direct : Option Direct) → IfSome (GoodDirect e.last_seen) direct → IfSome (Seen e.last_seen) direct
-    go none h = tt
-    go (some d) h = record { was_seen = h.was_seen; not_below = h.not_below }
+    go None h = tt
+    go (Some d) h = record { was_seen = h.was_seen; not_below = h.not_below }
 
 entry_known : (t : List ℕ) → SoundSlots t → (a : List ℕ) → Known (entry_in t a)
 unfolding Known
 entry_known t h a = go (entry_in t a) refl
   where
     go : (e : Option Entry) → entry_in t a ≡ e → IfSome Timely e
-    go none q = tt
-    go (some e) q = good_timely e (entry_good t a h.sound h.octets e q).0
+    go None q = tt
+    go (Some e) q = good_timely e (entry_good t a h.sound h.octets e q).0
 
 -- where there is room, a message is applied
 module _ (t : List ℕ) (m : Message) (h : SoundSlots t) (g : GoodMessage m) (r : has_room t m ≡ true) where

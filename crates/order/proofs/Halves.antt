@@ -11,7 +11,7 @@ use Prim.Native.Nat.{ℕ, ◌≤◌, max}
 use mathlib.Core.Path.{◌≡◌, refl, sym, ap, ◌∙◌}
 use mathlib.Core.Bool.{true, false, false≢true}
 use mathlib.Core.List.{List}
-use mathlib.Core.Option.{Option, some, none}
+use Rattle.std.specs.Prelude.{Option, Some, None}
 use native.Mathlib.Omega.{arith}
 use Rattle.octets.specs.Options.{or_else, is_some, IfSome}
 use Rattle.octets.proofs.Tests.{by_test}
@@ -33,20 +33,20 @@ unfoldable pub Stamped : ℕ → Option Direct → Type 0
 Stamped date brought = IfSome (λ (d : Direct). d.timestamp ≡ date) brought
 
 -- a message that is not younger than the direct half would not have raised last seen either
-raised_not : (seen : Option ℕ) (d : Direct) (date : ℕ) → Seen seen d → date ≤ d.timestamp → some (max (or_else 0 seen) date) ≡ seen
+raised_not : (seen : Option ℕ) (d : Direct) (date : ℕ) → Seen seen d → date ≤ d.timestamp → Some (max (or_else 0 seen) date) ≡ seen
 unfolding is_some or_else
-raised_not none d date h l = absurd (false≢true h.was_seen)
-raised_not (some s) d date h l = ap some (omega (arith, h.not_below))
+raised_not None d date h l = absurd (false≢true h.was_seen)
+raised_not (Some s) d date h l = ap Some (omega (arith, h.not_below))
 
-seen_more : (seen : Option ℕ) (date : ℕ) (direct : Option Direct) → IfSome (Seen seen) direct → IfSome (Seen (some (max (or_else 0 seen) date))) direct
+seen_more : (seen : Option ℕ) (date : ℕ) (direct : Option Direct) → IfSome (Seen seen) direct → IfSome (Seen (Some (max (or_else 0 seen) date))) direct
 unfolding is_some or_else
-seen_more seen date none h = tt
-seen_more seen date (some d) h = record { was_seen = refl; not_below = omega (arith, h.not_below) }
+seen_more seen date None h = tt
+seen_more seen date (Some d) h = record { was_seen = refl; not_below = omega (arith, h.not_below) }
 
-seen_new : (seen : Option ℕ) (date : ℕ) (brought : Option Direct) → Stamped date brought → IfSome (Seen (some (max (or_else 0 seen) date))) brought
+seen_new : (seen : Option ℕ) (date : ℕ) (brought : Option Direct) → Stamped date brought → IfSome (Seen (Some (max (or_else 0 seen) date))) brought
 unfolding Stamped is_some or_else
-seen_new seen date none s = tt
-seen_new seen date (some d) s = record { was_seen = refl; not_below = omega arith }
+seen_new seen date None s = tt
+seen_new seen date (Some d) s = record { was_seen = refl; not_below = omega arith }
 
 -- last seen is raised, and of the direct halves the later one stands
 module _ (order : Order Direct) where
@@ -54,29 +54,29 @@ module _ (order : Order Direct) where
   sent_parts date brought e =
       record {
         address = e.address;
-        last_seen = some (max (or_else 0 e.last_seen) date);
+        last_seen = Some (max (or_else 0 e.last_seen) date);
         direct = later the_direct order brought e.direct;
         gossip = e.gossip;
       }
 
   -- by its own timestamp the old half stays or is replaced
   brought_stays : (date : ℕ) (brought : Option Direct) (d : Direct) → Stamped date brought → order d date brought ≡ true
-      → later the_direct order brought (some d) ≡ some d
+      → later the_direct order brought (Some d) ≡ Some d
   unfolding later Stamped over
-  brought_stays date none d s t = refl
-  brought_stays date (some x) d s t = later_stays the_direct order x d (ap (λ (n : ℕ). order d n (some x)) s ∙ t)
+  brought_stays date None d s t = refl
+  brought_stays date (Some x) d s t = later_stays the_direct order x d (ap (λ (n : ℕ). order d n (Some x)) s ∙ t)
 
   brought_stands : (date : ℕ) (brought : Option Direct) (a : List ℕ) (seen : Option ℕ) (d : Direct) (gossip : Option Gossip)
       → Stamped date brought → order d date brought ≡ false
-      → with_half the_direct brought (seen_by date (record { address = a; last_seen = seen; direct = some d; gossip = gossip }))
-      ≡ sent_parts date brought (record { address = a; last_seen = seen; direct = some d; gossip = gossip })
+      → with_half the_direct brought (seen_by date (record { address = a; last_seen = seen; direct = Some d; gossip = gossip }))
+      ≡ sent_parts date brought (record { address = a; last_seen = seen; direct = Some d; gossip = gossip })
   unfolding later Stamped over seen_by with_direct
-  brought_stands date none a seen d gossip s f = refl
-  brought_stands date (some x) a seen d gossip s f = λ i.
+  brought_stands date None a seen d gossip s f = refl
+  brought_stands date (Some x) a seen d gossip s f = λ i.
       record {
         address = a;
-        last_seen = some (max (or_else 0 seen) date);
-        direct = sym (later_replaces the_direct order x d (ap (λ (n : ℕ). order d n (some x)) s ∙ f)) i;
+        last_seen = Some (max (or_else 0 seen) date);
+        direct = sym (later_replaces the_direct order x d (ap (λ (n : ℕ). order d n (Some x)) s ∙ f)) i;
         gossip = gossip;
       }
 
@@ -86,10 +86,10 @@ module _ (order : Order Direct) where
         → taking the_direct order date brought (record { address = a; last_seen = seen; direct = direct; gossip = gossip })
         ≡ sent_parts date brought (record { address = a; last_seen = seen; direct = direct; gossip = gossip })
     unfolding taking stays later seen_by with_direct
-    sent_by date none a seen none gossip s h = refl
-    sent_by date (some x) a seen none gossip s h = refl
-    sent_by date brought a seen (some d) gossip s h =
-        let e : Entry = record { address = a; last_seen = seen; direct = some d; gossip = gossip } in
+    sent_by date None a seen None gossip s h = refl
+    sent_by date (Some x) a seen None gossip s h = refl
+    sent_by date brought a seen (Some d) gossip s h =
+        let e : Entry = record { address = a; last_seen = seen; direct = Some d; gossip = gossip } in
         by_test (order d date brought)
         (λ t.
         taking_stays the_direct order date brought e t
@@ -111,7 +111,7 @@ module _ (order : Order Direct) where
     unfolding Timely
     timely_sent date brought e s h =
         rw (sent_parts_lem date brought e s h)
-        (later_holds the_direct order (Seen (some (max (or_else 0 e.last_seen) date))) brought e.direct
+        (later_holds the_direct order (Seen (Some (max (or_else 0 e.last_seen) date))) brought e.direct
         (seen_new e.last_seen date brought s) (seen_more e.last_seen date e.direct h))
 
     pub sent_swap : (d₁ d₂ : ℕ) (b₁ b₂ : Option Direct) (e : Entry) → Stamped d₁ b₁ → Stamped d₂ b₂ → Timely e
@@ -128,31 +128,31 @@ module _ (order : Order Direct) where
         twice d₁ d₂ b₁ b₂ s₁ s₂ =
             sent_parts_lem d₂ b₂ (taking the_direct order d₁ b₁ e) s₂ (timely_sent d₁ b₁ e s₁ h) ∙ ap (sent_parts d₂ b₂) (sent_parts_lem d₁ b₁ e s₁ h)
 
-        seen : some (max (max (or_else 0 e.last_seen) d₁) d₂) ≡ some (max (max (or_else 0 e.last_seen) d₂) d₁)
-        seen = ap some (omega arith)
+        seen : Some (max (max (or_else 0 e.last_seen) d₁) d₂) ≡ Some (max (max (or_else 0 e.last_seen) d₂) d₁)
+        seen = ap Some (omega arith)
 
 -- of the gossip halves the later one stands
 module _ (order : Order Gossip) where
   abbrev pub hearing : Gossip → Entry → Entry
-  hearing g e = taking the_gossip order g.timestamp (some g) e
+  hearing g e = taking the_gossip order g.timestamp (Some g) e
 
   abbrev pub heard_parts : Gossip → Entry → Entry
   heard_parts g e =
-      record { address = e.address; last_seen = e.last_seen; direct = e.direct; gossip = later the_gossip order (some g) e.gossip }
+      record { address = e.address; last_seen = e.last_seen; direct = e.direct; gossip = later the_gossip order (Some g) e.gossip }
 
   heard_by : (g : Gossip) (a : List ℕ) (seen : Option ℕ) (direct : Option Direct) (gossip : Option Gossip)
       → hearing g (record { address = a; last_seen = seen; direct = direct; gossip = gossip })
       ≡ heard_parts g (record { address = a; last_seen = seen; direct = direct; gossip = gossip })
   unfolding taking stays later over with_gossip
-  heard_by g a seen direct none = refl
-  heard_by g a seen direct (some old) =
-      let e : Entry = record { address = a; last_seen = seen; direct = direct; gossip = some old } in
-      by_test (order old g.timestamp (some g))
+  heard_by g a seen direct None = refl
+  heard_by g a seen direct (Some old) =
+      let e : Entry = record { address = a; last_seen = seen; direct = direct; gossip = Some old } in
+      by_test (order old g.timestamp (Some g))
       (λ t.
-      taking_stays the_gossip order g.timestamp (some g) e t
+      taking_stays the_gossip order g.timestamp (Some g) e t
       ∙ (λ i. record { address = a; last_seen = seen; direct = direct; gossip = sym (later_stays the_gossip order g old t) i }))
       (λ f.
-      taking_takes the_gossip order g.timestamp (some g) e f
+      taking_takes the_gossip order g.timestamp (Some g) e f
       ∙ (λ i. record { address = a; last_seen = seen; direct = direct; gossip = sym (later_replaces the_gossip order g old f) i }))
 
   pub heard_parts_lem : (g : Gossip) (e : Entry) → hearing g e ≡ heard_parts g e
@@ -166,25 +166,25 @@ module _ (order : Order Gossip) where
   both_parts g₁ g₂ e = heard_parts_lem g₂ (hearing g₁ e) ∙ ap (heard_parts g₂) (heard_parts_lem g₁ e)
 
   module _ (o : Orderly the_gossip order) (g₁ g₂ : Gossip) (e : Entry) where
-    pub heard_swap : Settled the_gossip order (some g₂) (some g₁) → hearing g₂ (hearing g₁ e) ≡ hearing g₁ (hearing g₂ e)
+    pub heard_swap : Settled the_gossip order (Some g₂) (Some g₁) → hearing g₂ (hearing g₁ e) ≡ hearing g₁ (hearing g₂ e)
     heard_swap same =
         both_parts g₁ g₂ e
         ∙ (λ i. record {
           address = e.address;
           last_seen = e.last_seen;
           direct = e.direct;
-          gossip = later_swap the_gossip order o (some g₂) (some g₁) e.gossip same i;
+          gossip = later_swap the_gossip order o (Some g₂) (Some g₁) e.gossip same i;
         })
         ∙ sym (both_parts g₂ g₁ e)
 
-    pub heard_twice : (g : Gossip) → later the_gossip order (some g₂) (some g₁) ≡ some g → hearing g₂ (hearing g₁ e) ≡ hearing g e
+    pub heard_twice : (g : Gossip) → later the_gossip order (Some g₂) (Some g₁) ≡ Some g → hearing g₂ (hearing g₁ e) ≡ hearing g e
     heard_twice g q =
         both_parts g₁ g₂ e
         ∙ (λ i. record {
           address = e.address;
           last_seen = e.last_seen;
           direct = e.direct;
-          gossip = (later_twice the_gossip order o (some g₁) (some g₂) e.gossip ∙ ap (λ (x : Option Gossip). later the_gossip order x e.gossip) q) i;
+          gossip = (later_twice the_gossip order o (Some g₁) (Some g₂) e.gossip ∙ ap (λ (x : Option Gossip). later the_gossip order x e.gossip) q) i;
         })
         ∙ sym (heard_parts_lem g e)
 
@@ -199,5 +199,5 @@ module _ (order : Order Gossip) where
       (λ f. rw (taking_takes the_direct sending date b e f) (with_field b ∙ sym (taking_takes the_direct sending date b (heard_parts g e) f))))
     where
       with_field : (b : Option Direct) → heard_parts g (with_half the_direct b (seen_by date e)) ≡ with_half the_direct b (seen_by date (heard_parts g e))
-      with_field none = refl
-      with_field (some d) = refl
+      with_field None = refl
+      with_field (Some d) = refl

@@ -9,7 +9,7 @@ use Prim.Native.Nat.{ℕ}
 use mathlib.Core.Path.{◌≡◌, refl, sym, ap, ◌∙◌}
 use mathlib.Core.Bool.{Bool, true, false}
 use mathlib.Core.List.{List}
-use mathlib.Core.Option.{Option, some, none}
+use Rattle.std.specs.Prelude.{Option, Some, None}
 use Rattle.octets.specs.Options.{or_else, IfSome}
 use Rattle.octets.proofs.Tests.{by_test}
 use Rattle.heads.specs.Entry.{Direct, Gossip, Entry, newcomer}
@@ -25,12 +25,12 @@ pub record Share : Type 0 where
 
 -- U6, U7, U8, U9: the sender's part, where the address is the sender's
 unfoldable pub sent_by : Order Direct → List ℕ → Bool → ℕ → Option Direct → Option Entry → Option Entry
-sent_by order b true date brought e = some (taking the_direct order date brought (or_else (newcomer b) e))
+sent_by order b true date brought e = Some (taking the_direct order date brought (or_else (newcomer b) e))
 sent_by order b false date brought e = e
 
 unfoldable pub heard_of : Order Gossip → List ℕ → Option Gossip → Option Entry → Option Entry
-heard_of order b none e = e
-heard_of order b (some g) e = some (hearing order g (or_else (newcomer b) e))
+heard_of order b None e = e
+heard_of order b (Some g) e = Some (hearing order g (or_else (newcomer b) e))
 
 abbrev pub shared : Order Direct → Order Gossip → List ℕ → Share → Option Entry → Option Entry
 shared sending telling b s e = heard_of telling b s.gossip (sent_by sending b s.sent s.date s.direct e)
@@ -41,19 +41,19 @@ Known e = IfSome Timely e
 
 known_else : (b : List ℕ) (e : Option Entry) → Known e → Timely (or_else (newcomer b) e)
 unfolding Known Timely newcomer or_else
-known_else b none k = tt
-known_else b (some e) k = k
+known_else b None k = tt
+known_else b (Some e) k = k
 
 -- G5: gossip behind gossip, in order
 module _ (order : Order Gossip) (o : Orderly the_gossip order) (b : List ℕ) where
   pub heard_both : (x y : Option Gossip) (e : Option Entry) → heard_of order b y (heard_of order b x e) ≡ heard_of order b (later the_gossip order y x) e
   unfolding heard_of later or_else
-  heard_both x none e = refl
-  heard_both none (some h) e = refl
-  heard_both (some g) (some h) e =
+  heard_both x None e = refl
+  heard_both None (Some h) e = refl
+  heard_both (Some g) (Some h) e =
       by_test (over the_gossip order g h)
-      (λ t. rw (later_stays the_gossip order h g t) (ap some (heard_twice order o g h (or_else (newcomer b) e) g (later_stays the_gossip order h g t))))
-      (λ f. rw (later_replaces the_gossip order h g f) (ap some (heard_twice order o g h (or_else (newcomer b) e) h (later_replaces the_gossip order h g f))))
+      (λ t. rw (later_stays the_gossip order h g t) (ap Some (heard_twice order o g h (or_else (newcomer b) e) g (later_stays the_gossip order h g t))))
+      (λ f. rw (later_replaces the_gossip order h g f) (ap Some (heard_twice order o g h (or_else (newcomer b) e) h (later_replaces the_gossip order h g f))))
 
 module _ (sending : Order Direct) (telling : Order Gossip) (so : Orderly the_direct sending) (to : Orderly the_gossip telling) (b : List ℕ) where
   known_sent : (x : Bool) (date : ℕ) (brought : Option Direct) (e : Option Entry) → Stamped date brought → Known e
@@ -64,8 +64,8 @@ module _ (sending : Order Direct) (telling : Order Gossip) (so : Orderly the_dir
 
   known_heard : (gossip : Option Gossip) (e : Option Entry) → Known e → Known (heard_of telling b gossip e)
   unfolding Known heard_of
-  known_heard none e k = k
-  known_heard (some g) e k = timely_heard telling g (or_else (newcomer b) e) (known_else b e k)
+  known_heard None e k = k
+  known_heard (Some g) e k = timely_heard telling g (or_else (newcomer b) e) (known_else b e k)
 
   pub share_keeps : (s : Share) → Stamped s.date s.direct → (e : Option Entry) → Known e → Known (shared sending telling b s e)
   share_keeps s h e k =
@@ -76,15 +76,15 @@ module _ (sending : Order Direct) (telling : Order Gossip) (so : Orderly the_dir
       → sent_by sending b x date brought (heard_of telling b gossip e) ≡ heard_of telling b gossip (sent_by sending b x date brought e)
   unfolding sent_by heard_of or_else
   sent_heard false date brought gossip e = refl
-  sent_heard true date brought none e = refl
-  sent_heard true date brought (some g) e = ap some (sym (apart_swap telling sending date brought g (or_else (newcomer b) e)))
+  sent_heard true date brought None e = refl
+  sent_heard true date brought (Some g) e = ap Some (sym (apart_swap telling sending date brought g (or_else (newcomer b) e)))
 
   heard_heard : (x y : Option Gossip) (e : Option Entry) → Settled the_gossip telling y x
       → heard_of telling b y (heard_of telling b x e) ≡ heard_of telling b x (heard_of telling b y e)
   unfolding heard_of or_else
-  heard_heard none y e same = refl
-  heard_heard (some g) none e same = refl
-  heard_heard (some g) (some h) e same = ap some (heard_swap telling to g h (or_else (newcomer b) e) same)
+  heard_heard None y e same = refl
+  heard_heard (Some g) None e same = refl
+  heard_heard (Some g) (Some h) e same = ap Some (heard_swap telling to g h (or_else (newcomer b) e) same)
 
   module _ (s r : Share) (hs : Stamped s.date s.direct) (hr : Stamped r.date r.direct) where
     sent_sent : (x y : Bool) (e : Option Entry) → Known e → (x ≡ true → y ≡ true → Settled the_direct sending r.direct s.direct)
@@ -94,7 +94,7 @@ module _ (sending : Order Direct) (telling : Order Gossip) (so : Orderly the_dir
     sent_sent false y e k same = refl
     sent_sent true false e k same = refl
     sent_sent true true e k same =
-        ap some (sent_swap sending so s.date r.date s.direct r.direct (or_else (newcomer b) e) hs hr (known_else b e k) (same refl refl))
+        ap Some (sent_swap sending so s.date r.date s.direct r.direct (or_else (newcomer b) e) hs hr (known_else b e k) (same refl refl))
 
     pub share_swap : (s.sent ≡ true → r.sent ≡ true → Settled the_direct sending r.direct s.direct)
         → Settled the_gossip telling r.gossip s.gossip → (e : Option Entry) → Known e

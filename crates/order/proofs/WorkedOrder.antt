@@ -14,7 +14,7 @@ use mathlib.Core.Bool.{true, false}
 use mathlib.Core.List.Memᴰ
 use mathlib.Core.List.Permᴰ
 use mathlib.Core.List.{List, [], ◌∷◌, ◌++◌, Memᴰ}
-use mathlib.Core.Option.{Option, some, none, bind}
+use Rattle.std.specs.Prelude.{Option, Some, None}
 use native.Mathlib.Omega.{arith}
 use borrow.Author.Tests.{le-leb}
 use lib.Dec.{leb}
@@ -91,7 +91,7 @@ mail letters receipt =
 
 abbrev bringing : String → ℕ → Message
 bringing key receipt =
-    record { sender = ann; date = receipt; direct = some (record { timestamp = receipt; key = ascii key; «mutual» = false }); gossip = [] }
+    record { sender = ann; date = receipt; direct = Some (record { timestamp = receipt; key = ascii key; «mutual» = false }); gossip = [] }
 
 abbrev older : Call
 older = mail "Zm9v" 1000
@@ -101,11 +101,11 @@ younger = mail "YmFy" 2000
 
 -- a call that none of 3 to 7 refuses, and what it brings
 pub record Reads (c : Call) (m : Message) : Type 0 where
-  pub in_order : first_of (message_rows c.receipt c.outer c.payload c.setting) ≡ none
+  pub in_order : first_of (message_rows c.receipt c.outer c.payload c.setting) ≡ None
   pub brings : message_of key_limit c.receipt c.outer c.payload c.setting ≡ m
 
 reads : Reads older (bringing "foo" 1000) × Reads younger (bringing "bar" 2000)
-unfolding message_rows message_of first_of is_some or_else message.payload_in settings.taken message.message_by message.direct_by bind octets.lower octets.lowered octets.same_name octets.same_octets octets.starts_with blank tokens.past tokens.kind_of tokens.control runs.belongs runs.run tokens.after_quote base64.decode base64.follow base64.before base64.at_end base64.grouped base64.closed base64.sign_of tests.without header.fields_of header.fields header.fields_within in_front header.unfolded header.over header.of_ending header.opens_field header.raw_length header.closes header.is_report tests.every pieces.on_first pieces.pieces pieces.before pieces.behind ascii·address.atom ascii·address.local_part ascii·address.free_ends labels.label_octet labels.label_form labels.fits labels.label labels.labelled address.domain address.domain_form address.address_form address.plain address.canonical pieces.from lowering.lower_text lowering.lower_points lowering.lower_point utf8.points utf8.tails utf8.lead_of utf8.encoded utf8.encoded_one list.opening_of holds list.run_token list.quoted_token list.token_at list.first_token grammar.after_address grammar.after list.listed_by list.listed list.addresses only_one date.effective_date attributes.trimmed_front attributes.trimmed_back attributes.trimmed attributes.name_of attributes.attribute attributes.attribute_of steps.with_address steps.with_preference steps.step keyfield.said_with keyfield.if_last keyfield.said_from keyfield.said_of keyfield.limited keyfield.key_of keyfield.with_key keyfield.field_by keyfield.field_of keyfield.naming keyfield.valid_for keyfield.chosen keyfield.valid_fields keyfield.counted fields.fields_in fields.is_kind fields.values_of outer_specs.canonical_of outer_specs.sender_by outer_specs.sender_in outer_specs.any_report outer_specs.is_reported outer_specs.date_by outer_specs.date_in keys.counted_in keys.accepted keys.gossip_in pieces.following pieces.joined
+unfolding message_rows message_of first_of is_some or_else message.payload_in settings.taken message.message_by message.direct_by octets.lower octets.lowered octets.same_name octets.same_octets octets.starts_with blank tokens.past tokens.kind_of tokens.control runs.belongs runs.run tokens.after_quote base64.decode base64.follow base64.before base64.at_end base64.grouped base64.closed base64.sign_of tests.without header.fields_of header.fields header.fields_within in_front header.unfolded header.over header.of_ending header.opens_field header.raw_length header.closes header.is_report tests.every pieces.on_first pieces.pieces pieces.before pieces.behind ascii·address.atom ascii·address.local_part ascii·address.free_ends labels.label_octet labels.label_form labels.fits labels.label labels.labelled address.domain address.domain_form address.address_form address.plain address.canonical pieces.from lowering.lower_text lowering.lower_points lowering.lower_point utf8.points utf8.tails utf8.lead_of utf8.encoded utf8.encoded_one list.opening_of holds list.run_token list.quoted_token list.token_at list.first_token grammar.after_address grammar.after list.listed_by list.listed list.addresses only_one date.effective_date attributes.trimmed_front attributes.trimmed_back attributes.trimmed attributes.name_of attributes.attribute attributes.attribute_of steps.with_address steps.with_preference steps.step keyfield.said_with keyfield.if_last keyfield.said_from keyfield.said_of keyfield.limited keyfield.key_of keyfield.with_key keyfield.field_by keyfield.field_of keyfield.naming keyfield.valid_for keyfield.chosen keyfield.valid_fields keyfield.counted fields.fields_in fields.is_kind fields.values_of outer_specs.canonical_of outer_specs.sender_by outer_specs.sender_in outer_specs.any_report outer_specs.is_reported outer_specs.date_by outer_specs.date_in keys.counted_in keys.accepted keys.gossip_in pieces.following pieces.joined
 reads = (record { in_order = refl; brings = refl }, record { in_order = refl; brings = refl })
 
 free_octets : AllOctets free
@@ -115,7 +115,7 @@ free_sound : checked free ≡ Sound
 unfolding checked_by table.whole table.slots table.judged_by table.right_by table.slot_at slots.free octets.all_zero
 free_sound = refl
 
-free_nobody : entry_in free ann ≡ none
+free_nobody : entry_in free ann ≡ None
 unfolding entry_in found table.lowest table.has_address table.slots table.slot_at slots.marked slots.address_of number octets.same_octets
 free_nobody = refl
 
@@ -136,11 +136,11 @@ module _ (key : String) (receipt : ℕ) where
 
 -- a call that brings a message for which there is room
 module _ (c : Call) (m : Message) (e : Reads c m) where
-  brings_it : message_in c ≡ some m
-  brings_it = brings_message c e.in_order ∙ ap some e.brings
+  brings_it : message_in c ≡ Some m
+  brings_it = brings_message c e.in_order ∙ ap Some e.brings
 
   module _ (t : List ℕ) (s : checked t ≡ Sound) (r : has_room t m ≡ true) where
-    none_holds : refused_processing t c.receipt c.outer c.payload c.setting ≡ none
+    none_holds : refused_processing t c.receipt c.outer c.payload c.setting ≡ None
     none_holds = message_fits t c.receipt c.outer c.payload c.setting s e.in_order (rw e.brings r)
 
     done : answer_to t c ≡ Done
@@ -171,14 +171,14 @@ module _ (c : Call) (o : OctetCall c) (key : String) (at : ℕ) (e : Reads c (br
   first_octets : AllOctets first
   first_octets = applied_octets free (bringing key at) good free_sound free_octets
 
-  first_entry : entry_in first ann ≡ entry_after (bringing key at) ann none
+  first_entry : entry_in first ann ≡ entry_after (bringing key at) ann None
   first_entry =
       applied_entry free (bringing key at) good free_sound free_octets (free_room key at) ann
       ∙ ap (entry_after (bringing key at) ann) free_nobody
 
   module _ (d : Call) (p : OctetCall d) (next : String) (then : ℕ) (f : Reads d (bringing next then)) where
     next_room : has_room first (bringing next then) ≡ true
-    next_room = known_room next then first (stands_present first ann ∙ ap is_some first_entry ∙ leaves_ann key at none)
+    next_room = known_room next then first (stands_present first ann ∙ ap is_some first_entry ∙ leaves_ann key at None)
 
     next_done : answer_to first d ≡ Done
     next_done = done d (bringing next then) f first first_sound next_room
@@ -200,7 +200,7 @@ module _ (c : Call) (o : OctetCall c) (key : String) (at : ℕ) (e : Reads c (br
     both_sound : checked (table_after free (c ∷ d ∷ [])) ≡ Sound
     both_sound = rw both_after (applied_sound first (bringing next then) next_good first_sound first_octets)
 
-    both_entry : entry_in (table_after free (c ∷ d ∷ [])) ann ≡ entry_after (bringing next then) ann (entry_after (bringing key at) ann none)
+    both_entry : entry_in (table_after free (c ∷ d ∷ [])) ann ≡ entry_after (bringing next then) ann (entry_after (bringing key at) ann None)
     both_entry =
         ap (λ (t : List ℕ). entry_in t ann) both_after
         ∙ applied_entry first (bringing next then) next_good first_sound first_octets next_room ann
@@ -231,8 +231,8 @@ no_eight list e i = ⊎_elim not_done (λ j. ⊎_elim not_done Memᴰ.not-nil (M
 same_agrees : (m n : Message) → m ≡ n → Agree m n
 same_agrees m n e =
     record {
-      direct = λ a c d p q same. let r : some c ≡ some d = sym p ∙ rw e q in let s : c ≡ d = cc in (rw s, rw s);
-      gossip = λ a key other p q same. let r : some key ≡ some other = sym p ∙ rw e q in cc;
+      direct = λ a c d p q same. let r : Some c ≡ Some d = sym p ∙ rw e q in let s : c ≡ d = cc in (rw s, rw s);
+      gossip = λ a key other p q same. let r : Some key ≡ Some other = sym p ∙ rw e q in cc;
     }
 
 dates_agree : (m n : Message) → (m.date ≡ n.date → ⊥) → Agree m n
@@ -246,16 +246,16 @@ each : (P : Call → Type 0) → P older → P younger → (c : Call) → Memᴰ
 each P p q c i =
     ⊎_elim (λ e. rw e p) (λ j. ⊎_elim (λ e. rw e q) (λ k. absurd (Memᴰ.not-nil k)) (Memᴰ.cases_cons j)) (Memᴰ.cases_cons i)
 
-one_of_both : (m : Message) (c : Call) → Memᴰ c both → message_in c ≡ some m → (m ≡ bringing "foo" 1000) ⊎ (m ≡ bringing "bar" 2000)
+one_of_both : (m : Message) (c : Call) → Memᴰ c both → message_in c ≡ Some m → (m ≡ bringing "foo" 1000) ⊎ (m ≡ bringing "bar" 2000)
 one_of_both m =
-    each (λ c. message_in c ≡ some m → (m ≡ bringing "foo" 1000) ⊎ (m ≡ bringing "bar" 2000))
-    (λ e. inl (let q : some m ≡ some (bringing "foo" 1000) = sym e ∙ brings_it older (bringing "foo" 1000) reads.0 in cc))
-    (λ e. inr (let q : some m ≡ some (bringing "bar" 2000) = sym e ∙ brings_it younger (bringing "bar" 2000) reads.1 in cc))
+    each (λ c. message_in c ≡ Some m → (m ≡ bringing "foo" 1000) ⊎ (m ≡ bringing "bar" 2000))
+    (λ e. inl (let q : Some m ≡ Some (bringing "foo" 1000) = sym e ∙ brings_it older (bringing "foo" 1000) reads.0 in cc))
+    (λ e. inr (let q : Some m ≡ Some (bringing "bar" 2000) = sym e ∙ brings_it younger (bringing "bar" 2000) reads.1 in cc))
 
 apart : (m n : Message) → m ≡ bringing "foo" 1000 → n ≡ bringing "bar" 2000 → m.date ≡ n.date → ⊥
 apart m n p q s = let z : ◌≡◌ {A = ℕ} 1000 2000 = sym (ap (λ (x : Message). x.date) p) ∙ s ∙ ap (λ (x : Message). x.date) q in omega arith
 
-both_agree : (c d : Call) → Memᴰ c both → Memᴰ d both → (m n : Message) → message_in c ≡ some m → message_in d ≡ some n → Agree m n
+both_agree : (c d : Call) → Memᴰ c both → Memᴰ d both → (m n : Message) → message_in c ≡ Some m → message_in d ≡ Some n → Agree m n
 both_agree c d i j m n e f =
     ⊎_elim
     (λ p. ⊎_elim (λ q. same_agrees m n (p ∙ sym q)) (λ q. dates_agree m n (apart m n p q)) (one_of_both n d j f))

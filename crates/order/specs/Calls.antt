@@ -8,7 +8,7 @@
 --     slot_calling             `process` on a table of slots
 --     table_after, answers     its calls one after the other
 use Rattle.std.specs.Prelude.{ℕ, List, [], ◌∷◌}
-use Rattle.std.proofs.Math.Option.{Option, some, none}
+use Rattle.std.specs.Prelude.{Option, Some, None}
 use Rattle.octets.specs.Octets.{AllOctets}
 use Rattle.refusals.specs.Rows.{first_of, answer_of, unless_refused}
 use Rattle.refusals.specs.declared.Answer.{Answer}
@@ -57,8 +57,8 @@ left_by t c = left_by_processing t c.receipt c.outer c.payload c.setting
 -- what a call brings, for which no table is asked: none where one of rows 3 to 7 holds
 unfoldable pub message_in : Call → Option Message
 message_in c =
-    unless_refused (first_of (message_rows c.receipt c.outer c.payload c.setting)) none
-    (some (message_of key_limit c.receipt c.outer c.payload c.setting))
+    unless_refused (first_of (message_rows c.receipt c.outer c.payload c.setting)) None
+    (Some (message_of key_limit c.receipt c.outer c.payload c.setting))
 
 -- the calls of `process` on a table of slots
 abbrev pub slot_calling : Calling (List ℕ)

@@ -9,7 +9,7 @@
 -- What a call brings is a message, or none where the call is refused by 3 to 7: no table is asked for that.
 use Rattle.std.specs.Prelude.{ℕ, ◌≡◌, Bool, true, ◌&&◌}
 use mathlib.Core.List.{List, [], ◌∷◌, Memᴰ}
-use Rattle.std.proofs.Math.Option.{Option, some, none}
+use Rattle.std.specs.Prelude.{Option, Some, None}
 use Rattle.octets.specs.Octets.{AllOctets}
 use Rattle.heads.specs.Entry.{Direct, Entry}
 use Rattle.table.specs.Table.{checked}
@@ -31,8 +31,8 @@ pub record Form (T : Type 0) : Type 1 where
 
 -- the table after what a call brings; a call that brings nothing leaves it
 unfoldable pub after : {T : Type 0} → Form T → T → Option Message → T
-after form t none = t
-after form t (some m) = form.delivered t m
+after form t None = t
+after form t (Some m) = form.delivered t m
 
 -- the table after all that a list of calls brings, one after the other
 unfoldable pub fetched_in : {T : Type 0} → Form T → T → List (Option Message) → T
@@ -41,8 +41,8 @@ fetched_in form t (m ∷ rest) = fetched_in form (after form t m) rest
 
 -- C11: what a call brings is not refused with 8
 unfoldable pub fits : {T : Type 0} → Form T → T → Option Message → Bool
-fits form t none = true
-fits form t (some m) = form.room t m
+fits form t None = true
+fits form t (Some m) = form.room t m
 
 -- C11: nothing that a list of calls brings is refused with 8, each with the table that it meets
 unfoldable pub all_fit_in : {T : Type 0} → Form T → T → List (Option Message) → Bool
@@ -69,13 +69,13 @@ all_fit t ms = all_fit_in slot_form t ms
 -- C11: two messages that bring an address a direct key at one effective date bring the same key and preference, and two that bring it gossip at one
 -- effective date bring the same key
 pub record Agree (m n : Message) : Type 0 where
-  pub direct : (a : List ℕ) (c d : Direct) → brings_direct m a ≡ some c → brings_direct n a ≡ some d → m.date ≡ n.date
+  pub direct : (a : List ℕ) (c d : Direct) → brings_direct m a ≡ Some c → brings_direct n a ≡ Some d → m.date ≡ n.date
       → (c.key ≡ d.key) × (c.«mutual» ≡ d.«mutual»)
-  pub gossip : (a key other : List ℕ) → brings_gossip m a ≡ some key → brings_gossip n a ≡ some other → m.date ≡ n.date → key ≡ other
+  pub gossip : (a key other : List ℕ) → brings_gossip m a ≡ Some key → brings_gossip n a ≡ Some other → m.date ≡ n.date → key ≡ other
 
 -- C11: any two of these messages agree
 unfoldable pub Agreeing : List (Option Message) → Type 0
-Agreeing list = (m n : Message) → Memᴰ (some m) list → Memᴰ (some n) list → Agree m n
+Agreeing list = (m n : Message) → Memᴰ (Some m) list → Memᴰ (Some n) list → Agree m n
 
 -- C11: every address has the same entry, every list of recipients gets the same advice with the same count, and every place in it the same key
 -- octets

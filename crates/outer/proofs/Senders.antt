@@ -7,7 +7,7 @@ use Prim.Native.Nat.{ℕ, ◌-◌, ◌≤◌}
 use mathlib.Core.Path.{◌≡◌, refl, sym, ap, ◌∙◌}
 use mathlib.Core.Bool.{true}
 use mathlib.Core.List.{List, []}
-use mathlib.Core.Option.{Option, some, none}
+use Rattle.std.specs.Prelude.{Option, Some, None}
 use native.Mathlib.Omega.{arith}
 use borrow.Author.Rules.{rules}
 use lib.ListN.{length, take, drop}
@@ -42,22 +42,22 @@ use Rattle.outer.specs.declared.Sender.TheVariants.{Address, NotOne}
 use Rattle.outer.proofs.Texts.{part_there, part_within}
 
 -- the sender's address is the canonical form of a plain address
-canonical_some : (o : Option (List ℕ)) (a : List ℕ) → canonical_of o ≡ some a → (b : List ℕ) × ((o ≡ some b) × (a ≡ canonical b))
+canonical_some : (o : Option (List ℕ)) (a : List ℕ) → canonical_of o ≡ Some a → (b : List ℕ) × ((o ≡ Some b) × (a ≡ canonical b))
 unfolding canonical_of
-canonical_some none a e = let z : ◌≡◌ {A = ℕ} 0 1 = cc in absurd (omega arith)
-canonical_some (some b) a e = (b, (refl, cc))
+canonical_some None a e = let z : ◌≡◌ {A = ℕ} 0 1 = cc in absurd (omega arith)
+canonical_some (Some b) a e = (b, (refl, cc))
 
-by_some : (o : Option (List ℕ)) (a : List ℕ) → sender_by o ≡ some a → (v : List ℕ) × ((o ≡ some v) × (canonical_of (only_one (or_else [] (addresses v))) ≡ some a))
+by_some : (o : Option (List ℕ)) (a : List ℕ) → sender_by o ≡ Some a → (v : List ℕ) × ((o ≡ Some v) × (canonical_of (only_one (or_else [] (addresses v))) ≡ Some a))
 unfolding sender_by
-by_some none a e = let z : ◌≡◌ {A = ℕ} 0 1 = cc in absurd (omega arith)
-by_some (some v) a e = (v, (refl, e))
+by_some None a e = let z : ◌≡◌ {A = ℕ} 0 1 = cc in absurd (omega arith)
+by_some (Some v) a e = (v, (refl, e))
 
-module _ (fs : List FieldText) (a : List ℕ) (e : sender_in fs ≡ some a) where
-  value : (v : List ℕ) × ((only_one (values_of From fs) ≡ some v) × (canonical_of (only_one (or_else [] (addresses v))) ≡ some a))
+module _ (fs : List FieldText) (a : List ℕ) (e : sender_in fs ≡ Some a) where
+  value : (v : List ℕ) × ((only_one (values_of From fs) ≡ Some v) × (canonical_of (only_one (or_else [] (addresses v))) ≡ Some a))
   unfolding sender_in
   value = by_some (only_one (values_of From fs)) a e
 
-  given : (b : List ℕ) × ((only_one (or_else [] (addresses value.0)) ≡ some b) × (a ≡ canonical b))
+  given : (b : List ℕ) × ((only_one (or_else [] (addresses value.0)) ≡ Some b) × (a ≡ canonical b))
   given = canonical_some (only_one (or_else [] (addresses value.0))) a value.1.1
 
   given_plain : plain given.0 ≡ true
@@ -67,7 +67,7 @@ module _ (fs : List FieldText) (a : List ℕ) (e : sender_in fs ≡ some a) wher
   sender_canonical = rw given.1.1 (plain_is_canonical given.0 given_plain)
 
 -- and it is octets, where the block is
-pub sender_octets : (s a : List ℕ) → AllOctets s → sender_in (fields_in s) ≡ some a → AllOctets a
+pub sender_octets : (s a : List ℕ) → AllOctets s → sender_in (fields_in s) ≡ Some a → AllOctets a
 sender_octets s a o e =
     let v : List ℕ = (value (fields_in s) a e).0 in
     let b : List ℕ = (given (fields_in s) a e).0 in
@@ -75,7 +75,7 @@ sender_octets s a o e =
     rw (given (fields_in s) a e).1.1 (canonical_octets b (only_octets v b (sym (given (fields_in s) a e).1.0) h))
 
 module _ (s : List ℕ) (k : Only) (fs : List FieldText) (p : value_in s k ≡ only_one (values_of From fs)) where
-  other : k ≡ Other → sender_in fs ≡ none
+  other : k ≡ Other → sender_in fs ≡ None
   unfolding sender_in sender_by
   other q = ap sender_by (value_none s k (only_one (values_of From fs)) p q)
 
@@ -100,7 +100,7 @@ module _ (s : List ℕ) (k : Only) (fs : List FieldText) (p : value_in s k ≡ o
     unfolding sender_in sender_by
     told = ap sender_by (value_is s k v e q (only_one (values_of From fs)) p) ∙ ap canonical_of (sym one)
 
-    no_one : j ≡ NoOne → sender_in fs ≡ none
+    no_one : j ≡ NoOne → sender_in fs ≡ None
     unfolding only_in canonical_of
     no_one z = told ∙ ap (λ (i : ListOnly). canonical_of (only_in (value_at s v e) i)) z
 
@@ -125,14 +125,14 @@ module _ (s : List ℕ) (k : Only) (fs : List FieldText) (p : value_in s k ≡ o
       part : between text from to ≡ between (value_at s v e) from to
       part = part_there (value_at s v e) d text t from to sent_from lies.1
 
-      only : some (between text from to) ≡ only_one (or_else [] (addresses (value_at s v e)))
+      only : Some (between text from to) ≡ only_one (or_else [] (addresses (value_at s v e)))
       unfolding only_in
-      only = ap some part ∙ sym (ap (only_in (value_at s v e)) z) ∙ one
+      only = ap Some part ∙ sym (ap (only_in (value_at s v e)) z) ∙ one
 
       pub sent_plain : plain (between text from to) ≡ true
       sent_plain = only_plain (value_at s v e) (between text from to) only
 
-      is : sender_in fs ≡ some (canonical (between text from to))
+      is : sender_in fs ≡ Some (canonical (between text from to))
       unfolding canonical_of
       is = told ∙ ap canonical_of (one ∙ sym only)
 
@@ -159,19 +159,19 @@ pub ruleset sending =
     (sent_no_field, left_no_field, sent_no_one, left_no_one, sent_from, sent_upto, sent_plain, left_one, sent_one, sent_no_room, value_within, valued, rules)
 
 -- as a caller asks it of the answer r and of what the lent memory holds
-pub answer_some : (o : Option (List ℕ)) (n : ℕ) → Address n ≡ sender_of o → (a : List ℕ) × ((o ≡ some a) × (n ≡ length a))
+pub answer_some : (o : Option (List ℕ)) (n : ℕ) → Address n ≡ sender_of o → (a : List ℕ) × ((o ≡ Some a) × (n ≡ length a))
 unfolding sender_of
-answer_some none n e = let z : ◌≡◌ {A = ℕ} 0 1 = cc in absurd (omega arith)
-answer_some (some a) n e = (a, (refl, cc))
+answer_some None n e = let z : ◌≡◌ {A = ℕ} 0 1 = cc in absurd (omega arith)
+answer_some (Some a) n e = (a, (refl, cc))
 
-pub answer_none : (o : Option (List ℕ)) → NotOne ≡ sender_of o → o ≡ none
+pub answer_none : (o : Option (List ℕ)) → NotOne ≡ sender_of o → o ≡ None
 unfolding sender_of
-answer_none none e = refl
-answer_none (some a) e = cc
+answer_none None e = refl
+answer_none (Some a) e = cc
 
 module _ (o : Option (List ℕ)) (r : Sender) (t : r ≡ sender_of o) where
   module _ (out d : List ℕ) (l : out ≡ left_by_sender o d) (n : ℕ) (q : r ≡ Address n) where
-    address : (a : List ℕ) × ((o ≡ some a) × (n ≡ length a))
+    address : (a : List ℕ) × ((o ≡ Some a) × (n ≡ length a))
     address = answer_some o n (sym q ∙ t)
 
     holds : out ≡ onto address.0 d
@@ -179,8 +179,8 @@ module _ (o : Option (List ℕ)) (r : Sender) (t : r ≡ sender_of o) where
     holds = l ∙ ap (λ (p : Option (List ℕ)). left_by_sender p d) address.1.0
 
     -- the answer's octets of the lent memory are the sender
-    pub left_is : o ≡ some (take n out)
-    left_is = address.1.0 ∙ ap some (sym (value_there address.0 d out n address.1.1 holds))
+    pub left_is : o ≡ Some (take n out)
+    left_is = address.1.0 ∙ ap Some (sym (value_there address.0 d out n address.1.1 holds))
 
     pub left_within : n ≤ length out
     left_within = value_within address.0 d out n address.1.1 holds

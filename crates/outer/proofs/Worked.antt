@@ -5,7 +5,7 @@ use Prim.Native.String.{String}
 use mathlib.Core.Path.{◌≡◌, refl}
 use mathlib.Core.Bool.{Bool, true, false}
 use mathlib.Core.List.{List, [], ◌∷◌, map}
-use mathlib.Core.Option.{Option, some, none, bind}
+use Rattle.std.specs.Prelude.{Option, Some, None}
 use Rattle.octets.specs.Octets.{ascii, lower, lowered, same_name, same_octets, blank}
 use Rattle.octets.specs.Options.{in_front, or_else, only_one}
 use Rattle.octets.specs.Finding.{holds}
@@ -42,7 +42,7 @@ senders :
     ∷ "To: a@b"
     ∷ "From: a@b\nX"
     ∷ [])
-    ≡ some (ascii "alice@b.org") ∷ some (ascii "a@b") ∷ none ∷ none ∷ none ∷ none ∷ none ∷ []
+    ≡ Some (ascii "alice@b.org") ∷ Some (ascii "a@b") ∷ None ∷ None ∷ None ∷ None ∷ None ∷ []
 unfolding header.fields_of header.fields header.fields_within in_front header.unfolded header.over header.of_ending header.opens_field run header.raw_length belongs header.closes same_name same_octets lowered lower opening_of holds run_token quoted_token token_at first_token after_address after listed_by listed addresses atom local_part free_ends labels.label_octet labels.label_form labels.fits labels.label labels.labelled domain domain_form address_form plain every on_first pieces before behind control blank kind_of past after_quote canonical from lowering.lower_text lowering.lower_points lowering.lower_point utf8.points utf8.tails utf8.lead_of utf8.encoded utf8.encoded_one only_one or_else fields_in is_kind values_of canonical_of sender_by sender_in following joined
 senders = refl
 
@@ -74,7 +74,7 @@ dates :
     ∷ "Date: 1 Jan 1970 00:02 GMT"
     ∷ [])
     ≡ 60 ∷ 100 ∷ 100 ∷ 100 ∷ []
-unfolding header.fields_of header.fields header.fields_within in_front header.unfolded header.over header.of_ending header.opens_field run header.raw_length belongs header.closes same_name same_octets lowered lower blank past kind_of control bind calendar.leap calendar.leap_day calendar.month_length calendar.year_days calendar.month_days calendar.day_count words.opening_of words.further words.token_at words.first_token words.only_if words.digit_of words.value_from words.number_of words.here_or words.place_from words.mark_of words.day_of words.month_of words.year_by words.year_of words.two_digits words.offset_by words.offset_of words.hours_west words.east_by words.west_by words.meant date.read_of date.and_then date.next date.optional date.existing date.calendar_day date.time_of_day date.local_time date.zoned date.ended date.date_of date.effective_date or_else fields_in is_kind values_of only_one date_by date_in
+unfolding header.fields_of header.fields header.fields_within in_front header.unfolded header.over header.of_ending header.opens_field run header.raw_length belongs header.closes same_name same_octets lowered lower blank past kind_of control calendar.leap calendar.leap_day calendar.month_length calendar.year_days calendar.month_days calendar.day_count words.opening_of words.further words.token_at words.first_token words.only_if words.digit_of words.value_from words.number_of words.here_or words.place_from words.mark_of words.day_of words.month_of words.year_by words.year_of words.two_digits words.offset_by words.offset_of words.hours_west words.east_by words.west_by words.meant date.read_of date.and_then date.next date.optional date.existing date.calendar_day date.time_of_day date.local_time date.zoned date.ended date.date_of date.effective_date or_else fields_in is_kind values_of only_one date_by date_in
 dates = refl
 
 -- G4: as they stand, in order; an unreadable list gives none, and takes none from the others

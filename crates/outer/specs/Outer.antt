@@ -5,7 +5,7 @@
 --     date_in          the effective date
 --     recipients_in    the addresses of all readable To, Cc and Reply-To fields
 use Rattle.std.specs.Prelude.{ℕ, Bool, false, ◌||◌, List, [], ◌∷◌, ◌++◌}
-use Rattle.std.proofs.Math.Option.{Option, some, none}
+use Rattle.std.specs.Prelude.{Option, Some, None}
 use Rattle.octets.specs.Options.{or_else, only_one}
 use Rattle.header.specs.Header.{FieldText, is_report}
 use Rattle.address.specs.Address.{canonical}
@@ -16,13 +16,13 @@ use Rattle.fields.specs.declared.Kind.TheVariants.{From, ContentType, Date, Reci
 
 -- an address, if there is one, in canonical form
 unfoldable pub canonical_of : Option (List ℕ) → Option (List ℕ)
-canonical_of none = none
-canonical_of (some a) = some (canonical a)
+canonical_of None = None
+canonical_of (Some a) = Some (canonical a)
 
 -- U3, R5: the one address that the value of From gives as a list, in canonical form; an unreadable list gives none (L18)
 unfoldable pub sender_by : Option (List ℕ) → Option (List ℕ)
-sender_by none = none
-sender_by (some v) = canonical_of (only_one (or_else [] (addresses v)))
+sender_by None = None
+sender_by (Some v) = canonical_of (only_one (or_else [] (addresses v)))
 
 -- U3, R5: the sender, by the one From field; with no From field or several there is none
 unfoldable pub sender_in : List FieldText → Option (List ℕ)
@@ -39,8 +39,8 @@ is_reported fs = any_report (values_of ContentType fs)
 
 -- D1: the Date by the value of the one Date field; unavailable where there is none, or where it does not read as a date
 unfoldable pub date_by : Option (List ℕ) → Option ℕ
-date_by none = none
-date_by (some v) = date_of v
+date_by None = None
+date_by (Some v) = date_of v
 
 -- D1: the Date of a message, which has to have exactly one Date field
 abbrev pub said_date : List FieldText → Option ℕ

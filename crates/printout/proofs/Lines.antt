@@ -9,7 +9,7 @@
 use Prim.Native.Nat.{ℕ, ◌+◌, ◌-◌, ◌<◌, ◌≤◌}
 use mathlib.Core.Path.{◌≡◌, refl, sym, ◌∙◌}
 use mathlib.Core.Bool.{Bool, true, false, not}
-use mathlib.Core.Option.{Option, some, none, map}
+use Rattle.std.specs.Prelude.{Option, Some, None, option_map}
 use mathlib.Core.List.{List, [], ◌++◌, append_assoc}
 use native.Mathlib.Nat.{sub-zero}
 use native.Mathlib.Omega.{arith}
@@ -37,16 +37,16 @@ use Rattle.printout.specs.Parts.{direct_part, gossip_part, numbers_part}
 use Rattle.columns.proofs.Placing.{room_one, room_two, two_put}
 
 -- an absent half has no time and one that is there its own
-half_time : {A : Type 0} (f : A → ℕ) (d : A) (h : Option A) → present (is_some h) (f (or_else d h)) ≡ map f h
+half_time : {A : Type 0} (f : A → ℕ) (d : A) (h : Option A) → present (is_some h) (f (or_else d h)) ≡ option_map f h
 unfolding is_some or_else
-half_time f d none = refl
-half_time f d (some x) = refl
+half_time f d None = refl
+half_time f d (Some x) = refl
 
 -- last seen, where it is there
 seen_time : (h : Option ℕ) → present (is_some h) (or_else 0 h) ≡ h
 unfolding is_some or_else
-seen_time none = refl
-seen_time (some x) = refl
+seen_time None = refl
+seen_time (Some x) = refl
 
 pub line_parts : (e : Entry) → line_of e ≡ ended e.address 32 ++ numbers_part (head_for e)
 unfolding line_of line numbers_part direct_part gossip_part ended head_for

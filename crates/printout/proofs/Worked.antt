@@ -4,7 +4,7 @@
 -- Assumes nothing.
 use mathlib.Core.Path.{◌≡◌, refl}
 use mathlib.Core.Bool.{true}
-use mathlib.Core.Option.{some, none}
+use Rattle.std.specs.Prelude.{Some, None}
 use mathlib.Core.List.{[], ◌∷◌}
 use lib.ListN.{replicate}
 use Rattle.octets.specs.Octets.{ascii, all_zero, same_octets}
@@ -19,9 +19,9 @@ abbrev bob : Entry
 bob =
     record {
       address = ascii "bob@b.example";
-      last_seen = some 2000;
-      direct = some (record { timestamp = 1000; key = 1 ∷ 2 ∷ 3 ∷ []; «mutual» = true });
-      gossip = none;
+      last_seen = Some 2000;
+      direct = Some (record { timestamp = 1000; key = 1 ∷ 2 ∷ 3 ∷ []; «mutual» = true });
+      gossip = None;
     }
 
 one_line : line_of bob ≡ ascii "bob@b.example 2000 1000 3 mutual - 0\n"

@@ -5,7 +5,7 @@
 --     listing, printed        what is printed for a table by the answer of its check, and for any input
 --     line_room, room         room that a line, and all that is printed, never exceeds
 use Rattle.std.specs.Prelude.{ℕ, zero, suc, ◌+◌, ◌*◌, true, false, List, [], ◌∷◌, ◌++◌, leb, length}
-use Rattle.std.proofs.Math.Option.{map}
+use Rattle.std.specs.Prelude.{option_map}
 use Rattle.octets.specs.Octets.{ascii}
 use Rattle.octets.specs.Options.{or_else}
 use Rattle.columns.specs.Columns.{decimal, time_text, preference_text}
@@ -26,10 +26,10 @@ unfoldable pub line_of : Entry → List ℕ
 line_of e =
     line e.address
     (time_text e.last_seen
-    ∷ time_text (map (λ d. d.timestamp) e.direct)
+    ∷ time_text (option_map (λ d. d.timestamp) e.direct)
     ∷ decimal (length (or_else no_direct e.direct).key)
     ∷ preference_text (or_else no_direct e.direct).«mutual»
-    ∷ time_text (map (λ g. g.timestamp) e.gossip)
+    ∷ time_text (option_map (λ g. g.timestamp) e.gossip)
     ∷ decimal (length (or_else no_gossip e.gossip).key)
     ∷ [])
 

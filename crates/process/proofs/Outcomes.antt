@@ -12,7 +12,7 @@ use Prim.Native.Nat.{ℕ}
 use mathlib.Core.Path.{◌≡◌, refl, sym, ap, subst, ◌∙◌}
 use mathlib.Core.Bool.{true, false}
 use mathlib.Core.List.{List, [], ◌++◌}
-use mathlib.Core.Option.{Option, some, none}
+use Rattle.std.specs.Prelude.{Option, Some, None}
 use native.Mathlib.Omega.{arith}
 use borrow.Author.Tests.{not-false}
 use Rattle.octets.specs.Octets.{AllOctets}
@@ -49,32 +49,32 @@ module _ (t : List ℕ) (receipt : ℕ) (outer payload : List ℕ) (g : Gossip) 
   unfolding refused_processing processing_rows
   sound_first s = first_rest (table_rows t) _ (sound_rows Canonical t s)
 
-  pub unsound_first : (r : Refusal) → first_of (table_rows t) ≡ some r → refusal ≡ some r
+  pub unsound_first : (r : Refusal) → first_of (table_rows t) ≡ Some r → refusal ≡ Some r
   unfolding refused_processing processing_rows
   unsound_first r e = first_front (table_rows t) _ r e
 
-  pub refused_left : (r : Refusal) → refusal ≡ some r → left_by_processing t receipt outer payload g ≡ t
+  pub refused_left : (r : Refusal) → refusal ≡ Some r → left_by_processing t receipt outer payload g ≡ t
   unfolding left_by_processing
   refused_left r e = refused_is (λ (x : Refusal). t) (applied t message) refusal r e
 
-  pub done_left : refusal ≡ none → left_by_processing t receipt outer payload g ≡ applied t message
+  pub done_left : refusal ≡ None → left_by_processing t receipt outer payload g ≡ applied t message
   unfolding left_by_processing
   done_left e = done_is (λ (x : Refusal). t) (applied t message) refusal e
 
   -- a sound table, by the rows behind
   module _ (s : checked t ≡ Sound) where
-    pub message_refused : (r : Refusal) → first_of (message_rows receipt outer payload g) ≡ some r → refusal ≡ some r
+    pub message_refused : (r : Refusal) → first_of (message_rows receipt outer payload g) ≡ Some r → refusal ≡ Some r
     message_refused r e = sound_first s ∙ first_front (message_rows receipt outer payload g) (room_rows t message) r e
 
-    module _ (e : first_of (message_rows receipt outer payload g) ≡ none) where
+    module _ (e : first_of (message_rows receipt outer payload g) ≡ None) where
       pub room_first : refusal ≡ first_of (room_rows t message)
       room_first = sound_first s ∙ first_rest (message_rows receipt outer payload g) (room_rows t message) e
 
-      pub message_fits : has_room t message ≡ true → refusal ≡ none
+      pub message_fits : has_room t message ≡ true → refusal ≡ None
       unfolding room_rows first_of
       message_fits h = room_first ∙ rw h
 
-      pub message_full : has_room t message ≡ false → refusal ≡ some NoFreeSlot
+      pub message_full : has_room t message ≡ false → refusal ≡ Some NoFreeSlot
       unfolding room_rows first_of
       message_full h = room_first ∙ rw h
 
@@ -86,12 +86,12 @@ module _ (t : List ℕ) (receipt : ℕ) (outer payload : List ℕ) (g : Gossip) 
           (λ h. rw (delivered, h) (sym (refused_left NoFreeSlot (message_full h))))
 
   -- no row holds
-  module _ (e : refusal ≡ none) where
+  module _ (e : refusal ≡ None) where
     pub done_sound : checked t ≡ Sound
     unfolding refused_processing processing_rows
     done_sound = rows_sound Canonical t (none_front (table_rows t) _ e)
 
-    behind_table : first_of (message_rows receipt outer payload g ++ room_rows t message) ≡ none
+    behind_table : first_of (message_rows receipt outer payload g ++ room_rows t message) ≡ None
     behind_table = sym (sound_first done_sound) ∙ e
 
     pub done_in_order : InOrder receipt outer payload g
@@ -128,6 +128,6 @@ module _ (t : List ℕ) (receipt : ℕ) (outer payload : List ℕ) (g : Gossip) 
     pub done_entry : answer_of refusal ≡ Done → (b : List ℕ)
         → entry_in (left_by_processing t receipt outer payload g) b ≡ entry_after message b (entry_in t b)
     done_entry a b =
-        let e : refusal ≡ none = answer_done refusal a in
+        let e : refusal ≡ None = answer_done refusal a in
         ap (λ (x : List ℕ). entry_in x b) (done_left e)
         ∙ applied_entry t message (message_good receipt outer payload g (done_in_order e) key_limit (omega arith) u v) (done_sound e) o (done_room e) b

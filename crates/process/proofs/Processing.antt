@@ -12,7 +12,7 @@ use Prim.Native.Nat.{ℕ, ◌-◌, ◌≤◌}
 use mathlib.Core.Path.{◌≡◌, refl, sym, ap, ◌∙◌}
 use mathlib.Core.Bool.{Bool, true, not, ◌&&◌, ◌||◌}
 use mathlib.Core.List.{List, []}
-use mathlib.Core.Option.{Option, some, none}
+use Rattle.std.specs.Prelude.{Option, Some, None}
 use native.Mathlib.Omega.{arith}
 use native.Mathlib.Nat.{sub-zero}
 use borrow.Author.Rules.{rules}
@@ -101,7 +101,7 @@ module _ (receipt : ℕ) (outer payload : List ℕ) (g : Gossip) (sender key : L
 module _ (t tags : List ℕ) (receipt : ℕ) (outer payload : List ℕ) (g : Gossip) (text₀ : List ℕ) (y : Roomy t tags outer payload g text₀)
     (sender key : List ℕ) (r : Reading) (h : ReadAs 2048 receipt outer payload g sender key r) where
   module _ (x : Refusal) (q : r ≡ Unread x) where
-    first : refused_processing t receipt outer payload g ≡ some x
+    first : refused_processing t receipt outer payload g ≡ Some x
     unfolding ReadAs
     first = message_refused t receipt outer payload g y.opened.sound x (rw q at h)
 
@@ -113,7 +113,7 @@ module _ (t tags : List ℕ) (receipt : ℕ) (outer payload : List ℕ) (g : Gos
 
   -- what it brings is the message of both blocks
   module _ (b : Brought) (gs : List Gossiped) (m : Brings sender key b gs (message_of 2048 receipt outer payload g))
-      (e : first_of (message_rows receipt outer payload g) ≡ none) where
+      (e : first_of (message_rows receipt outer payload g) ≡ None) where
     answered : (a : Answer) → a ≡ answer_of (first_of (room_rows t (mail_of (take (b.sender - 0) (drop 0 sender)) key b gs)))
         → a ≡ answer_of (refused_processing t receipt outer payload g)
     answered a w =

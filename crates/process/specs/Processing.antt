@@ -2,7 +2,7 @@
 --     processing_rows, refused_processing     all rows
 --     left_by_processing                      what the table holds afterwards
 use Rattle.std.specs.Prelude.{ℕ, List, ◌++◌}
-use Rattle.std.proofs.Math.Option.{Option}
+use Rattle.std.specs.Prelude.{Option}
 use Rattle.refusals.specs.Rows.{Row, first_of, unless_refused}
 use Rattle.refusals.specs.declared.Refusal.{Refusal}
 use Rattle.settings.specs.declared.Gossip.{Gossip}

@@ -9,7 +9,7 @@ use Prim.Native.Nat.{ℕ, suc, ◌+◌, ◌<◌, ◌≤◌, zero-le}
 use mathlib.Core.Path.{◌≡◌, refl, sym, ap, ◌∙◌}
 use mathlib.Core.Bool.{true, false}
 use mathlib.Core.List.{List, [], ◌∷◌}
-use mathlib.Core.Option.{Option, some, none}
+use Rattle.std.specs.Prelude.{Option, Some, None}
 use mathlib.Core.Logic.{⊎_elim}
 use native.Mathlib.Omega.{arith}
 use borrow.Author.Tests.{ltb-true, ltb-false, lt-ltb, le-ltb}
@@ -95,8 +95,8 @@ below_same n m h (c ∷ s) k =
     (lt_or_le c n)
 
 pub data Least (n : ℕ) (s : List ℕ) : Option ℕ → Type 0 where
-  nothing : below n s ≡ s → Least n s none
-  next : {m : ℕ} → Next n m s → Least n s (some m)
+  nothing : below n s ≡ s → Least n s None
+  next : {m : ℕ} → Next n m s → Least n s (Some m)
 
 -- one code point in front, by what the others give
 least_below : (n c : ℕ) (s : List ℕ) → c < n → {o : Option ℕ} → Least n s o → Least n (c ∷ s) o
@@ -135,12 +135,12 @@ least_from : (n c : ℕ) (s : List ℕ) → n ≤ c → {o : Option ℕ} → Lea
 least_from n c s l (nothing e) = next (here n c s l (rw e (below_at_most c s)))
 least_from n c s l (next {m = m} e) = by_test (ltb c m) front back
   where
-    front : ltb c m ≡ true → Least n (c ∷ s) (smaller c (some m))
+    front : ltb c m ≡ true → Least n (c ∷ s) (smaller c (Some m))
     front q =
         let k : length (below c s) ≤ length (below m s) = below_grows c m (omega (arith, ltb-true c m q)) s in
         rw q (next (here n c s l (rw e.none_between at k)))
 
-    back : ltb c m ≡ false → Least n (c ∷ s) (smaller c (some m))
+    back : ltb c m ≡ false → Least n (c ∷ s) (smaller c (Some m))
     back q = rw q (next (behind n m c s (ltb-false c m q) e))
 
 pub least_finds : (n : ℕ) (s : List ℕ) → Least n s (least n s)

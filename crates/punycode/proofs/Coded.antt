@@ -7,7 +7,7 @@ use Prim.Native.Nat.{ℕ, suc, zero, ◌+◌, ◌-◌, ◌<◌, ◌≤◌}
 use mathlib.Core.Path.{◌≡◌, refl, sym}
 use mathlib.Core.Bool.{Bool, true}
 use mathlib.Core.List.{List, [], ◌∷◌, ◌++◌, append_assoc}
-use mathlib.Core.Option.{Option, some, none}
+use Rattle.std.specs.Prelude.{Option, Some, None}
 use native.Mathlib.Omega.{arith}
 use lib.Dec.{eqb}
 use lib.ListN.{length, get_or, length-append}
@@ -55,8 +55,8 @@ module _ (test : ℕ → Bool) (good : (v : ℕ) → v < 36 → test (digit v) �
   every_passes (suc f) ps b n delta bias h = go (every_passes f ps b) (least n ps) refl
     where
       go : ((n delta bias h : ℕ) → every test (passes f ps b n delta bias h) ≡ true) → (o : Option ℕ) → least n ps ≡ o → every test (passes (suc f) ps b n delta bias h) ≡ true
-      go later none e = rw (passes, e)
-      go later (some m) e = rw (passes, e) (every_pass (passes f ps b (m + 1)) (later (m + 1)) b m ps _ bias h)
+      go later None e = rw (passes, e)
+      go later (Some m) e = rw (passes, e) (every_pass (passes f ps b (m + 1)) (later (m + 1)) b m ps _ bias h)
 
   every_delimited : (x : List ℕ) → test 45 ≡ true → every test x ≡ true → every test (delimited x) ≡ true
   unfolding delimited every

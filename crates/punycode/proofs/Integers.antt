@@ -13,7 +13,7 @@ use Prim.Native.Nat.{ℕ, suc, zero, ◌+◌, ◌-◌, ◌*◌, ◌/◌, ◌%◌
 use mathlib.Core.Path.{◌≡◌, refl, sym, ap, ◌∙◌}
 use mathlib.Core.Bool.{true, cond}
 use mathlib.Core.List.{List, [], ◌∷◌, ◌++◌}
-use mathlib.Core.Option.{some, none}
+use Rattle.std.specs.Prelude.{Some, None}
 use mathlib.Core.Logic.{⊎_elim}
 use native.Mathlib.Nat.{div-add-mod', div-le_self, mod-lt, mul_comm, mul_assoc, add-mul, add_assoc}
 use native.Mathlib.Omega.{arith}
@@ -25,42 +25,42 @@ use Rattle.octets.proofs.Tests.{by_test, and_right}
 use Rattle.utf8.specs.Utf8.{between}
 use Rattle.punycode.specs.Punycode.{digit, value, threshold, integer, landed, run}
 
-value_digit : (v : ℕ) → v < 36 → value (digit v) ≡ some v
+value_digit : (v : ℕ) → v < 36 → value (digit v) ≡ Some v
 unfolding value digit
 value_digit v h = ⊎_elim small large (lt_or_le v 26)
   where
-    small : v < 26 → value (digit v) ≡ some v
+    small : v < 26 → value (digit v) ≡ Some v
     small l =
         let e : 97 + v - 97 ≡ v = omega arith in
         rw (lt-ltb v 26 l, le-leb 97 (97 + v) (omega arith), le-leb (97 + v) 122 (omega arith), e)
 
-    large : 26 ≤ v → value (digit v) ≡ some v
+    large : 26 ≤ v → value (digit v) ≡ Some v
     large l =
         let e : 48 + (v - 26) - 48 + 26 ≡ v = omega arith in
         rw (le-ltb v 26 l, lt-leb 97 (48 + (v - 26)) (omega arith), lt-leb 65 (48 + (v - 26)) (omega arith), le-leb 48 (48 + (v - 26)) (omega arith), le-leb (48 + (v - 26)) 57 (omega arith), e)
 
-pub some_same : (x y : ℕ) → some x ≡ some y → x ≡ y
+pub some_same : (x y : ℕ) → Some x ≡ Some y → x ≡ y
 some_same x y p = cc
 
 between_last : (a b x : ℕ) → between a b x ≡ true → x ≤ b
 between_last a b x e = leb-true x b (and_right (leb a x) (leb x b) e)
 
-pub value_below : (c v : ℕ) → value c ≡ some v → v < 36
+pub value_below : (c v : ℕ) → value c ≡ Some v → v < 36
 unfolding value
 value_below c v e =
     by_test (between 97 122 c)
     (λ t. omega (arith, some_same (c - 97) v (rw t at e), between_last 97 122 c t))
     (λ t.
-    let e₁ : cond (between 65 90 c) (some (c - 65)) (cond (between 48 57 c) (some (c - 48 + 26)) none) ≡ some v = rw t at e in
+    let e₁ : cond (between 65 90 c) (Some (c - 65)) (cond (between 48 57 c) (Some (c - 48 + 26)) None) ≡ Some v = rw t at e in
     by_test (between 65 90 c)
     (λ u. omega (arith, some_same (c - 65) v (rw u at e₁), between_last 65 90 c u))
     (λ u.
-    let e₂ : cond (between 48 57 c) (some (c - 48 + 26)) none ≡ some v = rw u at e₁ in
+    let e₂ : cond (between 48 57 c) (Some (c - 48 + 26)) None ≡ Some v = rw u at e₁ in
     by_test (between 48 57 c)
     (λ x. omega (arith, some_same (c - 48 + 26) v (rw x at e₂), between_last 48 57 c x))
     (λ x. let z : ◌≡◌ {A = ℕ} 0 1 = none_some (rw x at e₂) in omega arith)))
   where
-    none_some : none ≡ some v → ◌≡◌ {A = ℕ} 0 1
+    none_some : None ≡ Some v → ◌≡◌ {A = ℕ} 0 1
     none_some p = cc
 
 pub record Within (k bias : ℕ) : Type 0 where
@@ -143,7 +143,7 @@ integer_some (suc f) bias k q =
     (λ (l : threshold k bias ≤ q). rw (integer_more f bias k q l) (omega arith))
     (lt_or_le q (threshold k bias))
 
-module _ (c d : ℕ) (s : List ℕ) (n old bias : ℕ) (out : List ℕ) (i w k : ℕ) (v : value c ≡ some d) where
+module _ (c d : ℕ) (s : List ℕ) (n old bias : ℕ) (out : List ℕ) (i w k : ℕ) (v : value c ≡ Some d) where
   pub run_more : threshold k bias ≤ d → run (c ∷ s) n old bias out i w k ≡ run s n old bias out (i + d * w) (w * (36 - threshold k bias)) (k + 36)
   unfolding run
   run_more h = rw (run, v, le-ltb d (threshold k bias) h)

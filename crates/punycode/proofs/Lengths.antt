@@ -5,7 +5,7 @@
 use Prim.Native.Nat.{ℕ, suc, zero, ◌+◌, ◌-◌, ◌*◌, ◌≤◌, zero-le}
 use mathlib.Core.Path.{◌≡◌, refl, ap}
 use mathlib.Core.List.{List, [], ◌∷◌}
-use mathlib.Core.Option.{Option, some, none}
+use Rattle.std.specs.Prelude.{Option, Some, None}
 use native.Mathlib.Omega.{arith}
 use lib.Dec.{eqb}
 use lib.ListN.{length, length-append}
@@ -45,8 +45,8 @@ module _ (ps : List ℕ) (b : ℕ) where
   passes_most (suc f) n delta bias h l = go (passes_most f) (least n ps) refl (least_finds n ps)
     where
       go : All f → (o : Option ℕ) → least n ps ≡ o → Least n ps o → length ps ≤ length (passes (suc f) ps b n delta bias h) + length (below n ps)
-      go later none e (nothing q) = omega (arith, ap length q)
-      go later (some m) e (next x) =
+      go later None e (nothing q) = omega (arith, ap length q)
+      go later (Some m) e (next x) =
           let r : length ps ≤ length (below (m + 1) ps) + f = omega (arith, x.there, ap length x.none_between) in
           let p = pass_most (passes f ps b (m + 1)) b m (length ps - length (below (m + 1) ps)) (λ delta bias h. omega (arith, later (m + 1) delta bias h r)) ps (delta + (m - n) * (h + 1)) bias h in
           rw (passes, e) (omega (arith, p, ap length x.none_between, below_at_most (m + 1) ps))

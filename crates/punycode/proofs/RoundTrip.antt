@@ -10,7 +10,7 @@ use Prim.Native.Nat.{ℕ, suc, zero, ◌+◌, ◌-◌, ◌*◌, ◌/◌, ◌%◌
 use mathlib.Core.Path.{◌≡◌, refl, sym, ap, ◌∙◌}
 use mathlib.Core.Bool.{true, false, not, true≢false, or-true}
 use mathlib.Core.List.{List, [], ◌∷◌, ◌++◌, append_assoc, append-nil}
-use mathlib.Core.Option.{Option, some, none}
+use Rattle.std.specs.Prelude.{Option, Some, None}
 use native.Mathlib.Nat.{mul-add-div_right, mul-add-mod_self_right, mod-eq_of_lt, div-eq_of_lt, add-mul, add-zero, mul-one}
 use native.Mathlib.Omega.{arith}
 use borrow.Author.Tests.{eq-eqb, ne_eqb, not-true}
@@ -190,18 +190,18 @@ module _ (b : ℕ) (ps : List ℕ) (v : every scalar ps ≡ true) where
 
   -- what is claimed of all passes, where f of them are enough
   abbrev Passes : ℕ → Type 0
-  Passes f = (n delta bias h nd i : ℕ) → Ahead n delta h nd i → length ps ≤ length (below n ps) + f → run (passes f ps b n delta bias h) nd i bias (below n ps) i 1 36 ≡ some ps
+  Passes f = (n delta bias h nd i : ℕ) → Ahead n delta h nd i → length ps ≤ length (below n ps) + f → run (passes f ps b n delta bias h) nd i bias (below n ps) i 1 36 ≡ Some ps
 
   passes_back : (f : ℕ) → Passes f
   unfolding passes run
-  passes_back zero n delta bias h nd i k l = ap (λ (t : List ℕ). some t) (below_full n ps (omega arith))
+  passes_back zero n delta bias h nd i k l = ap (λ (t : List ℕ). Some t) (below_full n ps (omega arith))
   passes_back (suc f) n delta bias h nd i k l = go (passes_back f) (least n ps) refl (least_finds n ps)
     where
-      go : Passes f → (o : Option ℕ) → least n ps ≡ o → Least n ps o → run (passes (suc f) ps b n delta bias h) nd i bias (below n ps) i 1 36 ≡ some ps
-      go later none e (nothing q) = rw (passes, e) (ap (λ (t : List ℕ). some t) q)
-      go later (some m) e (next x) =
+      go : Passes f → (o : Option ℕ) → least n ps ≡ o → Least n ps o → run (passes (suc f) ps b n delta bias h) nd i bias (below n ps) i 1 36 ≡ Some ps
+      go later None e (nothing q) = rw (passes, e) (ap (λ (t : List ℕ). Some t) q)
+      go later (Some m) e (next x) =
           rw (passes, e, ← x.none_between)
-          (pass_back b m (below (m + 1) ps) (passes f ps b (m + 1)) (some ps)
+          (pass_back b m (below (m + 1) ps) (passes f ps b (m + 1)) (Some ps)
           (λ delta bias h nd i k. later (m + 1) (delta + 1) bias h nd i (ahead_more m delta h nd i k) (omega (arith, x.there, ap length x.none_between)))
           ps v [] (delta + (m - n) * (h + 1)) bias h nd i (ahead_next n m x delta h nd i k))
 
@@ -249,7 +249,7 @@ decode_parts (c ∷ x) t v h =
     rw e (rw (decode, f, v) (rw (f, d)))
 
 -- the theorem
-pub decode_encode : (ps : List ℕ) → scalars ps ≡ true → decode (encode ps) ≡ some ps
+pub decode_encode : (ps : List ℕ) → scalars ps ≡ true → decode (encode ps) ≡ Some ps
 unfolding encode scalars
 decode_encode ps v =
     let b = length (below 128 ps) in

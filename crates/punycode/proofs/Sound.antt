@@ -6,7 +6,7 @@ use Prim.Native.Nat.{ℕ, ◌+◌, ◌*◌, ◌/◌, ◌%◌, ◌≤◌, zero-le
 use mathlib.Core.Path.{◌≡◌, refl, sym, ap, ◌∙◌}
 use mathlib.Core.Bool.{true, ◌&&◌}
 use mathlib.Core.List.{List, [], ◌∷◌}
-use mathlib.Core.Option.{Option, some, none}
+use Rattle.std.specs.Prelude.{Option, Some, None}
 use native.Mathlib.Omega.{arith}
 use borrow.Author.Tests.{ltb-true, lt-ltb}
 use lib.Dec.{eqb, ltb}
@@ -57,8 +57,8 @@ module _ (m : ℕ) where
   run_sound (c ∷ s) n old bias out i w k j h l = go (run_sound s) (value c) refl
     where
       go : Rest s → (o : Option ℕ) → value c ≡ o → IfSome (Sound m) (run (c ∷ s) n old bias out i w k)
-      go later none e = rw (run, e) tt
-      go later (some d) e =
+      go later None e = rw (run, e) tt
+      go later (Some d) e =
           by_test (ltb d (threshold k bias))
           (λ t. rw (run, e, t) (landed_sound s later n old out (i + d * w) j h (omega arith)))
           (λ t. rw (run, e, t) (later n old bias out _ _ _ j h (omega arith)))
@@ -89,7 +89,7 @@ decode_sound t =
     (consumed_left (front t) t (front_short t))))
     (λ e. rw (decode, e) tt)
 
-module _ (t ps : List ℕ) (e : decode t ≡ some ps) where
+module _ (t ps : List ℕ) (e : decode t ≡ Some ps) where
   read : Sound (length t) ps
   read = rw e at (decode_sound t)
 

@@ -4,7 +4,7 @@
 use Prim.Native.Nat.{ℕ}
 use mathlib.Core.Path.{◌≡◌, refl}
 use mathlib.Core.List.{List, [], ◌∷◌, map}
-use mathlib.Core.Option.{some, none}
+use Rattle.std.specs.Prelude.{Some, None}
 use lib.ListN.{length, replicate}
 use Rattle.octets.specs.Octets.{ascii}
 use Rattle.octets.specs.Finding.{holds}
@@ -45,7 +45,7 @@ coded : map (λ (r : List ℕ × List ℕ). encode r.0) samples ≡ map (λ (r :
 unfolding digit threshold scaled adapt below delimited integer least pass passes encode
 coded = refl
 
-decoded : map (λ (r : List ℕ × List ℕ). decode r.1) samples ≡ map (λ (r : List ℕ × List ℕ). some r.0) samples
+decoded : map (λ (r : List ℕ × List ℕ). decode r.1) samples ≡ map (λ (r : List ℕ × List ℕ). Some r.0) samples
 unfolding value threshold scaled adapt front consumed inserted landed run decode holds every scalar
 decoded = refl
 
@@ -69,16 +69,16 @@ edges : map decode
     ∷ ascii "bcher-k_a"
     ∷ (0xE9 ∷ 0x2D ∷ ascii "a")
     ∷ [])
-    ≡ some []
-    ∷ some (0x80 ∷ [])
-    ∷ some (0x42 ∷ 0xFC ∷ 0x43 ∷ 0x48 ∷ 0x45 ∷ 0x52 ∷ [])
-    ∷ some (0xD7FF ∷ [])
-    ∷ none
-    ∷ none
-    ∷ none
-    ∷ none
-    ∷ none
-    ∷ none
+    ≡ Some []
+    ∷ Some (0x80 ∷ [])
+    ∷ Some (0x42 ∷ 0xFC ∷ 0x43 ∷ 0x48 ∷ 0x45 ∷ 0x52 ∷ [])
+    ∷ Some (0xD7FF ∷ [])
+    ∷ None
+    ∷ None
+    ∷ None
+    ∷ None
+    ∷ None
+    ∷ None
     ∷ []
 unfolding value threshold scaled adapt front consumed inserted landed run decode holds every scalar
 edges = refl

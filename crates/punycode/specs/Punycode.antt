@@ -14,7 +14,7 @@
 --     run, runs                   the rest of a text, and all its numbers
 --     decode                      the code points of a text, where there are any
 use Rattle.std.specs.Prelude.{ℕ, zero, suc, ◌+◌, ◌-◌, ◌*◌, ◌/◌, ◌%◌, Bool, true, false, cond, List, [], ◌∷◌, ◌++◌, leb, ltb, eqb, length, take, drop}
-use Rattle.std.proofs.Math.Option.{Option, some, none}
+use Rattle.std.specs.Prelude.{Option, Some, None}
 use Rattle.octets.specs.Octets.{octet}
 use Rattle.octets.specs.Finding.{holds}
 use Rattle.octets.specs.Tests.{every}
@@ -59,10 +59,10 @@ digit v = cond (ltb v 26) (octet "a" + v) (octet "0" + (v - 26))
 -- L23: capitals are read as small letters; what is neither letter nor figure is no digit
 unfoldable pub value : ℕ → Option ℕ
 value c =
-    cond (between (octet "a") (octet "z") c) (some (c - octet "a"))
-    (cond (between (octet "A") (octet "Z") c) (some (c - octet "A"))
-    (cond (between (octet "0") (octet "9") c) (some (c - octet "0" + 26))
-    none))
+    cond (between (octet "a") (octet "z") c) (Some (c - octet "a"))
+    (cond (between (octet "A") (octet "Z") c) (Some (c - octet "A"))
+    (cond (between (octet "0") (octet "9") c) (Some (c - octet "0" + 26))
+    None))
 
 -- L23: a digit below the threshold ends its number. k is 36 at the first digit, and 36 more at each further one.
 unfoldable pub threshold : ℕ → ℕ → ℕ
@@ -108,12 +108,12 @@ integer (suc f) bias k q =
 
 -- L23: the smaller of c and what was found behind it
 abbrev pub smaller : ℕ → Option ℕ → Option ℕ
-smaller c none = some c
-smaller c (some m) = some (cond (ltb c m) c m)
+smaller c None = Some c
+smaller c (Some m) = Some (cond (ltb c m) c m)
 
 -- L23: the smallest code point from n on
 unfoldable pub least : ℕ → List ℕ → Option ℕ
-least n [] = none
+least n [] = None
 least n (c ∷ s) = elim (ltb c n) [ true ↦ least n s | false ↦ smaller c (least n s) ]
 
 -- L23: the code point n, wherever it stands in a list. `delta` counts the places that lie before it: one for each code point below n,
@@ -137,8 +137,8 @@ unfoldable pub passes : ℕ → List ℕ → ℕ → ℕ → ℕ → ℕ → ℕ
 passes zero ps b n delta bias h = []
 passes (suc f) ps b n delta bias h =
     elim (least n ps) [
-      | none ↦ []
-      | some m ↦ pass (passes f ps b (m + 1)) b m ps (delta + (m - n) * (h + 1)) bias h
+      | None ↦ []
+      | Some m ↦ pass (passes f ps b (m + 1)) b m ps (delta + (m - n) * (h + 1)) bias h
     ]
 
 -- L23: the numbers of code points, of which b are below 128
@@ -176,7 +176,7 @@ landed after n old out i =
     let point = n + i / places in
     let next = i % places + 1 in
     elim (scalar point) [
-      | false ↦ none
+      | false ↦ None
       | true ↦ after point next (adapt (i - old) places (eqb old 0)) (inserted point (i % places) out) next 1 base
     ]
 
@@ -184,11 +184,11 @@ landed after n old out i =
 -- behind it. i is what the number comes to so far, and w is what its next digit counts. What is no digit, and an end inside a number,
 -- make that the text stands for nothing.
 unfoldable pub run : List ℕ → ℕ → ℕ → ℕ → List ℕ → ℕ → ℕ → ℕ → Option (List ℕ)
-run [] n old bias out i w k = cond (eqb k base) (some out) none
+run [] n old bias out i w k = cond (eqb k base) (Some out) None
 run (c ∷ s) n old bias out i w k =
     elim (value c) [
-      | none ↦ none
-      | some d ↦
+      | None ↦ None
+      | Some d ↦
           elim (ltb d (threshold k bias)) [
             | true ↦ landed (run s) n old out (i + d * w)
             | false ↦ run s n old bias out (i + d * w) (w * (base - threshold k bias)) (k + base)
@@ -203,6 +203,6 @@ runs s out = run s initial_n 0 initial_bias out 0 1 base
 unfoldable pub decode : List ℕ → Option (List ℕ)
 decode t =
     elim (all_basic (front t)) [
-      | false ↦ none
+      | false ↦ None
       | true ↦ runs (drop (consumed (front t)) t) (front t)
     ]

@@ -3,14 +3,14 @@
 --     Threshold    a threshold, with its bounds
 --     Halved       what adapting begins with
 use Rattle.std.specs.Prelude.{ℕ, ◌/◌, ◌≤◌, ◌≡◌, Bool, cond}
-use Rattle.std.proofs.Math.Option.{Option, some, none}
+use Rattle.std.specs.Prelude.{Option, Some, None}
 use Rattle.punycode.specs.Punycode.{threshold, damp}
 use Rattle.punycode.specs.declared.Value.{Value}
 use Rattle.punycode.specs.declared.Value.TheVariants.{Digit, Other}
 
 unfoldable pub value_of : Option ℕ → Value
-value_of none = Other
-value_of (some v) = Digit v
+value_of None = Other
+value_of (Some v) = Digit v
 
 pub record Threshold (k bias r : ℕ) : Type 0 where
   pub same : r ≡ threshold k bias

@@ -9,7 +9,7 @@ use Prim.Native.Nat.{ℕ, zero, suc}
 use mathlib.Core.Path.{◌≡◌, refl, sym, ap, ◌∙◌, subst}
 use mathlib.Core.Bool.{true}
 use mathlib.Core.List.{List, []}
-use mathlib.Core.Option.{Option, some, none}
+use Rattle.std.specs.Prelude.{Option, Some, None}
 use native.Mathlib.Omega.{arith}
 use Rattle.octets.specs.Options.{in_front, is_some}
 use Rattle.header.specs.Header.{FieldText, fields_of}
@@ -23,25 +23,25 @@ use Rattle.reader.specs.declared.Handed.TheVariants.{Over, Broken, Field}
 use Rattle.reader.proofs.Handing.{out_over, out_broken, out_field, behind_over, behind_broken, behind_field, stays}
 
 abbrev Agrees : List ℕ → ℕ → Option (List FieldText) → Handed → Type 0
-Agrees s k (some fs) h = (text_of s h ≡ field_of k fs) × (h ≡ Broken → ⊥)
-Agrees s k none h = h ≡ Over → ⊥
+Agrees s k (Some fs) h = (text_of s h ≡ field_of k fs) × (h ≡ Broken → ⊥)
+Agrees s k None h = h ≡ Over → ⊥
 
-agree_over : (s : List ℕ) (k : ℕ) → Agrees s k (some []) Over
+agree_over : (s : List ℕ) (k : ℕ) → Agrees s k (Some []) Over
 unfolding text_of field_of
 agree_over s k = (refl, λ e. let z : ◌≡◌ {A = ℕ} 0 1 = cc in omega arith)
 
-agree_broken : (s : List ℕ) (k : ℕ) → Agrees s k none Broken
+agree_broken : (s : List ℕ) (k : ℕ) → Agrees s k None Broken
 agree_broken s k e = let z : ◌≡◌ {A = ℕ} 0 1 = cc in omega arith
 
 agree_here : (s : List ℕ) (m n v e : ℕ) (o : Option (List FieldText)) → Agrees s 0 (in_front (field_at s m n v e) o) (Field m n v e)
 unfolding in_front text_of field_of
-agree_here s m n v e none = λ q. let z : ◌≡◌ {A = ℕ} 0 1 = cc in omega arith
-agree_here s m n v e (some fs) = (refl, λ q. let z : ◌≡◌ {A = ℕ} 0 1 = cc in omega arith)
+agree_here s m n v e None = λ q. let z : ◌≡◌ {A = ℕ} 0 1 = cc in omega arith
+agree_here s m n v e (Some fs) = (refl, λ q. let z : ◌≡◌ {A = ℕ} 0 1 = cc in omega arith)
 
 agree_on : (s : List ℕ) (k : ℕ) (f : FieldText) (o : Option (List FieldText)) (h : Handed) → Agrees s k o h → Agrees s (suc k) (in_front f o) h
 unfolding in_front field_of
-agree_on s k f none h a = a
-agree_on s k f (some fs) h a = a
+agree_on s k f None h a = a
+agree_on s k f (Some fs) h a = a
 
 -- by what stands at a place, with what is known behind a field
 module _ (k : ℕ) (s : List ℕ) (at : ℕ) (field : (n v e : ℕ) → step.Field n v e ≡ step_at s at → Agrees s k (fields_from s at) (handed_after k s at)) where
@@ -66,15 +66,15 @@ module _ (k : ℕ) (s : List ℕ) (at : ℕ) where
   known : (o : Option (List FieldText)) → fields_from s at ≡ o → Agrees s k o (handed_after k s at)
   known o e = subst (λ (x : Option (List FieldText)). Agrees s k x (handed_after k s at)) e (agrees k s at)
 
-  pub number_text : (fs : List FieldText) → fields_from s at ≡ some fs → text_of s (handed_after k s at) ≡ field_of k fs
-  number_text fs e = (known (some fs) e).0
+  pub number_text : (fs : List FieldText) → fields_from s at ≡ Some fs → text_of s (handed_after k s at) ≡ field_of k fs
+  number_text fs e = (known (Some fs) e).0
 
-  pub number_whole : (fs : List FieldText) → fields_from s at ≡ some fs → handed_after k s at ≡ Broken → ⊥
-  number_whole fs e = (known (some fs) e).1
+  pub number_whole : (fs : List FieldText) → fields_from s at ≡ Some fs → handed_after k s at ≡ Broken → ⊥
+  number_whole fs e = (known (Some fs) e).1
 
-  pub number_on : fields_from s at ≡ none → handed_after k s at ≡ Over → ⊥
-  number_on e = known none e
+  pub number_on : fields_from s at ≡ None → handed_after k s at ≡ Over → ⊥
+  number_on e = known None e
 
-pub number_of : (k : ℕ) (s : List ℕ) (fs : List FieldText) → fields_of s ≡ some fs → text_of s (handed_after k s 0) ≡ field_of k fs
+pub number_of : (k : ℕ) (s : List ℕ) (fs : List FieldText) → fields_of s ≡ Some fs → text_of s (handed_after k s 0) ≡ field_of k fs
 unfolding is_some
 number_of k s fs e = number_text k s 0 fs (sym (fields_fit s (clear_fits s true (sym (ap is_some e)) refl)) ∙ e)

@@ -6,7 +6,7 @@
 --     taken_at                 what is handed out at a place, and where the reader goes on
 --     text_of, field_of        the field that is handed out, and the field of a number of a list
 use Rattle.std.specs.Prelude.{ℕ, zero, suc, List, [], ◌∷◌}
-use Rattle.std.proofs.Math.Option.{Option, some, none}
+use Rattle.std.specs.Prelude.{Option, Some, None}
 use Rattle.std.specs.Borrow.{Bor}
 use Rattle.header.specs.Header.{FieldText}
 use Rattle.header.specs.Answers.{step_at, field_at}
@@ -52,12 +52,12 @@ taken_at s at = record { handed = handed_at s at; at = place_behind (handed_at s
 
 -- B14: the field that is handed out, by its places
 unfoldable pub text_of : List ℕ → Handed → Option FieldText
-text_of s Over = none
-text_of s Broken = none
-text_of s (Field m n v e) = some (field_at s m n v e)
+text_of s Over = None
+text_of s Broken = None
+text_of s (Field m n v e) = Some (field_at s m n v e)
 
 -- B14: fields are numbered from 0
 unfoldable pub field_of : ℕ → List FieldText → Option FieldText
-field_of k [] = none
-field_of zero (f ∷ fs) = some f
+field_of k [] = None
+field_of zero (f ∷ fs) = Some f
 field_of (suc k) (f ∷ fs) = field_of k fs

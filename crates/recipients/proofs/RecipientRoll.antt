@@ -10,7 +10,7 @@ use Prim.Native.Nat.{ℕ, ◌-◌, ◌≤◌}
 use mathlib.Core.Path.{◌≡◌, refl, sym, ap, ◌∙◌}
 use mathlib.Core.Bool.{true}
 use mathlib.Core.List.{List, [], ◌∷◌, ◌++◌, append_assoc, append-nil}
-use mathlib.Core.Option.{Option, some, none}
+use Rattle.std.specs.Prelude.{Option, Some, None}
 use native.Mathlib.Omega.{arith}
 use borrow.Author.Rules.{rules}
 use lib.ListN.{length, take, drop}
@@ -66,8 +66,8 @@ unfolding fields_in or_else
 block_room kind s = go (fields_of s) refl
   where
     go : (o : Option (List FieldText)) → fields_of s ≡ o → length (rolled (addresses_in (values_of kind (or_else [] (fields_of s))))) ≤ length s
-    go none e = rw e (omega (arith, values_room kind [], total_none (λ (x : FieldText). x.value)))
-    go (some fs) e = rw e (omega (arith, values_room kind fs, total_block s fs e))
+    go None e = rw e (omega (arith, values_room kind [], total_none (λ (x : FieldText). x.value)))
+    go (Some fs) e = rw e (omega (arith, values_room kind fs, total_block s fs e))
 
 pub addresses_plain : (values : List (List ℕ)) → every plain (addresses_in values) ≡ true
 unfolding addresses_in every

@@ -8,7 +8,7 @@ use Prim.Native.Nat.{ℕ, ◌≤◌, zero-le}
 use mathlib.Core.Path.{◌≡◌, sym, ap, ◌∙◌}
 use mathlib.Core.Bool.{Bool, true, false, false≢true}
 use mathlib.Core.List.{List, []}
-use mathlib.Core.Option.{Option, some, none}
+use Rattle.std.specs.Prelude.{Option, Some, None}
 use native.Mathlib.Omega.{arith}
 use borrow.Author.Tests.{leb-true}
 use lib.Dec.{leb}
@@ -30,25 +30,25 @@ use Rattle.recommend.proofs.Recommending.{admitted_recipients, done_advised, don
 
 in_range : (o : Option (List (List ℕ))) → recipient_list o ≡ true → (1 ≤ length (or_else [] o)) × (length (or_else [] o) ≤ most_recipients)
 unfolding recipient_list or_else
-in_range none e = absurd (false≢true e)
-in_range (some list) e =
+in_range None e = absurd (false≢true e)
+in_range (Some list) e =
     (leb-true 1 (length list) (and_left (leb 1 (length list)) _ e), leb-true (length list) most_recipients (and_right (leb 1 (length list)) _ e))
 
 module _ (t s : List ℕ) (m reply : Bool) where
   abbrev all : List Advice
   all = advised t m reply (or_else [] (addresses s))
 
-  counted : refused_recommending t s ≡ none → looked_up_of t s m reply ≡ first_disable all
+  counted : refused_recommending t s ≡ None → looked_up_of t s m reply ≡ first_disable all
   unfolding looked_up_of
   counted o = done_is (λ (x : Refusal). 0) (first_disable all) (refused_recommending t s) o
 
-  admitted_range : refused_recommending t s ≡ none → (1 ≤ looked_up_of t s m reply) × (looked_up_of t s m reply ≤ most_recipients)
+  admitted_range : refused_recommending t s ≡ None → (1 ≤ looked_up_of t s m reply) × (looked_up_of t s m reply ≤ most_recipients)
   unfolding advised
   admitted_range o =
-      let some = in_range (addresses s) (admitted_recipients t s o) in
+      let Some = in_range (addresses s) (admitted_recipients t s o) in
       let long : length all ≡ length (or_else [] (addresses s)) = length-map (or_else [] (addresses s)) (advice_in t m reply) in
       rw (counted o)
-      (first_least all (rw long some.0), omega (arith, first_most all, long, some.1))
+      (first_least all (rw long Some.0), omega (arith, first_most all, long, Some.1))
 
   -- A13: with an advice
   pub count_in_range : (a : Advice) → recommended_of t s m reply ≡ Done a → (1 ≤ looked_up_of t s m reply) × (looked_up_of t s m reply ≤ most_recipients)
@@ -71,8 +71,8 @@ module _ (t s : List ℕ) (m reply : Bool) where
       → (looked_up_of t s m reply ≡ length (or_else [] (addresses s))) × (any_disable all ≡ false)
   unfolding advised
   counted_all a e d =
-      let none = place_of_none all (λ q. d (done_advised t s m reply a e ∙ q)) in
-      (counted (done_admitted t s m reply a e) ∙ none.0 ∙ length-map (or_else [] (addresses s)) (advice_in t m reply), none.1)
+      let None = place_of_none all (λ q. d (done_advised t s m reply a e ∙ q)) in
+      (counted (done_admitted t s m reply a e) ∙ None.0 ∙ length-map (or_else [] (addresses s)) (advice_in t m reply), None.1)
 
   -- A12: both claims of the contract say what the whole answer is
   pub quick_whole : (r : Quick) → r.answer ≡ recommended_of t s m reply → r.looked_up ≡ looked_up_of t s m reply → r ≡ quick_of t s m reply

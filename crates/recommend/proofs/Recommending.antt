@@ -14,7 +14,7 @@ use Prim.Native.Nat.{ℕ, ◌+◌, ◌-◌, ◌^◌, ◌<◌, ◌≤◌, zero-le
 use mathlib.Core.Path.{◌≡◌, refl, sym, ap, ◌∙◌}
 use mathlib.Core.Bool.{Bool, true, false, ◌&&◌}
 use mathlib.Core.List.{List, [], ◌∷◌}
-use mathlib.Core.Option.{Option, some, none}
+use Rattle.std.specs.Prelude.{Option, Some, None}
 use native.Mathlib.Omega.{arith}
 use borrow.Author.Rules.{rules}
 use borrow.Author.Tests.{not-false}
@@ -54,7 +54,7 @@ use Rattle.recommend.specs.declared.Recommended.{Recommended}
 use Rattle.recommend.specs.declared.Recommended.TheVariants.{Done, Refused}
 
 -- 1 to 100 addresses
-list_of : (o : Option (List (List ℕ))) (list : List (List ℕ)) (n : ℕ) → o ≡ some list → n ≡ length list → (leb 1 n && leb n 100) ≡ recipient_list o
+list_of : (o : Option (List (List ℕ))) (list : List (List ℕ)) (n : ℕ) → o ≡ Some list → n ≡ length list → (leb 1 n && leb n 100) ≡ recipient_list o
 unfolding recipient_list
 list_of o list n e q = rw (e, q)
 
@@ -80,11 +80,11 @@ pub ruleset admitting = (admits_not, admits_both, rows)
 
 list_readable : (o : Option (List (List ℕ))) → recipient_list o ≡ true → is_some o ≡ true
 unfolding recipient_list is_some
-list_readable none e = e
-list_readable (some list) e = refl
+list_readable None e = e
+list_readable (Some list) e = refl
 
 -- no row holds
-module _ (t s : List ℕ) (e : refused_recommending t s ≡ none) where
+module _ (t s : List ℕ) (e : refused_recommending t s ≡ None) where
   abbrev last : List Row
   last = (Recipients unless recipient_list (addresses s)) ∷ []
 
@@ -105,7 +105,7 @@ table_taken t tags s k q h = h.opens q
 
 module _ (t s : List ℕ) (k : Answer) (e : k ≡ answer_of (refused_recommending t s)) where
   module _ (r : Refusal) (q : k ≡ NotAdmitted r) where
-    out : refused_recommending t s ≡ some r
+    out : refused_recommending t s ≡ Some r
     out = answer_refused (refused_recommending t s) r (sym e ∙ q)
 
     pub refused_part : (place : ℕ) → no_part ≡ target_part_of t s place
@@ -113,7 +113,7 @@ module _ (t s : List ℕ) (k : Answer) (e : k ≡ answer_of (refused_recommendin
     refused_part place = sym (refused_is (λ (x : Refusal). no_part) _ (refused_recommending t s) r out)
 
   module _ (q : k ≡ Admitted) where
-    in_order : refused_recommending t s ≡ none
+    in_order : refused_recommending t s ≡ None
     in_order = answer_done (refused_recommending t s) (sym e ∙ q)
 
     pub list_given : is_some (addresses s) ≡ true
@@ -200,11 +200,11 @@ pub ruleset recommending = (table_open, table_refused, table_uncounted, list_ref
 
 -- the part, and the key that it is
 module _ (t s : List ℕ) (place : ℕ) where
-  part_none : (r : Refusal) → refused_recommending t s ≡ some r → target_part_of t s place ≡ no_part
+  part_none : (r : Refusal) → refused_recommending t s ≡ Some r → target_part_of t s place ≡ no_part
   unfolding target_part_of
   part_none r e = refused_is (λ (x : Refusal). no_part) _ (refused_recommending t s) r e
 
-  part_some : refused_recommending t s ≡ none → target_part_of t s place ≡ target_at t (or_else [] (addresses s)) place
+  part_some : refused_recommending t s ≡ None → target_part_of t s place ≡ target_at t (or_else [] (addresses s)) place
   unfolding target_part_of
   part_some e = done_is (λ (x : Refusal). no_part) _ (refused_recommending t s) e
 
@@ -245,16 +245,16 @@ module _ (t s : List ℕ) (m reply : Bool) where
   advice = overall (advised t m reply (or_else [] (addresses s)))
 
   by_answer : (o : Option Refusal) (a : Recommended) → answered_by o Refused (Done advice) ≡ a → {P : Type 0}
-      → ((r : Refusal) → o ≡ some r → a ≡ Refused r → P) → (o ≡ none → a ≡ Done advice → P) → P
+      → ((r : Refusal) → o ≡ Some r → a ≡ Refused r → P) → (o ≡ None → a ≡ Done advice → P) → P
   unfolding answered_by
-  by_answer (some r) a e refused done = refused r refl (sym e)
-  by_answer none a e refused done = done refl (sym e)
+  by_answer (Some r) a e refused done = refused r refl (sym e)
+  by_answer None a e refused done = done refl (sym e)
 
   pub done_advised : (a : Advice) → recommended_of t s m reply ≡ Done a → a ≡ advice
   unfolding recommended_of
   done_advised a e = by_answer (refused_recommending t s) (Done a) e (λ r q z. cc) (λ q z. cc)
 
-  pub done_admitted : (a : Advice) → recommended_of t s m reply ≡ Done a → refused_recommending t s ≡ none
+  pub done_admitted : (a : Advice) → recommended_of t s m reply ≡ Done a → refused_recommending t s ≡ None
   unfolding recommended_of
   done_admitted a e = by_answer (refused_recommending t s) (Done a) e (λ r q z. let n : ◌≡◌ {A = ℕ} 0 1 = cc in absurd (omega arith)) (λ q z. q)
 
@@ -264,5 +264,5 @@ module _ (t s : List ℕ) (m reply : Bool) where
       by_answer (refused_recommending t s) (Refused (BrokenSlot i)) e
       (λ r q z.
       let same : BrokenSlot i ≡ r = cc in
-      lowest_broken Canonical t i (front_only (table_rows t) ((Recipients unless recipient_list (addresses s)) ∷ []) (BrokenSlot i) refl (q ∙ ap some (sym same))))
+      lowest_broken Canonical t i (front_only (table_rows t) ((Recipients unless recipient_list (addresses s)) ∷ []) (BrokenSlot i) refl (q ∙ ap Some (sym same))))
       (λ q z. let n : ◌≡◌ {A = ℕ} 0 1 = cc in absurd (omega arith))

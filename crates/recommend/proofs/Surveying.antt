@@ -8,7 +8,7 @@ use Prim.Native.Nat.{ℕ, suc, ◌+◌, ◌≤◌}
 use mathlib.Core.Path.{◌≡◌, refl, sym, ap, ◌∙◌}
 use mathlib.Core.Bool.{Bool, true, false, false≢true, and-false}
 use mathlib.Core.List.{List, [], ◌∷◌, ◌++◌, append-nil, append_assoc, map-append}
-use mathlib.Core.Option.{Option, some, none}
+use Rattle.std.specs.Prelude.{Option, Some, None}
 use native.Mathlib.Omega.{arith}
 use native.Mathlib.Numerals.{add-one}
 use borrow.Author.Rules.{rules}
@@ -35,24 +35,24 @@ use Rattle.recommend.specs.declared.Surveyed.TheVariants.{Fit, Unfit}
 
 -- addresses, and those behind them if these can be read
 unfoldable pub follows : List (List ℕ) → Option (List (List ℕ)) → Option (List (List ℕ))
-follows front none = none
-follows front (some rest) = some (front ++ rest)
+follows front None = None
+follows front (Some rest) = Some (front ++ rest)
 
 follows_nothing : (o : Option (List (List ℕ))) → o ≡ follows [] o
 unfolding follows
-follows_nothing none = refl
-follows_nothing (some rest) = refl
+follows_nothing None = refl
+follows_nothing (Some rest) = refl
 
 follows_one : (front : List (List ℕ)) (a : List ℕ) (o : Option (List (List ℕ))) → follows front (in_front a o) ≡ follows (front ++ a ∷ []) o
 unfolding follows in_front
-follows_one front a none = refl
-follows_one front a (some rest) = ap some (sym (append_assoc front (a ∷ []) rest))
+follows_one front a None = refl
+follows_one front a (Some rest) = ap Some (sym (append_assoc front (a ∷ []) rest))
 
 -- R10: more than 100, whatever follows
 too_many : (front : List (List ℕ)) (o : Option (List (List ℕ))) → most_recipients + 1 ≤ length front → recipient_list (follows front o) ≡ false
 unfolding follows recipient_list
-too_many front none h = refl
-too_many front (some rest) h = rw (lt-leb (length (front ++ rest)) most_recipients (simp length-append (omega arith)), and-false)
+too_many front None h = refl
+too_many front (Some rest) h = rw (lt-leb (length (front ++ rest)) most_recipients (simp length-append (omega arith)), and-false)
 
 -- The loop: these addresses were handed out, and this is what they come to.
 pub record Surveying (t s : List ℕ) (m reply : Bool) (least : Advice) (count looked : ℕ) (here : ListCursor) : Type 0 where
@@ -149,7 +149,7 @@ module _ (t s : List ℕ) (m reply : Bool) where
                 seen = longer_found ∙ sym (ap first_disable more ∙ first_grows found _ nobody);
               }
 
-    ended : k ≡ End → addresses s ≡ some h.front
+    ended : k ≡ End → addresses s ≡ Some h.front
     unfolding follows
     ended q = h.behind ∙ rw (hand_end s here k p q, append-nil)
 
@@ -160,9 +160,9 @@ module _ (t s : List ℕ) (m reply : Bool) where
     pub survey_all : k ≡ End → (count ≡ 0 → ⊥) → Fit least looked ≡ survey_of t m reply (addresses s)
     unfolding recipient_list or_else
     survey_all q d =
-        let in_range : recipient_list (some h.front) ≡ true =
+        let in_range : recipient_list (Some h.front) ≡ true =
         rw (le-leb 1 (length h.front) (omega (arith, h.many)), le-leb (length h.front) most_recipients (omega (arith, h.many, h.few))) in
-        cc (h.so_far, h.seen) ∙ fit (some h.front) in_range ∙ ap (survey_of t m reply) (sym (ended q))
+        cc (h.so_far, h.seen) ∙ fit (Some h.front) in_range ∙ ap (survey_of t m reply) (sym (ended q))
 
     pub survey_unread : k ≡ Unreadable → Unfit ≡ survey_of t m reply (addresses s)
     unfolding recipient_list follows

@@ -8,7 +8,7 @@
 --     looked_up_of, quick_of                    how many recipients `recommend_quick` looks up, and what it answers
 --     target_part_of, target_key_of             the part of the table that is handed back, and the key that it is
 use Rattle.std.specs.Prelude.{ℕ, ◌≡◌, Bool, true, false, List, [], ◌∷◌, ◌++◌, length, get_or}
-use Rattle.std.proofs.Math.Option.{Option, some, none}
+use Rattle.std.specs.Prelude.{Option, Some, None}
 use Rattle.octets.specs.Tests.{one_to}
 use Rattle.octets.specs.Options.{or_else}
 use Rattle.refusals.specs.Rows.{Row, ◌unless◌, first_of, answered_by, answer_of, unless_refused}
@@ -34,8 +34,8 @@ most_recipients = 100
 
 -- R10: the list is readable and gives 1 to 100 addresses, each counted as often as it stands
 unfoldable pub recipient_list : Option (List (List ℕ)) → Bool
-recipient_list none = false
-recipient_list (some list) = one_to most_recipients (length list)
+recipient_list None = false
+recipient_list (Some list) = one_to most_recipients (length list)
 
 -- A1, R10: behind rows 1 and 2, 10 for the list, which is read as it is, not unfolded (L19)
 unfoldable pub recommending_rows : List ℕ → List ℕ → List Row

@@ -20,7 +20,7 @@ use mathlib.Core.Path.{◌≡◌, refl, sym, ap, ◌∙◌}
 use mathlib.Core.Logic.{◌↔◌}
 use mathlib.Core.Bool.{Bool, true, false, not, ◌&&◌, ◌||◌, false≢true}
 use mathlib.Core.List.{List, [], ◌∷◌, ◌++◌}
-use mathlib.Core.Option.{Option, some, none}
+use Rattle.std.specs.Prelude.{Option, Some, None}
 use native.Mathlib.Omega.{arith}
 use borrow.Author.Rules.{rules}
 use borrow.Author.Tests.{eq-eqb}
@@ -31,13 +31,13 @@ use Rattle.refusals.specs.declared.Refusal.{Refusal}
 use Rattle.refusals.specs.declared.Answer.{Answer}
 use Rattle.refusals.specs.declared.Answer.TheVariants.{Done, Refused}
 
-pub by_refusal : {P : Type 0} (o : Option Refusal) → ((r : Refusal) → o ≡ some r → P) → (o ≡ none → P) → P
-by_refusal (some r) a b = a r refl
-by_refusal none a b = b refl
+pub by_refusal : {P : Type 0} (o : Option Refusal) → ((r : Refusal) → o ≡ Some r → P) → (o ≡ None → P) → P
+by_refusal (Some r) a b = a r refl
+by_refusal None a b = b refl
 
 -- the first row
 module _ (r : Refusal) (b : Bool) (rest : List Row) where
-  pub first_here : b ≡ true → first_of ((r when b) ∷ rest) ≡ some r
+  pub first_here : b ≡ true → first_of ((r when b) ∷ rest) ≡ Some r
   unfolding first_of
   first_here e = rw e
 
@@ -63,20 +63,20 @@ exactly ((r when false) ∷ rest) n = (λ e. behind refl ((exactly rest n).0 e),
     from more (behind e g) = more g
 
 -- rows in front of others
-pub first_front : (rows rest : List Row) (r : Refusal) → first_of rows ≡ some r → first_of (rows ++ rest) ≡ some r
+pub first_front : (rows rest : List Row) (r : Refusal) → first_of rows ≡ Some r → first_of (rows ++ rest) ≡ Some r
 unfolding first_of
 first_front [] rest r e = cc
 first_front ((q when true) ∷ rows) rest r e = e
 first_front ((q when false) ∷ rows) rest r e = first_front rows rest r e
 
-pub first_rest : (rows rest : List Row) → first_of rows ≡ none → first_of (rows ++ rest) ≡ first_of rest
+pub first_rest : (rows rest : List Row) → first_of rows ≡ None → first_of (rows ++ rest) ≡ first_of rest
 unfolding first_of
 first_rest [] rest e = refl
 first_rest ((q when true) ∷ rows) rest e = cc
 first_rest ((q when false) ∷ rows) rest e = first_rest rows rest e
 
 -- a refusal of which no row holds is not given
-pub never_given : (rows : List Row) (r : Refusal) → some_holds (number_of r) rows ≡ false → first_of rows ≡ some r → ⊥
+pub never_given : (rows : List Row) (r : Refusal) → some_holds (number_of r) rows ≡ false → first_of rows ≡ Some r → ⊥
 unfolding first_of some_holds
 never_given [] r m e = let z : ◌≡◌ {A = ℕ} 0 1 = cc in omega arith
 never_given ((q when true) ∷ rows) r m e =
@@ -90,51 +90,51 @@ never_given ((q when false) ∷ rows) r m e = never_given rows r (or_right (eqb 
     or_right false b n = n
 
 -- a refusal of which no row among the last holds is one of the first
-pub front_only : (rows rest : List Row) (r : Refusal) → some_holds (number_of r) rest ≡ false → first_of (rows ++ rest) ≡ some r → first_of rows ≡ some r
+pub front_only : (rows rest : List Row) (r : Refusal) → some_holds (number_of r) rest ≡ false → first_of (rows ++ rest) ≡ Some r → first_of rows ≡ Some r
 front_only rows rest r m e =
     by_refusal (first_of rows)
-    (λ q f. let z : some q ≡ some r = sym (first_front rows rest q f) ∙ e in f ∙ z)
+    (λ q f. let z : Some q ≡ Some r = sym (first_front rows rest q f) ∙ e in f ∙ z)
     (λ f. absurd (never_given rest r m (sym (first_rest rows rest f) ∙ e)))
 
 -- no row holds
-pub none_here : (r : Refusal) (b : Bool) (rest : List Row) → first_of ((r when b) ∷ rest) ≡ none → b ≡ false
+pub none_here : (r : Refusal) (b : Bool) (rest : List Row) → first_of ((r when b) ∷ rest) ≡ None → b ≡ false
 unfolding first_of
 none_here r true rest e = cc
 none_here r false rest e = refl
 
-pub none_rest : (r : Refusal) (b : Bool) (rest : List Row) → first_of ((r when b) ∷ rest) ≡ none → first_of rest ≡ none
+pub none_rest : (r : Refusal) (b : Bool) (rest : List Row) → first_of ((r when b) ∷ rest) ≡ None → first_of rest ≡ None
 unfolding first_of
 none_rest r true rest e = cc
 none_rest r false rest e = e
 
-pub none_front : (rows rest : List Row) → first_of (rows ++ rest) ≡ none → first_of rows ≡ none
+pub none_front : (rows rest : List Row) → first_of (rows ++ rest) ≡ None → first_of rows ≡ None
 unfolding first_of
 none_front [] rest e = refl
 none_front ((q when true) ∷ rows) rest e = e
 none_front ((q when false) ∷ rows) rest e = none_front rows rest e
 
-pub none_behind : (rows rest : List Row) → first_of (rows ++ rest) ≡ none → first_of rest ≡ none
+pub none_behind : (rows rest : List Row) → first_of (rows ++ rest) ≡ None → first_of rest ≡ None
 none_behind rows rest e = sym (first_rest rows rest (none_front rows rest e)) ∙ e
 
 -- what is answered and left
 module _ {A : Type 0} (f : Refusal → A) (d : A) where
-  pub refused_is : (o : Option Refusal) (r : Refusal) → o ≡ some r → answered_by o f d ≡ f r
+  pub refused_is : (o : Option Refusal) (r : Refusal) → o ≡ Some r → answered_by o f d ≡ f r
   unfolding answered_by
   refused_is o r e = rw e
 
-  pub done_is : (o : Option Refusal) → o ≡ none → answered_by o f d ≡ d
+  pub done_is : (o : Option Refusal) → o ≡ None → answered_by o f d ≡ d
   unfolding answered_by
   done_is o e = rw e
 
-pub answer_refused : (o : Option Refusal) (r : Refusal) → answer_of o ≡ Refused r → o ≡ some r
+pub answer_refused : (o : Option Refusal) (r : Refusal) → answer_of o ≡ Refused r → o ≡ Some r
 unfolding answered_by
-answer_refused (some q) r e = ap some cc
-answer_refused none r e = cc
+answer_refused (Some q) r e = ap Some cc
+answer_refused None r e = cc
 
-pub answer_done : (o : Option Refusal) → answer_of o ≡ Done → o ≡ none
+pub answer_done : (o : Option Refusal) → answer_of o ≡ Done → o ≡ None
 unfolding answered_by
-answer_done (some q) e = cc
-answer_done none e = refl
+answer_done (Some q) e = cc
+answer_done None e = refl
 
 -- Rows as the code tests them; x is what the call answers or leaves.
 module _ {A : Type 0} (f : Refusal → A) (d : A) (r : Refusal) (rest : List Row) (x : A) where

@@ -8,7 +8,7 @@
 --     Gives                      the row of a number holds and none before it; for 0, no row holds
 --     some_holds                 is there a row with this number that holds?
 use Rattle.std.specs.Prelude.{ℕ, ◌≡◌, Bool, true, false, not, ◌&&◌, ◌||◌, List, [], ◌∷◌, eqb}
-use Rattle.std.proofs.Math.Option.{Option, some, none}
+use Rattle.std.specs.Prelude.{Option, Some, None}
 use Rattle.refusals.specs.Refusals.{number_of}
 use Rattle.refusals.specs.declared.Refusal.{Refusal}
 use Rattle.refusals.specs.declared.Answer.{Answer}
@@ -25,12 +25,12 @@ r unless b = r when (not b)
 infix 30 ◌unless◌
 -- R31: the first row that holds; those behind it are not asked
 unfoldable pub first_of : List Row → Option Refusal
-first_of [] = none
-first_of ((r when b) ∷ rest) = elim b [ true ↦ some r | false ↦ first_of rest ]
+first_of [] = None
+first_of ((r when b) ∷ rest) = elim b [ true ↦ Some r | false ↦ first_of rest ]
 
 unfoldable pub answered_by : {A : Type 0} → Option Refusal → (Refusal → A) → A → A
-answered_by (some r) refused done = refused r
-answered_by none refused done = done
+answered_by (Some r) refused done = refused r
+answered_by None refused done = done
 
 abbrev pub answer_of : Option Refusal → Answer
 answer_of o = answered_by o Refused Done

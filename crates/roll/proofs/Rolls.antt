@@ -12,7 +12,7 @@ use Prim.Native.Nat.{ℕ, suc, ◌+◌, ◌<◌}
 use mathlib.Core.Path.{◌≡◌, refl, sym, ◌∙◌}
 use mathlib.Core.Bool.{true, false, false≢true}
 use mathlib.Core.List.{List, [], ◌∷◌, ◌++◌, append_assoc, append-nil}
-use mathlib.Core.Option.{Option, some, none}
+use Rattle.std.specs.Prelude.{Option, Some, None}
 use native.Mathlib.Omega.{arith}
 use borrow.Author.Tests.{eqb-true, ne_eqb}
 use lib.Dec.{eqb}
@@ -132,11 +132,11 @@ opens (x ∷ s) a rest e =
         rw (n, m) (opens_on x s p b r (h b r q))
 
 module _ (s : List ℕ) where
-  pub listed_readable : (list : List (List ℕ)) → addresses s ≡ some list → listed_in s ≡ list
+  pub listed_readable : (list : List (List ℕ)) → addresses s ≡ Some list → listed_in s ≡ list
   unfolding listed_in or_else
   listed_readable list e = rw (listed_in, e)
 
-  pub listed_unreadable : addresses s ≡ none → listed_in s ≡ []
+  pub listed_unreadable : addresses s ≡ None → listed_in s ≡ []
   unfolding listed_in or_else
   listed_unreadable e = rw (listed_in, e)
 
@@ -150,5 +150,5 @@ unfolding every
 listed_plain s = go (addresses s) refl
   where
     go : (o : Option (List (List ℕ))) → addresses s ≡ o → every plain (listed_in s) ≡ true
-    go none e = rw (listed_unreadable s e)
-    go (some list) e = rw (listed_readable s list e) (every_plain list (readable_at s list e))
+    go None e = rw (listed_unreadable s e)
+    go (Some list) e = rw (listed_readable s list e) (every_plain list (readable_at s list e))

@@ -9,7 +9,7 @@ use Prim.Native.Nat.{ℕ, ◌+◌, ◌*◌, ◌≤◌}
 use mathlib.Core.Path.{◌≡◌, refl, ap, ◌∙◌}
 use mathlib.Core.Bool.{true}
 use mathlib.Core.List.{List, [], ◌∷◌, ◌++◌}
-use mathlib.Core.Option.{Option, some, none}
+use Rattle.std.specs.Prelude.{Option, Some, None}
 use native.Mathlib.Omega.{arith}
 use lib.ListN.{length, length-append}
 use Rattle.octets.specs.Options.{total}
@@ -29,15 +29,15 @@ unfolding total
 rolled_total [] = ap length rolled_none
 rolled_total (a ∷ rest) = rolled_length a rest ∙ rw (rolled_total rest)
 
-pub rolled_room : (s : List ℕ) (list : List (List ℕ)) → addresses s ≡ some list → length (rolled list) ≤ length s + 1
+pub rolled_room : (s : List ℕ) (list : List (List ℕ)) → addresses s ≡ Some list → length (rolled list) ≤ length s + 1
 rolled_room s list e = omega (arith, rolled_total list, total_room s list e)
 
 pub listed_room : (s : List ℕ) → length (rolled (listed_in s)) ≤ length s + 1
 listed_room s = go (addresses s) refl
   where
     go : (o : Option (List (List ℕ))) → addresses s ≡ o → length (rolled (listed_in s)) ≤ length s + 1
-    go none e = rw (listed_unreadable s e) (omega (arith, ap length rolled_none))
-    go (some list) e = rw (listed_readable s list e) (rolled_room s list e)
+    go None e = rw (listed_unreadable s e) (omega (arith, ap length rolled_none))
+    go (Some list) e = rw (listed_readable s list e) (rolled_room s list e)
 
 -- the addresses of a list s in front of others that take n octets
 pub lists_room :

@@ -5,7 +5,7 @@ use Prim.Native.Nat.{ℕ, ◌+◌, ◌-◌}
 use mathlib.Core.Path.{◌≡◌, refl, sym, ◌∙◌}
 use mathlib.Core.Bool.{true, false}
 use mathlib.Core.List.{List, ◌++◌}
-use mathlib.Core.Option.{some}
+use Rattle.std.specs.Prelude.{Some}
 use native.Mathlib.Omega.{arith}
 use borrow.Author.Tests.{le-leb, lt-leb}
 use lib.Dec.{leb}
@@ -45,7 +45,7 @@ near_ends {s} {t} a =
     rw (alike_length a, near_sign 45 (omega arith) (alike_at a 0), near_sign 45 (omega arith) (alike_at a (length s - 1)))
 
 module _ (s : List ℕ) (h : label s ≡ true) (a : all_ascii s ≡ false) where
-  module _ (ps : List ℕ) (e : points s ≡ some ps) where
+  module _ (ps : List ℕ) (e : points s ≡ Some ps) where
     abbrev small : List ℕ
     small = lower_points ps
 
@@ -61,10 +61,10 @@ module _ (s : List ℕ) (h : label s ≡ true) (a : all_ascii s ≡ false) where
     alike : Alike s (encoded small)
     alike = rw text at (alike_text s)
 
-    its_form : label_form s ≡ some form
+    its_form : label_form s ≡ Some form
     its_form = coded_as s a ps e
 
-    text_form : label_form (encoded small) ≡ some form
+    text_form : label_form (encoded small) ≡ Some form
     text_form = coded_as (encoded small) (alike_ascii alike ∙ a) small (points_encoded small small_points) ∙ rw (lower_points_twice ps)
 
     text_label : label (encoded small) ≡ true

@@ -10,7 +10,7 @@ use Prim.Native.Nat.{ℕ, ◌+◌, ◌-◌, ◌<◌, ◌≤◌}
 use mathlib.Core.Path.{◌≡◌, refl, sym, ap, ◌∙◌}
 use mathlib.Core.Bool.{Bool, true, false, ◌&&◌, false≢true}
 use mathlib.Core.List.{List, [], append-nil}
-use mathlib.Core.Option.{Option, some, none}
+use Rattle.std.specs.Prelude.{Option, Some, None}
 use mathlib.Core.Logic.{⊎_elim}
 use native.Mathlib.Nat.{sub-zero}
 use native.Mathlib.Omega.{arith}
@@ -63,7 +63,7 @@ module _ (t w f₀ f : List ℕ) (l : length f₀ ≡ 63) (r : Laid) (h : PutsTe
     is_label : label t ≡ true
     is_label = (of_label t own.text own.is).0
 
-    is_form : label_form t ≡ some own.text
+    is_form : label_form t ≡ Some own.text
     unfolding label_of
     is_form = rw is_label at own.is
 
@@ -100,7 +100,7 @@ module _ (c d p₀ p : List ℕ) (o : Decoded) where
     pub decoded_points : scalars (take n p) ≡ true
     decoded_points = decode_scalars c (take n p) read.text
 
-    is_text : text_of (decode c) ≡ some (encoded (take n p))
+    is_text : text_of (decode c) ≡ Some (encoded (take n p))
     unfolding text_of
     is_text = ap text_of read.text
 
@@ -123,10 +123,10 @@ module _ (d e : List ℕ) (at : ℕ) (r : Laid) where
 pub ruleset putting_either = (either_text, either_form, rules)
 
 -- what is shown of a form, by the text that its code stands for
-by_text : (w : List ℕ) (o : Option (List ℕ)) (v : List ℕ) → text_of o ≡ some v → shown_by w o ≡ either_of w v
+by_text : (w : List ℕ) (o : Option (List ℕ)) (v : List ℕ) → text_of o ≡ Some v → shown_by w o ≡ either_of w v
 unfolding text_of shown_by either_of
-by_text w none v e = absurd (let z : ◌≡◌ {A = ℕ} 0 1 = cc in omega arith)
-by_text w (some ps) v e = let k : v ≡ encoded ps = cc in rw k
+by_text w None v e = absurd (let z : ◌≡◌ {A = ℕ} 0 1 = cc in omega arith)
+by_text w (Some ps) v e = let k : v ≡ encoded ps = cc in rw k
 
 -- a form w that opens as a coded label does. Its text is written into x₀, which is then x.
 module _ (w : List ℕ) (few : 4 ≤ length w) (most : length w ≤ 63) where
@@ -141,7 +141,7 @@ module _ (w : List ℕ) (few : 4 ≤ length w) (most : length w ≤ 63) where
     unfolding shown_by text_of
     opened_none q p =
         let k : Untold x₀ 0 x (text_of (decode code)) = rw q at h in
-        let s : (ps : List ℕ) → decode code ≡ some ps → ⊥ = λ ps y. omega (arith, k.long (encoded ps) (ap text_of y), encoded_most ps, decode_most code ps y, ap length code_is, length-drop 4 w) in
+        let s : (ps : List ℕ) → decode code ≡ Some ps → ⊥ = λ ps y. omega (arith, k.long (encoded ps) (ap text_of y), encoded_most ps, decode_most code ps y, ap length code_is, length-drop 4 w) in
         by_option (decode code)
         (λ y. rw (← code_is, y) p)
         (λ ps y. absurd (s ps y))

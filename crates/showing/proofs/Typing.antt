@@ -11,7 +11,7 @@ use Prim.Native.Nat.{ℕ, ◌<◌, ◌≤◌}
 use mathlib.Core.Path.{◌≡◌, refl, sym, ap, ◌∙◌}
 use mathlib.Core.Bool.{true, false, not, ◌&&◌, false≢true}
 use mathlib.Core.List.{List, ◌∷◌, ◌++◌, map, append-nil}
-use mathlib.Core.Option.{Option, some, none}
+use Rattle.std.specs.Prelude.{Option, Some, None}
 use native.Mathlib.Omega.{arith}
 use borrow.Author.Tests.{le-leb, eqb-true}
 use lib.Dec.{eqb}
@@ -39,16 +39,16 @@ use Rattle.address.proofs.Growing.{plain_long}
 use Rattle.showing.specs.Showing.{same_form, shown_by, shown, displayed}
 
 -- a form that is the same
-same_form_lem : (w : List ℕ) (o : Option (List ℕ)) → same_form w o ≡ true → o ≡ some w
+same_form_lem : (w : List ℕ) (o : Option (List ℕ)) → same_form w o ≡ true → o ≡ Some w
 unfolding same_form
-same_form_lem w none e = absurd (false≢true e)
-same_form_lem w (some v) e = ap some (same_true v w e)
+same_form_lem w None e = absurd (false≢true e)
+same_form_lem w (Some v) e = ap Some (same_true v w e)
 
-module _ (P : List ℕ → Type 0) (w : List ℕ) (same : P w) (other : (t : List ℕ) → label t ≡ true → label_form t ≡ some w → P t) where
+module _ (P : List ℕ → Type 0) (w : List ℕ) (same : P w) (other : (t : List ℕ) → label t ≡ true → label_form t ≡ Some w → P t) where
   by_shown_by : (o : Option (List ℕ)) → P (shown_by w o)
   unfolding shown_by
-  by_shown_by none = same
-  by_shown_by (some ps) =
+  by_shown_by None = same
+  by_shown_by (Some ps) =
       by_test (label (encoded ps) && same_form w (label_form (encoded ps)))
       (λ e.
       rw e

@@ -4,7 +4,7 @@
 --     shown_labels   the labels of a domain as they are shown, with the dots between them
 --     shown_form     what is shown of an address in canonical form
 use Rattle.std.specs.Prelude.{ℕ, cond, ◌&&◌, List, ◌∷◌, ◌++◌, map}
-use Rattle.std.proofs.Math.Option.{Option, some, none}
+use Rattle.std.specs.Prelude.{Option, Some, None}
 use Rattle.octets.specs.Octets.{octet}
 use Rattle.utf8.specs.Utf8.{encoded}
 use Rattle.pieces.specs.Pieces.{pieces, before, behind, joined}
@@ -13,8 +13,8 @@ use Rattle.showing.specs.Showing.{same_form, shown}
 
 -- L20: code points in UTF-8
 unfoldable pub text_of : Option (List ℕ) → Option (List ℕ)
-text_of none = none
-text_of (some ps) = some (encoded ps)
+text_of None = None
+text_of (Some ps) = Some (encoded ps)
 
 -- W12: what is shown can be typed back
 unfoldable pub either_of : List ℕ → List ℕ → List ℕ

@@ -3,7 +3,7 @@
 --     shown_by, shown    what is shown of a label's form
 --     displayed          what is shown of an address
 use Rattle.std.specs.Prelude.{ℕ, Bool, false, cond, ◌&&◌, List, ◌∷◌, ◌++◌, map, length, drop}
-use Rattle.std.proofs.Math.Option.{Option, some, none}
+use Rattle.std.specs.Prelude.{Option, Some, None}
 use Rattle.octets.specs.Octets.{octet, same_octets, starts_with}
 use Rattle.utf8.specs.Utf8.{encoded}
 use Rattle.punycode.specs.Punycode.{decode}
@@ -13,13 +13,13 @@ use Rattle.address.specs.Address.{canonical}
 
 -- W12: the form of a text, where it has one, is w
 unfoldable pub same_form : List ℕ → Option (List ℕ) → Bool
-same_form w none = false
-same_form w (some v) = same_octets v w
+same_form w None = false
+same_form w (Some v) = same_octets v w
 
 -- W12: code points, written in UTF-8, where they are a label with just the form w; else w
 unfoldable pub shown_by : List ℕ → Option (List ℕ) → List ℕ
-shown_by w none = w
-shown_by w (some ps) = cond (label (encoded ps) && same_form w (label_form (encoded ps))) (encoded ps) w
+shown_by w None = w
+shown_by w (Some ps) = cond (label (encoded ps) && same_form w (label_form (encoded ps))) (encoded ps) w
 
 -- W12: what opens as a coded label does is decoded
 unfoldable pub shown : List ℕ → List ℕ

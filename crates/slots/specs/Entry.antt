@@ -3,7 +3,7 @@
 --     padded, areas, slot_of   a text in its room, the three of an entry, and the whole slot
 --     GoodKey .. Good          good entries, with the key limit of slots
 use Rattle.std.specs.Prelude.{ℕ, ◌-◌, List, ◌++◌, length, replicate}
-use Rattle.std.proofs.Math.Option.{Option}
+use Rattle.std.specs.Prelude.{Option}
 use Rattle.octets.specs.Options.{or_else}
 use Rattle.heads.specs.Head.{has_last_seen, has_direct, has_gossip, is_mutual, last_seen, timestamp, gossip_timestamp, head_octets}
 use Rattle.heads.specs.Entry.{Direct, Gossip, Entry, present, no_direct, no_gossip, head_for}

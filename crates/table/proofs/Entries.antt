@@ -8,7 +8,7 @@ use Prim.Native.Nat.{ℕ, ◌≤◌}
 use mathlib.Core.Path.{◌≡◌, sym, ◌∙◌}
 use mathlib.Core.Bool.{true}
 use mathlib.Core.List.{List}
-use mathlib.Core.Option.{some, none}
+use Rattle.std.specs.Prelude.{Some, None}
 use native.Mathlib.Omega.{arith}
 use Rattle.octets.specs.Octets.{AllOctets}
 use Rattle.slots.specs.Slot.{sound}
@@ -27,11 +27,11 @@ use Rattle.table.proofs.Judging.{whole_few}
 use Rattle.table.proofs.Keeping.{table_sound, used_sound}
 
 module _ (t a : List ℕ) where
-  pub entry_at : (i : ℕ) → found t a ≡ At i → entry_in t a ≡ some (entry_of (slot_at t i))
+  pub entry_at : (i : ℕ) → found t a ≡ At i → entry_in t a ≡ Some (entry_of (slot_at t i))
   unfolding entry_in
   entry_at i e = rw (entry_in, e)
 
-  pub entry_nothing : found t a ≡ Nothing → entry_in t a ≡ none
+  pub entry_nothing : found t a ≡ Nothing → entry_in t a ≡ None
   unfolding entry_in
   entry_nothing e = rw (entry_in, e)
 
@@ -43,16 +43,16 @@ module _ (t a : List ℕ) (s : checked t ≡ Sound) (o : AllOctets t) where
   found_good i e =
       good_entry (slot_at t i) (slot_long t i (found_at t a i e).0) (sound_parts (slot_at t i) (entry_sound t a s i e)) (slot_octets t i o)
 
-  pub entry_good : (e : Entry) → entry_in t a ≡ some e → Good e × (e.address ≡ a)
+  pub entry_good : (e : Entry) → entry_in t a ≡ Some e → Good e × (e.address ≡ a)
   unfolding entry_of
   entry_good e p =
       by_found (found t a)
       (λ i f.
-      let q : some (entry_of (slot_at t i)) ≡ some e = sym (entry_at t a i f) ∙ p in
+      let q : Some (entry_of (slot_at t i)) ≡ Some e = sym (entry_at t a i f) ∙ p in
       let r : entry_of (slot_at t i) ≡ e = cc in
       rw (← r) (found_good i f, found_address t a i f))
       (λ f.
-      let q : none ≡ some e = sym (entry_nothing t a f) ∙ p in
+      let q : None ≡ Some e = sym (entry_nothing t a f) ∙ p in
       let z : ◌≡◌ {A = ℕ} 0 1 = cc in
       absurd (omega arith))
 

@@ -8,7 +8,7 @@
 use Prim.Native.Nat.{ℕ, ◌+◌, ◌*◌, ◌<◌}
 use mathlib.Core.Path.{◌≡◌, sym, ◌∙◌}
 use mathlib.Core.Bool.{true, false, false≢true}
-use mathlib.Core.Option.{some}
+use Rattle.std.specs.Prelude.{Some}
 use mathlib.Core.List.{List}
 use native.Mathlib.Omega.{arith}
 use borrow.Author.Tests.{eqb-true, eqb-false}
@@ -80,7 +80,7 @@ module _ (t : List ℕ) (i : ℕ) (l : i < slots t) (e : Entry) (g : Good e) whe
       (lowest_is (has_address e.address) (with_slot t i (slot_of e)) 0 (slots t) i (omega arith) (omega arith) (rw here (made_has e g))
       (λ m a b. rw (there m (λ q. omega arith)) (n m (omega arith) (λ q. omega arith))))
 
-  pub entry_written : ((j : ℕ) → j < slots t → (j ≡ i → ⊥) → has_address e.address (slot_at t j) ≡ false) → entry_in (with_slot t i (slot_of e)) e.address ≡ some e
+  pub entry_written : ((j : ℕ) → j < slots t → (j ≡ i → ⊥) → has_address e.address (slot_at t j) ≡ false) → entry_in (with_slot t i (slot_of e)) e.address ≡ Some e
   entry_written n = entry_at (with_slot t i (slot_of e)) e.address i (found_written n) ∙ rw (here, entry_back e g)
 
   -- an address that neither the entry has nor what stood there before

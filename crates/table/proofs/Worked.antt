@@ -8,7 +8,7 @@
 use Prim.Native.Nat.{ℕ}
 use mathlib.Core.Path.{◌≡◌, refl}
 use mathlib.Core.Bool.{true}
-use mathlib.Core.Option.{some, none}
+use Rattle.std.specs.Prelude.{Some, None}
 use mathlib.Core.List.{List, [], ◌∷◌, ◌++◌}
 use lib.ListN.{replicate}
 use Rattle.octets.specs.Octets.{ascii, all_zero, same_octets, lowered, lower}
@@ -50,9 +50,9 @@ alice =
     slot_of
     (record {
       address = ascii "alice@a.example";
-      last_seen = some 1000;
-      direct = some (record { timestamp = 1000; key = 1 ∷ 2 ∷ 3 ∷ []; «mutual» = true });
-      gossip = none;
+      last_seen = Some 1000;
+      direct = Some (record { timestamp = 1000; key = 1 ∷ 2 ∷ 3 ∷ []; «mutual» = true });
+      gossip = None;
     })
 
 second_found : found (empty ++ alice) (ascii "alice@a.example") ≡ At 1

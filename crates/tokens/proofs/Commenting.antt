@@ -11,7 +11,7 @@ use Prim.Native.Nat.{ℕ, suc, zero, ◌+◌, ◌-◌, ◌<◌, ◌≤◌}
 use mathlib.Core.Path.{◌≡◌, refl, sym, ◌∙◌}
 use mathlib.Core.Bool.{false}
 use mathlib.Core.List.{List}
-use mathlib.Core.Option.{none}
+use Rattle.std.specs.Prelude.{None}
 use native.Mathlib.Omega.{arith}
 use native.Mathlib.Numerals.{add-one}
 use borrow.Author.Rules.{rules}
@@ -27,7 +27,7 @@ use Rattle.tokens.specs.declared.StepIn.TheVariants.{On, Ends, Stops}
 use Rattle.tokens.specs.declared.Reached.{Reached}
 use Rattle.tokens.specs.declared.Reached.TheVariants.{To, Unreadable}
 
-past_end : (s : List ℕ) (i n : ℕ) → length s ≤ i → past (suc n) false (drop i s) ≡ none
+past_end : (s : List ℕ) (i n : ℕ) → length s ≤ i → past (suc n) false (drop i s) ≡ None
 unfolding past
 past_end s i n h = rw drop_done
 
@@ -37,7 +37,7 @@ module _ (s : List ℕ) (i : ℕ) (h : i < length s) where
   past_opens zero q l = rw (drop_one s i h, past, q, q)
   past_opens (suc n) q l = rw (drop_one s i h, past, q, lt-ltb (suc n) 16 l)
 
-  past_too_deep : get_or s i 0 ≡ 40 → past 16 false (drop i s) ≡ none
+  past_too_deep : get_or s i 0 ≡ 40 → past 16 false (drop i s) ≡ None
   unfolding past
   past_too_deep q = rw (drop_one s i h, past, q)
 
@@ -59,7 +59,7 @@ pub inside_begin : (s : List ℕ) (at room : ℕ) → Inside s at room at
 inside_begin s at room = record { from = omega arith; same = refl }
 
 module _ (s : List ℕ) (at room i : ℕ) (h : Inside s at room i) where
-  pub inside_end : length s ≤ i → past (suc (opened (room + 1))) false (drop at s) ≡ none
+  pub inside_end : length s ≤ i → past (suc (opened (room + 1))) false (drop at s) ≡ None
   inside_end l = h.same ∙ past_end s i (opened (room + 1)) l
 
   module _ (l : i < length s) (o : get_or s i 0 ≡ 40 → ⊥) (g : StepIn) (e : g ≡ step_in 41 i (drop i s)) where
@@ -76,7 +76,7 @@ module _ (s : List ℕ) (at room i : ℕ) (h : Inside s at room i) where
     inside_ends m q =
         record { beyond = omega (arith, told (Ends m) q); upto = (told (Ends m) q).1; same = h.same ∙ (told (Ends m) q).2 }
 
-    pub inside_stops : g ≡ Stops → past (suc (opened (room + 1))) false (drop at s) ≡ none
+    pub inside_stops : g ≡ Stops → past (suc (opened (room + 1))) false (drop at s) ≡ None
     inside_stops q = h.same ∙ told Stops q
 
   -- a comment inside, which the reader of comments has passed or found unreadable
@@ -87,14 +87,14 @@ module _ (s : List ℕ) (at room i : ℕ) (h : Inside s at room i) where
     pub inside_comment : (m : ℕ) → r ≡ To m → Inside s at room m
     inside_comment m q = record { from = omega (arith, read (To m) q); same = h.same ∙ (read (To m) q).same }
 
-    pub inside_unread : r ≡ Unreadable → past (suc (opened (room + 1))) false (drop at s) ≡ none
+    pub inside_unread : r ≡ Unreadable → past (suc (opened (room + 1))) false (drop at s) ≡ None
     inside_unread q = h.same ∙ read Unreadable q
 
 pub comment_nearer : (s : List ℕ) (i before after m : ℕ) (r : Reached) → Passed s i before after r → r ≡ To m → length s - m < length s - i
 comment_nearer s i before after m r p q = let t : Passing s i before after m = rw q at p in omega arith
 
 module _ (s : List ℕ) (at room : ℕ) (p : Opening s at room) where
-  pub comment_full : room ≡ 0 → past (opened room) false (drop at s) ≡ none
+  pub comment_full : room ≡ 0 → past (opened room) false (drop at s) ≡ None
   comment_full e = rw e (past_too_deep s at p.0 p.1)
 
   pub comment_whole :

@@ -12,7 +12,7 @@
 use Prim.Native.Nat.{ℕ, suc, ◌+◌, ◌-◌, ◌≤◌}
 use mathlib.Core.Path.{◌≡◌, refl, ap, ◌∙◌}
 use mathlib.Core.List.{List, [], ◌∷◌}
-use mathlib.Core.Option.{Option, some, none}
+use Rattle.std.specs.Prelude.{Option, Some, None}
 use native.Mathlib.Omega.{arith}
 use native.Mathlib.Nat.{sub_self}
 use native.Mathlib.Numerals.{add-one}
@@ -21,7 +21,7 @@ use lib.Seq.{drop-drop}
 use Rattle.tokens.specs.Answers.{reached}
 use Rattle.tokens.specs.declared.Reached.TheVariants.{To, Unreadable}
 
-pub none_or_some : (found : Option (List ℕ)) (rest : List ℕ) → found ≡ none → found ≡ some rest → ⊥
+pub none_or_some : (found : Option (List ℕ)) (rest : List ℕ) → found ≡ None → found ≡ Some rest → ⊥
 none_or_some found rest p q = let z : ◌≡◌ {A = ℕ} 0 1 = cc in omega arith
 
 pub data Suffix : List ℕ → List ℕ → Type 0 where
@@ -42,31 +42,31 @@ pub suffix_one : {r : List ℕ} (s : List ℕ) → Suffix r (drop 1 s) → Suffi
 suffix_one [] h = h
 suffix_one (x ∷ s) h = behind x h
 
-pub reached_at : (s : List ℕ) (i : ℕ) → i ≤ length s → reached s (some (drop i s)) ≡ To i
+pub reached_at : (s : List ℕ) (i : ℕ) → i ≤ length s → reached s (Some (drop i s)) ≡ To i
 unfolding reached
 reached_at s i h = let e : length s - length (drop i s) ≡ i = omega (arith, length-drop i s) in ap To e
 
 pub record Left (s : List ℕ) (at n : ℕ) (found : Option (List ℕ)) : Type 0 where
   pub from : at ≤ n
   pub upto : n ≤ length s
-  pub left : found ≡ some (drop n s)
+  pub left : found ≡ Some (drop n s)
 
 pub reached_to :
     (s : List ℕ) (at n : ℕ) (found : Option (List ℕ)) → at ≤ length s
-    → ((rest : List ℕ) → found ≡ some rest → Suffix rest (drop at s)) → To n ≡ reached s found → Left s at n found
+    → ((rest : List ℕ) → found ≡ Some rest → Suffix rest (drop at s)) → To n ≡ reached s found → Left s at n found
 unfolding reached
-reached_to s at n none l part e = let z : ◌≡◌ {A = ℕ} 0 1 = cc in absurd (omega arith)
-reached_to s at n (some rest) l part e =
+reached_to s at n None l part e = let z : ◌≡◌ {A = ℕ} 0 1 = cc in absurd (omega arith)
+reached_to s at n (Some rest) l part e =
     let h : Suffix rest (drop at s) = part rest refl in
     let p : n ≡ length s - length rest = cc in
     let k : at + (length (drop at s) - length rest) ≡ n = omega (arith, suffix_length h, length-drop at s) in
     record {
       from = omega (arith, suffix_length h, length-drop at s);
       upto = omega arith;
-      left = ap some (suffix_drop h ∙ rw (drop-drop, k));
+      left = ap Some (suffix_drop h ∙ rw (drop-drop, k));
     }
 
-pub reached_none : (s : List ℕ) (found : Option (List ℕ)) → Unreadable ≡ reached s found → found ≡ none
+pub reached_none : (s : List ℕ) (found : Option (List ℕ)) → Unreadable ≡ reached s found → found ≡ None
 unfolding reached
-reached_none s none e = refl
-reached_none s (some rest) e = cc
+reached_none s None e = refl
+reached_none s (Some rest) e = cc

@@ -9,7 +9,7 @@ use Prim.Native.Nat.{ℕ, ◌+◌, ◌-◌, ◌<◌, ◌≤◌}
 use mathlib.Core.Path.{◌≡◌, refl, sym, ◌∙◌}
 use mathlib.Core.Bool.{Bool, true, false}
 use mathlib.Core.List.{List, [], ◌∷◌}
-use mathlib.Core.Option.{some, none}
+use Rattle.std.specs.Prelude.{Some, None}
 use mathlib.Core.Logic.{⊎_elim}
 use native.Mathlib.Omega.{arith}
 use borrow.Author.Rules.{rules}
@@ -39,9 +39,9 @@ module _ (s : List ℕ) (at i : ℕ) (h : Quoting s at i) where
   quoting_end l = rw (h.same, drop_done s i l)
 
   module _ (l : i < length s) (g : StepIn) (e : g ≡ step_in 34 i (drop i s)) where
-    told : (k : StepIn) → g ≡ k → Moved after_quote some s i k
+    told : (k : StepIn) → g ≡ k → Moved after_quote Some s i k
     unfolding after_quote
-    told k q = rw (sym q ∙ e) (moved after_quote some s i 34 l (rw (drop_one s i l, after_quote)) refl (λ x r. refl))
+    told k q = rw (sym q ∙ e) (moved after_quote Some s i 34 l (rw (drop_one s i l, after_quote)) refl (λ x r. refl))
 
     pub quoting_on : (m : ℕ) → g ≡ On m → Quoting s at m
     quoting_on m q = record { same = h.same ∙ (told (On m) q).2 }
@@ -60,8 +60,8 @@ pub ruleset quoting = (quoting_begin, quoting_end, quoting_on, quoting_nearer, q
 
 -- one octet of a quoted string: unreadable, the end, or what follows is read
 data Reads (taken : Bool) (x : ℕ) (s : List ℕ) : Type 0 where
-  stuck : after_quote taken (x ∷ s) ≡ none → Reads taken x s
-  ended : after_quote taken (x ∷ s) ≡ some s → Reads taken x s
+  stuck : after_quote taken (x ∷ s) ≡ None → Reads taken x s
+  ended : after_quote taken (x ∷ s) ≡ Some s → Reads taken x s
   goes : (next : Bool) → after_quote taken (x ∷ s) ≡ after_quote next s → Reads taken x s
 
 reads : (taken : Bool) (x : ℕ) (s : List ℕ) → Reads taken x s
@@ -79,12 +79,12 @@ reads false x s = go (kind_of 34 x) refl
     go Control e = stuck (rw (after_quote, e))
     go Plain e = goes false (rw (after_quote, e))
 
-pub quote_suffix : (taken : Bool) (s rest : List ℕ) → after_quote taken s ≡ some rest → Suffix rest (drop 1 s)
+pub quote_suffix : (taken : Bool) (s rest : List ℕ) → after_quote taken s ≡ Some rest → Suffix rest (drop 1 s)
 unfolding after_quote
 quote_suffix taken [] rest e = absurd (none_or_some (after_quote taken []) rest refl e)
 quote_suffix taken (x ∷ s) rest e = go (λ next. quote_suffix next s rest) (reads taken x s)
   where
-    go : ((next : Bool) → after_quote next s ≡ some rest → Suffix rest (drop 1 s)) → Reads taken x s → Suffix rest s
+    go : ((next : Bool) → after_quote next s ≡ Some rest → Suffix rest (drop 1 s)) → Reads taken x s → Suffix rest s
     go more (stuck p) = absurd (none_or_some (after_quote taken (x ∷ s)) rest p e)
     go more (ended p) = let q : s ≡ rest = cc in rw q whole
     go more (goes next p) = suffix_one s (more next (sym p ∙ e))
@@ -104,5 +104,5 @@ module _ (s : List ℕ) (at : ℕ) (r : Reached) (e : r ≡ reached s (after_quo
         beyond : length s ≤ at → Left s (at + 1) n (after_quote false (drop at s))
         beyond l = let z : ◌≡◌ {A = ℕ} 0 1 = cc (drop_done s at l) in absurd (omega arith)
 
-  pub quoted_unreadable : r ≡ Unreadable → after_quote false (drop at s) ≡ none
+  pub quoted_unreadable : r ≡ Unreadable → after_quote false (drop at s) ≡ None
   quoted_unreadable q = reached_none s (after_quote false (drop at s)) (sym q ∙ e)

@@ -10,7 +10,7 @@ use Prim.Native.Nat.{ℕ, suc, zero, ◌+◌, ◌<◌, ◌≤◌}
 use mathlib.Core.Path.{◌≡◌, refl, sym, ◌∙◌}
 use mathlib.Core.Bool.{Bool, true, false}
 use mathlib.Core.List.{List, [], ◌∷◌}
-use mathlib.Core.Option.{some, none}
+use Rattle.std.specs.Prelude.{Some, None}
 use native.Mathlib.Omega.{arith}
 use native.Mathlib.Nat.{sub-zero}
 use borrow.Author.Rules.{rules}
@@ -28,7 +28,7 @@ use Rattle.tokens.specs.declared.Reached.TheVariants.{To, Unreadable}
 use Rattle.tokens.proofs.Places.{none_or_some, Suffix, whole, behind, Left, reached_at, reached_to, reached_none}
 use Rattle.tokens.proofs.Commenting.{comment_nearer}
 
-pub stays : (x : ℕ) (s : List ℕ) → blank x ≡ false → (x ≡ 40 → ⊥) → skipped (x ∷ s) ≡ some (x ∷ s)
+pub stays : (x : ℕ) (s : List ℕ) → blank x ≡ false → (x ≡ 40 → ⊥) → skipped (x ∷ s) ≡ Some (x ∷ s)
 unfolding past
 stays x s b o = rw (past, b, ne_eqb x 40 o)
 
@@ -59,7 +59,7 @@ module _ (s : List ℕ) (at i : ℕ) (h : Skipping s at i) where
 
     pub skipping_stop : b ≡ false → (get_or s i 0 ≡ 40 → ⊥) → To i ≡ reached s (skipped (drop at s))
     skipping_stop q o =
-        let t : skipped (drop i s) ≡ some (drop i s) = rw (drop_one s i l) (stays (get_or s i 0) (drop (i + 1) s) (sym e ∙ q) o) in
+        let t : skipped (drop i s) ≡ Some (drop i s) = rw (drop_one s i l) (stays (get_or s i 0) (drop (i + 1) s) (sym e ∙ q) o) in
         rw (h.same, t) (sym (reached_at s i (omega arith)))
 
 pub ruleset skipping =
@@ -67,8 +67,8 @@ pub ruleset skipping =
 
 -- one octet: unreadable, the beginning of what is left, or what follows is read
 data Reads (n : ℕ) (taken : Bool) (x : ℕ) (s : List ℕ) : Type 0 where
-  stuck : past n taken (x ∷ s) ≡ none → Reads n taken x s
-  begins : skipped (x ∷ s) ≡ some (x ∷ s) → past n taken (x ∷ s) ≡ some (x ∷ s) → Reads n taken x s
+  stuck : past n taken (x ∷ s) ≡ None → Reads n taken x s
+  begins : skipped (x ∷ s) ≡ Some (x ∷ s) → past n taken (x ∷ s) ≡ Some (x ∷ s) → Reads n taken x s
   goes : (m : ℕ) (next : Bool) → past n taken (x ∷ s) ≡ past m next s → Reads n taken x s
 
 reads : (n : ℕ) (taken : Bool) (x : ℕ) (s : List ℕ) → Reads n taken x s
@@ -101,20 +101,20 @@ reads (suc n) false x s = go (eqb x 40) refl
     go false q = inside q (kind_of 41 x) refl
 
 -- what is left is a part of the text, and nothing is left to skip in it
-left_behind : (n : ℕ) (taken : Bool) (s rest : List ℕ) → past n taken s ≡ some rest → Suffix rest s × (skipped rest ≡ some rest)
+left_behind : (n : ℕ) (taken : Bool) (s rest : List ℕ) → past n taken s ≡ Some rest → Suffix rest s × (skipped rest ≡ Some rest)
 unfolding past
 left_behind zero taken [] rest e = let q : ◌≡◌ {A = List ℕ} [] rest = cc in rw (← q) (whole, refl)
-left_behind (suc n) taken [] rest e = absurd (none_or_some none rest refl e)
+left_behind (suc n) taken [] rest e = absurd (none_or_some None rest refl e)
 left_behind n taken (x ∷ s) rest e = go (λ m next. left_behind m next s rest) (reads n taken x s)
   where
     go :
-        ((m : ℕ) (next : Bool) → past m next s ≡ some rest → Suffix rest s × (skipped rest ≡ some rest)) → Reads n taken x s
-        → Suffix rest (x ∷ s) × (skipped rest ≡ some rest)
+        ((m : ℕ) (next : Bool) → past m next s ≡ Some rest → Suffix rest s × (skipped rest ≡ Some rest)) → Reads n taken x s
+        → Suffix rest (x ∷ s) × (skipped rest ≡ Some rest)
     go more (stuck p) = absurd (none_or_some (past n taken (x ∷ s)) rest p e)
     go more (begins q p) = let r : x ∷ s ≡ rest = cc in rw (← r) (whole, q)
     go more (goes m next p) = let r : _ = more m next (sym p ∙ e) in (behind x r.0, r.1)
 
-module _ (s rest : List ℕ) (e : skipped s ≡ some rest) where
+module _ (s rest : List ℕ) (e : skipped s ≡ Some rest) where
   pub skipped_suffix : Suffix rest s
   skipped_suffix = (left_behind 0 false s rest e).0
 
@@ -124,8 +124,8 @@ module _ (s : List ℕ) (at : ℕ) (r : Reached) (e : r ≡ reached s (skipped (
     pub skip_to : Left s at n (skipped (drop at s))
     skip_to = reached_to s at n (skipped (drop at s)) l (λ rest p. skipped_suffix (drop at s) rest p) (sym q ∙ e)
 
-    pub skip_left : skipped (drop at s) ≡ some (drop n s)
+    pub skip_left : skipped (drop at s) ≡ Some (drop n s)
     skip_left = skip_to.left
 
-  pub skip_unreadable : r ≡ Unreadable → skipped (drop at s) ≡ none
+  pub skip_unreadable : r ≡ Unreadable → skipped (drop at s) ≡ None
   skip_unreadable q = reached_none s (skipped (drop at s)) (sym q ∙ e)

@@ -7,7 +7,7 @@ use Prim.Native.Nat.{ℕ, ◌+◌, ◌<◌, ◌≤◌}
 use mathlib.Core.Path.{◌≡◌, refl, sym, subst, ◌∙◌}
 use mathlib.Core.Bool.{Bool, true, false, false≢true}
 use mathlib.Core.List.{List, [], ◌∷◌}
-use mathlib.Core.Option.{Option, none}
+use Rattle.std.specs.Prelude.{Option, None}
 use native.Mathlib.Omega.{arith}
 use borrow.Author.Rules.{rules}
 use borrow.Author.Tests.{not-true, not-false}
@@ -53,14 +53,14 @@ pub ruleset stepping = (step_end, step_closes, step_control, step_plain, step_ta
 -- `read taken s` is what the reader leaves, `close s` what it leaves behind the closing octet
 module _ (read : Bool → List ℕ → Option (List ℕ)) (close : List ℕ → Option (List ℕ)) where
   -- what stands behind a backslash
-  module _ (end : read true [] ≡ none)
-      (taken : (x : ℕ) (r : List ℕ) → read true (x ∷ r) ≡ elim (control x) [ true ↦ none | false ↦ read false r ]) where
+  module _ (end : read true [] ≡ None)
+      (taken : (x : ℕ) (r : List ℕ) → read true (x ∷ r) ≡ elim (control x) [ true ↦ None | false ↦ read false r ]) where
     takes_true : (r : List ℕ) → takes r ≡ true → (0 < length r) × (read true r ≡ read false (drop 1 r))
     unfolding takes
     takes_true [] e = absurd (false≢true e)
     takes_true (x ∷ r) e = (omega arith, taken x r ∙ rw (not-true (control x) e))
 
-    takes_false : (r : List ℕ) → takes r ≡ false → read true r ≡ none
+    takes_false : (r : List ℕ) → takes r ≡ false → read true r ≡ None
     unfolding takes
     takes_false [] e = end
     takes_false (x ∷ r) e = taken x r ∙ rw (not-false (control x) e)
@@ -69,18 +69,18 @@ module _ (read : Bool → List ℕ → Option (List ℕ)) (close : List ℕ → 
     abbrev pub Moved : StepIn → Type 0
     Moved (On m) = (i < m) × (m ≤ length s) × (read false (drop i s) ≡ read false (drop m s))
     Moved (Ends m) = (i < m) × (m ≤ length s) × (read false (drop i s) ≡ close (drop m s))
-    Moved Stops = read false (drop i s) ≡ none
+    Moved Stops = read false (drop i s) ≡ None
 
     module _ (closing : ℕ) (l : i < length s)
         (here : read false (drop i s)
         ≡ elim (kind_of closing (get_or s i 0)) [
           | Closes ↦ close (drop (i + 1) s)
           | Escapes ↦ read true (drop (i + 1) s)
-          | Control ↦ none
+          | Control ↦ None
           | Plain ↦ read false (drop (i + 1) s)
         ])
-        (end : read true [] ≡ none)
-        (taken : (x : ℕ) (r : List ℕ) → read true (x ∷ r) ≡ elim (control x) [ true ↦ none | false ↦ read false r ]) where
+        (end : read true [] ≡ None)
+        (taken : (x : ℕ) (r : List ℕ) → read true (x ∷ r) ≡ elim (control x) [ true ↦ None | false ↦ read false r ]) where
       pub moved : Moved (step_in closing i (drop i s))
       moved = by_kind (kind_of closing (get_or s i 0)) refl
         where

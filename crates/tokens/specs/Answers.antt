@@ -3,7 +3,7 @@
 --     takes, step_in             what the readers of a single octet inside a comment or a quoted string say
 --     opened, Opening, Passed    what the readers of comments ask and say
 use Rattle.std.specs.Prelude.{ℕ, ◌+◌, ◌-◌, ◌<◌, ◌≤◌, ◌≡◌, List, [], ◌∷◌, Bool, true, false, not, length, get_or, drop}
-use Rattle.std.proofs.Math.Option.{Option, some, none}
+use Rattle.std.specs.Prelude.{Option, Some, None}
 use Rattle.octets.specs.Octets.{octet}
 use Rattle.tokens.specs.Tokens.{control, kind_of, depth, past}
 use Rattle.tokens.specs.declared.OctetKind.TheVariants.{Closes, Escapes, Control, Plain}
@@ -14,8 +14,8 @@ use Rattle.tokens.specs.declared.Reached.TheVariants.{To, Unreadable}
 
 -- the place of what is left; unreadable where there is none
 unfoldable pub reached : List ℕ → Option (List ℕ) → Reached
-reached s none = Unreadable
-reached s (some rest) = To (length s - length rest)
+reached s None = Unreadable
+reached s (Some rest) = To (length s - length rest)
 
 -- L4, L5: is there an octet that a backslash may take? A control octet is none.
 unfoldable pub takes : List ℕ → Bool
@@ -51,4 +51,4 @@ pub record Passing (s : List ℕ) (at before after n : ℕ) : Type 0 where
 -- it has come to such a place, or the text is unreadable
 abbrev pub Passed : List ℕ → ℕ → ℕ → ℕ → Reached → Type 0
 Passed s at before after (To n) = Passing s at before after n
-Passed s at before after Unreadable = past before false (drop at s) ≡ none
+Passed s at before after Unreadable = past before false (drop at s) ≡ None

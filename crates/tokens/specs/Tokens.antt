@@ -5,7 +5,7 @@
 --     past, skipped        behind spaces, tabs and comments
 --     after_quote          behind a quoted string
 use Rattle.std.specs.Prelude.{ℕ, zero, suc, Bool, true, false, cond, not, ◌&&◌, ◌||◌, List, [], ◌∷◌, ltb, eqb}
-use Rattle.std.proofs.Math.Option.{Option, some, none}
+use Rattle.std.specs.Prelude.{Option, Some, None}
 use Rattle.octets.specs.Octets.{octet, tab, blank}
 use Rattle.tokens.specs.declared.OctetKind.{OctetKind}
 use Rattle.tokens.specs.declared.OctetKind.TheVariants.{Closes, Escapes, Control, Plain}
@@ -29,21 +29,21 @@ depth = 16
 -- too deep, and where it does not close. L4: behind a backslash nothing opens or closes. L5: a control octet is unreadable, also
 -- one that a backslash takes.
 unfoldable pub past : ℕ → Bool → List ℕ → Option (List ℕ)
-past zero taken [] = some []
-past (suc n) taken [] = none
+past zero taken [] = Some []
+past (suc n) taken [] = None
 past zero taken (x ∷ s) =
     elim (blank x) [
       | true ↦ past zero false s
-      | false ↦ elim (eqb x (octet "(")) [ true ↦ past 1 false s | false ↦ some (x ∷ s) ]
+      | false ↦ elim (eqb x (octet "(")) [ true ↦ past 1 false s | false ↦ Some (x ∷ s) ]
     ]
-past (suc n) true (x ∷ s) = elim (control x) [ true ↦ none | false ↦ past (suc n) false s ]
+past (suc n) true (x ∷ s) = elim (control x) [ true ↦ None | false ↦ past (suc n) false s ]
 past (suc n) false (x ∷ s) =
     elim (eqb x (octet "(")) [
-      | true ↦ elim (ltb (suc n) depth) [ true ↦ past (suc (suc n)) false s | false ↦ none ]
+      | true ↦ elim (ltb (suc n) depth) [ true ↦ past (suc (suc n)) false s | false ↦ None ]
       | false ↦ elim (kind_of (octet ")") x) [
         | Closes ↦ past n false s
         | Escapes ↦ past (suc n) true s
-        | Control ↦ none
+        | Control ↦ None
         | Plain ↦ past (suc n) false s
       ]
     ]
@@ -56,12 +56,12 @@ skipped s = past 0 false s
 -- come. L3: without its closing quote it is unreadable. L4: a quote that a backslash takes closes nothing. L5: a control octet is
 -- unreadable, also one that a backslash takes.
 unfoldable pub after_quote : Bool → List ℕ → Option (List ℕ)
-after_quote taken [] = none
-after_quote true (x ∷ s) = elim (control x) [ true ↦ none | false ↦ after_quote false s ]
+after_quote taken [] = None
+after_quote true (x ∷ s) = elim (control x) [ true ↦ None | false ↦ after_quote false s ]
 after_quote false (x ∷ s) =
     elim (kind_of (octet "\"") x) [
-      | Closes ↦ some s
+      | Closes ↦ Some s
       | Escapes ↦ after_quote true s
-      | Control ↦ none
+      | Control ↦ None
       | Plain ↦ after_quote false s
     ]

@@ -7,7 +7,7 @@ use Prim.Native.Nat.{ℕ}
 use mathlib.Core.Path.{◌≡◌, sym, ap, ◌∙◌}
 use mathlib.Core.Bool.{Bool, true, false, not}
 use mathlib.Core.List.{List, [], ◌∷◌}
-use mathlib.Core.Option.{Option, some, none}
+use Rattle.std.specs.Prelude.{Option, Some, None}
 use Rattle.octets.specs.Octets.{AllOctets}
 use Rattle.octets.specs.Options.{or_else}
 use Rattle.address.specs.Address.{plain, canonical}
@@ -47,7 +47,7 @@ module _ (t a : List ℕ) (s : checked t ≡ Sound) (p : plain a ≡ true) where
   unfolding recipient_list
   listed = rw (plain_alone a p)
 
-  not_refused : refused_recommending t a ≡ none
+  not_refused : refused_recommending t a ≡ None
   unfolding refused_recommending recommending_rows first_of
   not_refused = first_rest (table_rows t) ((Recipients unless recipient_list (addresses a)) ∷ []) (sound_rows Canonical t s) ∙ first_behind Recipients _ [] (ap not listed)
 
@@ -58,7 +58,7 @@ module _ (t a : List ℕ) (s : checked t ≡ Sound) (p : plain a ≡ true) where
 module _ (t : List ℕ) (receipt : ℕ) (outer payload : List ℕ) (setting : Gossip) (table_octets : AllOctets t) (outer_octets : AllOctets outer)
     (payload_octets : AllOctets payload) (done : answer_of (refused_processing t receipt outer payload setting) ≡ Done) where
   pub key_handed_out : (a k : List ℕ) (m : Bool) → Writable a k → (h : Holding outer (autocrypt_field a m k))
-      → sender_in (fields_in outer) ≡ some (canonical a) → valid_fields key_limit (canonical a) (values_of Autocrypt (others h)) ≡ []
+      → sender_in (fields_in outer) ≡ Some (canonical a) → valid_fields key_limit (canonical a) (values_of Autocrypt (others h)) ≡ []
       → younger (date_in (fields_in outer) receipt) (direct_half (entry_in t (canonical a))) ≡ false
       → target_key_of (left_by_processing t receipt outer payload setting) a 0 ≡ k
   unfolding target_in target_of target_by direct_of
@@ -71,13 +71,13 @@ module _ (t : List ℕ) (receipt : ℕ) (outer payload : List ℕ) (setting : Go
   pub gossip_handed_out : (b k : List ℕ) → Writable b k → (h : Holding payload (gossip_field b k)) → taken setting ≡ true
       → among (canonical b) (recipients_in (fields_in outer)) ≡ true → none_about (canonical b) (gossip_in key_limit (recipients_in (fields_in outer)) (behind h)) ≡ true
       → younger_gossip (date_in (fields_in outer) receipt) (gossip_half (entry_in t (canonical b))) ≡ false
-      → direct_half (entry_in (left_by_processing t receipt outer payload setting) (canonical b)) ≡ none
+      → direct_half (entry_in (left_by_processing t receipt outer payload setting) (canonical b)) ≡ None
       → target_key_of (left_by_processing t receipt outer payload setting) b 0 ≡ k
   unfolding target_in target_of target_by direct_of gossip_of direct_half
   gossip_handed_out b k w h take_gossip listed last newest keyless =
       let has = gossip_processed t receipt outer payload setting table_octets outer_octets payload_octets done b k w h take_gossip listed last in
-      let no_key : has.entry.direct ≡ none = sym (ap direct_half has.there) ∙ keyless in
+      let no_key : has.entry.direct ≡ None = sym (ap direct_half has.there) ∙ keyless in
       alone_taken (left_by_processing t receipt outer payload setting) b (left_sound t receipt outer payload setting table_octets outer_octets payload_octets done) w.plainly
       ∙ ap target_of has.there
       ∙ ap (λ (d : Option Direct). target_by d has.entry.gossip) no_key
-      ∙ ap (target_by none) (has.set newest)
+      ∙ ap (target_by None) (has.set newest)

@@ -9,7 +9,7 @@ use Prim.Native.Nat.{ℕ, zero, suc, ◌<◌}
 use mathlib.Core.Path.{◌≡◌, refl, sym, ap, ◌∙◌}
 use mathlib.Core.Bool.{Bool, true, false, not, false≢true}
 use mathlib.Core.List.{List, [], ◌∷◌, ◌++◌, append_assoc, append-nil}
-use mathlib.Core.Option.{some}
+use Rattle.std.specs.Prelude.{Some}
 use native.Mathlib.Omega.{arith}
 use borrow.Author.Tests.{leb-true, eqb-false, ne_eqb, not-true}
 use lib.Dec.{leb, eqb}
@@ -46,7 +46,7 @@ use Rattle.names.specs.Names.{autocrypt as autocrypt_name, gossip as gossip_name
 use Rattle.write.specs.Writing.{written_of, left_by_writing}
 use Rattle.write.specs.declared.Written.TheVariants.{Done}
 use Rattle.write.proofs.Outcomes.{Wrote, done_wrote}
-use Rattle.trip.specs.RoundTrip.{none as no_lines, in_front_all, ReadsBack, Writable}
+use Rattle.trip.specs.RoundTrip.{None as no_lines, in_front_all, ReadsBack, Writable}
 use Rattle.trip.proofs.Among.{opens_plain, fields_among}
 
 -- a text that `every` finds without LF has none
@@ -69,7 +69,7 @@ address_no_lf a p = every_weaker address_octet (other lf) apart a (plain_octets 
     apart x e = ap not (ne_eqb x lf (λ q. false≢true (sym (low_apart lf (omega arith)) ∙ ap address_octet (sym q) ∙ e)))
 
 -- alone they are the only field
-pub reads_alone : (name address key octets : List ℕ) (m : Bool) (r : ReadsBack name address key m octets) → fields octets ≡ some (r.found ∷ [])
+pub reads_alone : (name address key octets : List ℕ) (m : Bool) (r : ReadsBack name address key m octets) → fields octets ≡ Some (r.found ∷ [])
 unfolding in_front_all in_front belongs blank over
 reads_alone name address key octets m r =
     let e : fields (octets ++ []) ≡ in_front r.found (fields []) = r.among [] [] no_lines [] refl in
@@ -110,7 +110,7 @@ module _ (address key : List ℕ) (m : Bool) (w : Writable address key) where
   unfolding sign_of
   text_whole = free_every (λ x. eqb x 59) text (spread_free (λ x. eqb x 59) refl (encode key) (encode_free (λ x. eqb x 59) (one_other 59 refl) key))
 
-  pub value_read : field_of key_limit value ≡ some (record { address = canonical address; is_mutual = m; key = key })
+  pub value_read : field_of key_limit value ≡ Some (record { address = canonical address; is_mutual = m; key = key })
   unfolding key_of limited
   value_read =
       read_back_key (canonical address) text (plain_canonical address w.plainly) text_whole key_limit m key (rw (spread_read_back key w.octets, w.limit))
@@ -135,7 +135,7 @@ module _ (address key : List ℕ) (m : Bool) (w : Writable address key) where
         ∙ rw (folded_value (encode key) some_text free head head_no_lf, head_value)
 
     -- alone it is the only field, with this value
-    written_alone : fields (written name address m key) ≡ some (record { name = name; value = value_of (canonical address) m (spread (encode key)) } ∷ [])
+    written_alone : fields (written name address m key) ≡ Some (record { name = name; value = value_of (canonical address) m (spread (encode key)) } ∷ [])
     unfolding in_front belongs blank over
     written_alone = ap fields (sym (append-nil (written name address m key))) ∙ in_front_lem [] refl ∙ rw (fields_over [] refl)
 
@@ -163,7 +163,7 @@ module _ (name address key out : List ℕ) (m : Bool) (octets : AllOctets key) (
   output_opens = rw (wrote.long, wrote.there) (take-append_seam (written name address m key) (drop (length (written name address m key)) out))
 
   pub output_alone : run_length Name name ≡ length name → 0 < length name
-      → fields (take n (left_by_writing name address m key out)) ≡ some (record { name = name; value = value_of (canonical address) m (spread (encode key)) } ∷ [])
+      → fields (take n (left_by_writing name address m key out)) ≡ Some (record { name = name; value = value_of (canonical address) m (spread (encode key)) } ∷ [])
   output_alone named some_name = rw output_opens (written_alone address key m done_writable name named some_name)
 
   output_reads_back : run_length Name name ≡ length name → 0 < length name → ReadsBack name address key m (take n (left_by_writing name address m key out))

@@ -7,7 +7,7 @@ use Prim.Native.Nat.{ℕ}
 use mathlib.Core.Path.{◌≡◌, refl, ap, ◌∙◌}
 use mathlib.Core.Bool.{true, false, not}
 use mathlib.Core.List.{List, [], ◌∷◌, ◌++◌}
-use mathlib.Core.Option.{Option, some, none}
+use Rattle.std.specs.Prelude.{Option, Some, None}
 use borrow.Author.Tests.{not-true}
 use Rattle.octets.specs.Octets.{same_octets}
 use Rattle.octets.specs.Options.{or_else}
@@ -24,22 +24,22 @@ use Rattle.trip.specs.Standing.{direct_half, gossip_half, none_about}
 -- an entry that is begun has neither half
 begun_direct : (a : List ℕ) (e : Option Entry) → (or_else (newcomer a) e).direct ≡ direct_half e
 unfolding direct_half newcomer or_else
-begun_direct a none = refl
-begun_direct a (some x) = refl
+begun_direct a None = refl
+begun_direct a (Some x) = refl
 
 begun_gossip : (a : List ℕ) (e : Option Entry) → (or_else (newcomer a) e).gossip ≡ gossip_half e
 unfolding gossip_half newcomer or_else
-begun_gossip a none = refl
-begun_gossip a (some x) = refl
+begun_gossip a None = refl
+begun_gossip a (Some x) = refl
 
 -- a change to one's own entry, and to that of another
 module _ (a : List ℕ) (change : Entry → Entry) where
-  put_own : (e : Option Entry) → entry_put a change a e ≡ some (change (or_else (newcomer a) e))
+  put_own : (e : Option Entry) → entry_put a change a e ≡ Some (change (or_else (newcomer a) e))
   unfolding entry_put
   put_own e = rw (entry_put, same_refl a)
 
   module _ (b : List ℕ) (e : Option Entry) where
-    put_same : same_octets a b ≡ true → entry_put a change b e ≡ some (change (or_else (newcomer a) e))
+    put_same : same_octets a b ≡ true → entry_put a change b e ≡ Some (change (or_else (newcomer a) e))
     unfolding entry_put
     put_same t = rw (entry_put, t)
 
@@ -47,7 +47,7 @@ module _ (a : List ℕ) (change : Entry → Entry) where
     unfolding entry_put
     put_other t = rw (entry_put, t)
 
-    put_keeps : {A : Type 0} (part : Option Entry → A) → part (some (change (or_else (newcomer a) e))) ≡ part e → part (entry_put a change b e) ≡ part e
+    put_keeps : {A : Type 0} (part : Option Entry → A) → part (Some (change (or_else (newcomer a) e))) ≡ part e → part (entry_put a change b e) ≡ part e
     put_keeps part h = by_test (same_octets a b) (λ t. ap part (put_same t) ∙ h) (λ t. ap part (put_other t))
 
 -- gossip leaves the direct half
@@ -66,7 +66,7 @@ sender_half a date brought b e =
 
 -- what is there stays
 abbrev pub Held : Option Entry → Type 0
-Held o = (e : Entry) × (o ≡ some e)
+Held o = (e : Entry) × (o ≡ Some e)
 
 put_held : (a : List ℕ) (change : Entry → Entry) (b : List ℕ) (o : Option Entry) → Held o → Held (entry_put a change b o)
 put_held a change b o h =
@@ -92,7 +92,7 @@ module _ (m : Message) (e : Option Entry) where
       heard_half m.date m.gossip m.sender (entry_put m.sender (updated m.date m.direct) m.sender e)
       ∙ ap direct_half (put_own m.sender (updated m.date m.direct) e)
 
-  pub direct_set : (d : Direct) → m.direct ≡ some d → younger m.date (direct_half e) ≡ false → direct_half (entry_after m m.sender e) ≡ some d
+  pub direct_set : (d : Direct) → m.direct ≡ Some d → younger m.date (direct_half e) ≡ false → direct_half (entry_after m m.sender e) ≡ Some d
   unfolding with_field with_direct
   direct_set d q y =
       after_direct
@@ -115,7 +115,7 @@ module _ (date : ℕ) (b : List ℕ) where
       ∙ begun_gossip g.address e)
 
   one_set : (a key : List ℕ) (e : Option Entry) → same_octets a b ≡ true → younger_gossip date (gossip_half e) ≡ false
-      → gossip_half (entry_put a (heard date key) b e) ≡ some (record { timestamp = date; key = key })
+      → gossip_half (entry_put a (heard date key) b e) ≡ Some (record { timestamp = date; key = key })
   unfolding gossip_half with_gossip
   one_set a key e t y =
       ap gossip_half (put_same a (heard date key) b e t)
@@ -174,7 +174,7 @@ module _ (m : Message) (b key : List ℕ) (before behind : List Gossiped) (q : m
   pub gossip_there : Held (entry_after m b e)
   gossip_there = (heard m.date key (or_else (newcomer b) earlier), after_gossip ∙ put_own b (heard m.date key) earlier)
 
-  pub gossip_set : younger_gossip m.date (gossip_half e) ≡ false → gossip_half (entry_after m b e) ≡ some (record { timestamp = m.date; key = key })
+  pub gossip_set : younger_gossip m.date (gossip_half e) ≡ false → gossip_half (entry_after m b e) ≡ Some (record { timestamp = m.date; key = key })
   unfolding earlier sender_part
   gossip_set y =
       ap gossip_half after_gossip

@@ -6,7 +6,7 @@ use Prim.Native.Nat.{ℕ}
 use mathlib.Core.Path.{◌≡◌, subst}
 use mathlib.Core.Bool.{Bool, true, false, not, ◌&&◌}
 use mathlib.Core.List.{List, []}
-use mathlib.Core.Option.{some, none}
+use Rattle.std.specs.Prelude.{Some, None}
 use borrow.Author.Tests.{not-false}
 use Rattle.octets.specs.Options.{or_else}
 use Rattle.octets.specs.Octets.{AllOctets}
@@ -30,11 +30,11 @@ use Rattle.process.specs.Processing.{refused_processing, left_by_processing}
 use Rattle.process.proofs.Outcomes.{done_sound, done_in_order, processed_keeps, processed_octets, done_entry}
 
 pub record Through (t : List ℕ) (receipt : ℕ) (outer payload : List ℕ) (setting : Gossip) : Type 0 where
-  pub outer_read : fields_of outer ≡ some (fields_in outer)
+  pub outer_read : fields_of outer ≡ Some (fields_in outer)
   pub sender : List ℕ
-  pub sent : sender_in (fields_in outer) ≡ some sender
+  pub sent : sender_in (fields_in outer) ≡ Some sender
   pub inner : List FieldText
-  pub inner_read : taken setting ≡ true → fields_of payload ≡ some inner
+  pub inner_read : taken setting ≡ true → fields_of payload ≡ Some inner
   pub sound : checked (left_by_processing t receipt outer payload setting) ≡ Sound
   pub octets : AllOctets (left_by_processing t receipt outer payload setting)
   pub entries : (b : List ℕ) → entry_in (left_by_processing t receipt outer payload setting) b
@@ -42,7 +42,7 @@ pub record Through (t : List ℕ) (receipt : ℕ) (outer payload : List ℕ) (se
 
 module _ (t : List ℕ) (receipt : ℕ) (outer payload : List ℕ) (setting : Gossip) (o : AllOctets t) (u : AllOctets outer) (v : AllOctets payload) where
   -- a payload that is looked at is readable
-  payload_read : InOrder receipt outer payload setting → taken setting ≡ true → fields_of payload ≡ some (payload_in setting payload)
+  payload_read : InOrder receipt outer payload setting → taken setting ≡ true → fields_of payload ≡ Some (payload_in setting payload)
   unfolding payload_in
   payload_read h k =
       let r : readable payload ≡ true = not-false (readable payload) (subst (λ (x : Bool). (x && not (readable payload)) ≡ false) k h.payload_read) in
@@ -51,7 +51,7 @@ module _ (t : List ℕ) (receipt : ℕ) (outer payload : List ℕ) (setting : Go
   pub done_through : answer_of (refused_processing t receipt outer payload setting) ≡ Done → Through t receipt outer payload setting
   unfolding message_of
   done_through e =
-      let none_holds : refused_processing t receipt outer payload setting ≡ none = answer_done (refused_processing t receipt outer payload setting) e in
+      let none_holds : refused_processing t receipt outer payload setting ≡ None = answer_done (refused_processing t receipt outer payload setting) e in
       let s : checked t ≡ Sound = done_sound t receipt outer payload setting none_holds in
       let h : InOrder receipt outer payload setting = done_in_order t receipt outer payload setting none_holds in
       record {

@@ -9,7 +9,7 @@ use Prim.Native.Nat.{ℕ}
 use mathlib.Core.Path.{◌≡◌, refl, sym, ap, ◌∙◌}
 use mathlib.Core.Bool.{Bool, true, false}
 use mathlib.Core.List.{List, [], ◌∷◌, ◌++◌}
-use mathlib.Core.Option.{Option, some}
+use Rattle.std.specs.Prelude.{Option, Some}
 use native.Mathlib.Omega.{arith}
 use lib.ListN.{length, take}
 use Rattle.octets.specs.Octets.{lower, lowered, same_name, same_octets, AllOctets, blank}
@@ -54,7 +54,7 @@ none_both [] y e = (refl, e)
 none_both (a ∷ x) y e = let z : ◌≡◌ {A = ℕ} 0 1 = cc in absurd (omega arith)
 
 -- one value that is valid, among others that are not
-module _ (sender v : List ℕ) (f : Field) (valid : valid_for key_limit sender v ≡ some f) where
+module _ (sender v : List ℕ) (f : Field) (valid : valid_for key_limit sender v ≡ Some f) where
   only_valid : (x y : List (List ℕ)) → valid_fields key_limit sender (x ++ y) ≡ [] → valid_fields key_limit sender (x ++ (v ∷ y)) ≡ f ∷ []
   unfolding valid_fields
   only_valid x y e =
@@ -73,7 +73,7 @@ module _ (a k octets outer : List ℕ) (m : Bool) (r : ReadsBack autocrypt_name 
   unfolding is_kind same_name lowered lower same_octets
   is_autocrypt = ap (is_kind Autocrypt) r.named
 
-  pub counts : fields_of outer ≡ some (fields_in outer) → valid_fields key_limit (canonical a) (values_of Autocrypt (others h)) ≡ [] → counted_in key_limit (fields_in outer) (canonical a) ≡ some read_field
+  pub counts : fields_of outer ≡ Some (fields_in outer) → valid_fields key_limit (canonical a) (values_of Autocrypt (others h)) ≡ [] → counted_in key_limit (fields_in outer) (canonical a) ≡ Some read_field
   unfolding others counted_in
   counts e alone =
       let v : List ℕ = r.found.value in
@@ -94,7 +94,7 @@ module _ (b k octets payload : List ℕ) (m : Bool) (r : ReadsBack gossip_name b
   unfolding is_kind same_name lowered lower same_octets
   is_gossip = ap (is_kind AutocryptGossip) r.named
 
-  pub hears : (fs : List FieldText) → fields_of payload ≡ some fs
+  pub hears : (fs : List FieldText) → fields_of payload ≡ Some fs
       → gossip_in key_limit recipients fs ≡ gossip_in key_limit recipients h.before ++ (record { address = canonical b; key = k } ∷ gossip_in key_limit recipients (behind h))
   unfolding gossip_in
   hears fs e =
@@ -126,15 +126,15 @@ module _ (t : List ℕ) (receipt : ℕ) (outer payload : List ℕ) (setting : Go
   left_octets = through.octets
 
   -- the entry of an address has that address
-  addressed_so : (b : List ℕ) (e : Entry) → entry_in left b ≡ some e → e.address ≡ b
+  addressed_so : (b : List ℕ) (e : Entry) → entry_in left b ≡ Some e → e.address ≡ b
   addressed_so b e q = (entry_good left b left_sound left_octets e q).1
 
   module _ (a k octets : List ℕ) (m : Bool) (r : ReadsBack autocrypt_name a k m octets) (h : Holding outer octets)
-      (from : sender_in (fields_in outer) ≡ some (canonical a)) (alone : valid_fields key_limit (canonical a) (values_of Autocrypt (others h)) ≡ []) where
+      (from : sender_in (fields_in outer) ≡ Some (canonical a)) (alone : valid_fields key_limit (canonical a) (values_of Autocrypt (others h)) ≡ []) where
     sender_is : through.sender ≡ canonical a
-    sender_is = let q : some through.sender ≡ some (canonical a) = sym through.sent ∙ from in cc
+    sender_is = let q : Some through.sender ≡ Some (canonical a) = sym through.sent ∙ from in cc
 
-    brings_direct : message.direct ≡ some (record { timestamp = date; key = k; «mutual» = m })
+    brings_direct : message.direct ≡ Some (record { timestamp = date; key = k; «mutual» = m })
     unfolding message_by direct_by
     brings_direct =
         ap (λ (x : List ℕ). direct_by date (counted_in key_limit (fields_in outer) x)) sender_is ∙ ap (direct_by date) (counts a k octets outer m r h through.outer_read alone)
@@ -157,7 +157,7 @@ module _ (t : List ℕ) (receipt : ℕ) (outer payload : List ℕ) (setting : Go
   module _ (b k octets : List ℕ) (m : Bool) (r : ReadsBack gossip_name b k m octets) (h : Holding payload octets)
       (take_gossip : taken setting ≡ true) (listed : among (canonical b) (recipients_in (fields_in outer)) ≡ true)
       (last : none_about (canonical b) (gossip_in key_limit (recipients_in (fields_in outer)) (behind h)) ≡ true) where
-    payload_fields : fields_of payload ≡ some through.inner
+    payload_fields : fields_of payload ≡ Some through.inner
     payload_fields = through.inner_read take_gossip
 
     earlier : List Gossiped
@@ -175,7 +175,7 @@ module _ (t : List ℕ) (receipt : ℕ) (outer payload : List ℕ) (setting : Go
     gossip_read =
         let was : Option Entry = entry_in t (canonical b) in
         let held : Held (entry_after message (canonical b) was) = gossip_there message (canonical b) k earlier later brings_gossip last was in
-        let there : entry_in left (canonical b) ≡ some held.0 = through.entries (canonical b) ∙ held.1 in
+        let there : entry_in left (canonical b) ≡ Some held.0 = through.entries (canonical b) ∙ held.1 in
         record {
           entry = held.0;
           there = there;
@@ -187,7 +187,7 @@ module _ (t : List ℕ) (receipt : ℕ) (outer payload : List ℕ) (setting : Go
   -- The two fields that can be written. C7: the outer block holds that of the sender, and no other that is valid for it. C8: the payload holds one
   -- for a recipient, and behind it no accepted one about the same address.
   pub autocrypt_processed : (a k : List ℕ) (m : Bool) → Writable a k → (h : Holding outer (autocrypt_field a m k))
-      → sender_in (fields_in outer) ≡ some (canonical a) → valid_fields key_limit (canonical a) (values_of Autocrypt (others h)) ≡ []
+      → sender_in (fields_in outer) ≡ Some (canonical a) → valid_fields key_limit (canonical a) (values_of Autocrypt (others h)) ≡ []
       → HasDirect (entry_in t (canonical a)) (canonical a) (record { timestamp = date; key = k; «mutual» = m }) (entry_in left (canonical a))
   unfolding autocrypt_field run belongs blank
   autocrypt_processed a k m w h = direct_read a k (autocrypt_field a m k) m (written_reads_back a k m w autocrypt_name refl (omega arith)) h
@@ -202,7 +202,7 @@ module _ (t : List ℕ) (receipt : ℕ) (outer payload : List ℕ) (setting : Go
   module _ (out : List ℕ) (n : ℕ) where
     pub autocrypt_answered : (a k : List ℕ) (m : Bool) → AllOctets k → Wrote n ≡ written_of autocrypt_name a m k (length out)
         → (h : Holding outer (take n (left_by_writing autocrypt_name a m k out)))
-        → sender_in (fields_in outer) ≡ some (canonical a) → valid_fields key_limit (canonical a) (values_of Autocrypt (others h)) ≡ []
+        → sender_in (fields_in outer) ≡ Some (canonical a) → valid_fields key_limit (canonical a) (values_of Autocrypt (others h)) ≡ []
         → HasDirect (entry_in t (canonical a)) (canonical a) (record { timestamp = date; key = k; «mutual» = m }) (entry_in left (canonical a))
     autocrypt_answered a k m o wrote h =
         direct_read a k (take n (left_by_writing autocrypt_name a m k out)) m (autocrypt_reads_back a k out o n m wrote) h

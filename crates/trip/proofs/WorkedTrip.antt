@@ -6,7 +6,7 @@ use Prim.Native.Nat.{ℕ, zero, suc}
 use mathlib.Core.Path.{◌≡◌, refl, ap, ◌∙◌}
 use mathlib.Core.Bool.{true}
 use mathlib.Core.List.{List, [], ◌∷◌}
-use mathlib.Core.Option.{some, none}
+use Rattle.std.specs.Prelude.{Some, None}
 use native.Mathlib.Omega.{arith}
 use borrow.Author.Tests.{leb-true}
 use lib.Dec.{leb}
@@ -57,7 +57,7 @@ use Rattle.settings.specs.declared.Gossip.TheVariants.{Unset}
 use Rattle.process.proofs.Outcomes.{message_fits}
 use Rattle.recommend.specs.Recommending.{target_key_of}
 use Rattle.write.specs.Writing.{autocrypt_field}
-use Rattle.trip.specs.RoundTrip.{one, none as no_lines, Writable, Holding, behind, others}
+use Rattle.trip.specs.RoundTrip.{one, None as no_lines, Writable, Holding, behind, others}
 use Rattle.trip.specs.Standing.{direct_half}
 use Rattle.trip.proofs.WholeTrip.{autocrypt_processed}
 use Rattle.trip.proofs.HandedOut.{key_handed_out}
@@ -101,11 +101,11 @@ sound : table.checked free ≡ Sound
 unfolding table.checked_by table.whole table.slots table.judged_by table.right_by table.slot_at slots.free octets.all_zero
 sound = refl
 
-in_order : first_of (message_rows 1000 outer [] Unset) ≡ none
+in_order : first_of (message_rows 1000 outer [] Unset) ≡ None
 unfolding is_some octets.same_octets octets.same_name octets.lowered octets.lower header.fields_of header.fields header.fields_within in_front header.unfolded header.over header.of_ending header.opens_field runs.run header.raw_length runs.belongs header.closes header.is_report list.opening_of holds list.run_token list.quoted_token list.token_at list.first_token grammar.after_address grammar.after list.listed_by list.listed list.addresses only_one or_else address.plain ascii·address.local_part ascii·address.atom address.domain address.domain_form address.address_form labels.label_octet labels.label_form labels.fits labels.label labels.labelled ascii·address.free_ends address.canonical pieces.from lowering.lower_text lowering.lower_points lowering.lower_point utf8.points utf8.tails utf8.lead_of utf8.encoded utf8.encoded_one every pieces.on_first pieces.pieces pieces.before pieces.behind blank tokens.past tokens.kind_of tokens.control tokens.after_quote fields.fields_in fields.is_kind fields.values_of outer_specs.canonical_of outer_specs.sender_by outer_specs.sender_in outer_specs.any_report outer_specs.is_reported settings.taken message_rows first_of pieces.following pieces.joined
 in_order = refl
 
-sender_is : outer_specs.sender_in (fields.fields_in outer) ≡ some (ascii "bob@b.example")
+sender_is : outer_specs.sender_in (fields.fields_in outer) ≡ Some (ascii "bob@b.example")
 unfolding octets.same_octets octets.same_name octets.lowered octets.lower header.fields_of header.fields header.fields_within in_front header.unfolded header.over header.of_ending header.opens_field runs.run header.raw_length runs.belongs header.closes header.is_report list.opening_of holds list.run_token list.quoted_token list.token_at list.first_token grammar.after_address grammar.after list.listed_by list.listed list.addresses only_one or_else address.plain ascii·address.local_part ascii·address.atom address.domain address.domain_form address.address_form labels.label_octet labels.label_form labels.fits labels.label labels.labelled ascii·address.free_ends address.canonical pieces.from lowering.lower_text lowering.lower_points lowering.lower_point utf8.points utf8.tails utf8.lead_of utf8.encoded utf8.encoded_one every pieces.on_first pieces.pieces pieces.before pieces.behind blank tokens.past tokens.kind_of tokens.control tokens.after_quote fields.fields_in fields.is_kind fields.values_of outer_specs.canonical_of outer_specs.sender_by outer_specs.sender_in outer_specs.any_report outer_specs.is_reported pieces.following pieces.joined
 sender_is = refl
 
@@ -121,7 +121,7 @@ done : answer_of (refused_processing free 1000 outer [] Unset) ≡ Done
 done = done_is Refused Done (refused_processing free 1000 outer [] Unset) (message_fits free 1000 outer [] Unset sound in_order room)
 
 foo_is_there : direct_half (entry_in (left_by_processing free 1000 outer [] Unset) (ascii "bob@b.example"))
-    ≡ some (record { timestamp = 1000; key = ascii "foo"; «mutual» = true })
+    ≡ Some (record { timestamp = 1000; key = ascii "foo"; «mutual» = true })
 unfolding holding others behind direct_half entry_in update.younger update.stays table.found table.lowest table.has_address table.slots table.slot_at slots.marked slots.address_of number octets.same_octets octets.same_name octets.lowered octets.lower header.fields_of header.fields header.fields_within in_front header.unfolded header.over header.of_ending header.opens_field runs.run header.raw_length runs.belongs header.closes list.opening_of holds list.run_token list.quoted_token list.token_at list.first_token grammar.after_address grammar.after list.listed_by list.listed list.addresses only_one or_else address.plain ascii·address.local_part ascii·address.atom address.domain address.domain_form address.address_form labels.label_octet labels.label_form labels.fits labels.label labels.labelled ascii·address.free_ends address.canonical pieces.from lowering.lower_text lowering.lower_points lowering.lower_point utf8.points utf8.tails utf8.lead_of utf8.encoded utf8.encoded_one every pieces.on_first pieces.pieces pieces.before pieces.behind blank tokens.past tokens.kind_of tokens.control tokens.after_quote date.effective_date keyfield.valid_fields fields.fields_in fields.is_kind fields.values_of outer_specs.canonical_of outer_specs.sender_by outer_specs.sender_in outer_specs.date_by outer_specs.date_in keyfield.chosen pieces.following pieces.joined
 foo_is_there =
     let h = autocrypt_processed free 1000 outer [] Unset (replicate_octets 4392 0 (omega arith)) (tested outer refl) (tested [] refl) done address_given (ascii "foo") true writable holding refl refl in

@@ -6,7 +6,7 @@
 --     Holding           a block that holds octets among other whole fields: where they stand
 --     behind, others    the fields behind them, and all but them
 use Rattle.std.specs.Prelude.{ℕ, ◌<◌, ◌≡◌, Bool, true, false, List, [], ◌∷◌, ◌++◌, length, get_or}
-use Rattle.std.proofs.Math.Option.{Option, some}
+use Rattle.std.specs.Prelude.{Option, Some}
 use Rattle.octets.specs.Octets.{octet, AllOctets}
 use Rattle.octets.specs.Options.{in_front, or_else}
 use Rattle.octets.specs.Tests.{one_to}
@@ -26,7 +26,7 @@ pub record Writable (address key : List ℕ) : Type 0 where
 
 -- B7, B9: a whole field is its name, a colon and a value with its line endings; it is read with the value unfolded
 pub data Lines : List ℕ → List FieldText → Type 0 where
-  none : Lines [] []
+  None : Lines [] []
   one : (name raw rest : List ℕ) (fs : List FieldText) → run_length Name name ≡ length name → 0 < length name → is_raw raw ≡ true → Lines rest fs
       → Lines (name ++ (octet ":" ∷ (raw ++ rest))) (record { name = name; value = unfolded raw } ∷ fs)
 
@@ -40,7 +40,7 @@ in_front_all (f ∷ fs) others = in_front f (in_front_all fs others)
 pub record ReadsBack (name address key : List ℕ) (m : Bool) (octets : List ℕ) : Type 0 where
   pub found : FieldText
   pub named : found.name ≡ name
-  pub says : field_of key_limit found.value ≡ some (record { address = canonical address; is_mutual = m; key = key })
+  pub says : field_of key_limit found.value ≡ Some (record { address = canonical address; is_mutual = m; key = key })
   pub among : (s : List ℕ) (fs : List FieldText) → Lines s fs → (rest : List ℕ) → belongs Blank (get_or rest 0 0) ≡ false
       → fields (s ++ (octets ++ rest)) ≡ in_front_all fs (in_front found (fields rest))
 

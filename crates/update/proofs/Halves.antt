@@ -8,7 +8,7 @@
 use Prim.Native.Nat.{ℕ}
 use mathlib.Core.Path.{◌≡◌, refl, sym, ap, ◌∙◌}
 use mathlib.Core.Bool.{false}
-use mathlib.Core.Option.{Option, some, none}
+use Rattle.std.specs.Prelude.{Option, Some, None}
 use mathlib.Core.List.{List}
 use native.Mathlib.Omega.{arith}
 use borrow.Author.Tests.{le-ltb}
@@ -26,14 +26,14 @@ taking_keeps part half order date brought e h =
     (λ y. ap part (taking_takes half order date brought e y) ∙ h)
 
 module _ (date : ℕ) (e : Entry) where
-  pub keyless_direct : (updated date none e).direct ≡ e.direct
+  pub keyless_direct : (updated date None e).direct ≡ e.direct
   unfolding updated seen_by
-  keyless_direct = taking_keeps (λ (x : Entry). x.direct) the_direct (above the_direct) date none e refl
+  keyless_direct = taking_keeps (λ (x : Entry). x.direct) the_direct (above the_direct) date None e refl
 
   pub updated_gossip : (brought : Option Direct) → (updated date brought e).gossip ≡ e.gossip
   unfolding updated seen_by with_direct
-  updated_gossip none = taking_keeps (λ (x : Entry). x.gossip) the_direct (above the_direct) date none e refl
-  updated_gossip (some d) = taking_keeps (λ (x : Entry). x.gossip) the_direct (above the_direct) date (some d) e refl
+  updated_gossip None = taking_keeps (λ (x : Entry). x.gossip) the_direct (above the_direct) date None e refl
+  updated_gossip (Some d) = taking_keeps (λ (x : Entry). x.gossip) the_direct (above the_direct) date (Some d) e refl
 
   pub heard_seen : (key : List ℕ) → (heard date key e).last_seen ≡ e.last_seen
   unfolding heard with_gossip
@@ -44,15 +44,15 @@ module _ (date : ℕ) (e : Entry) where
   heard_direct key = taking_keeps (λ (x : Entry). x.direct) the_gossip (above the_gossip) date _ e refl
 
 -- an equal date replaces, whichever half it is
-equal_stays_not : {A : Type 0} (half : Half A) (x : A) → stays (above half) (some x) (half.timestamp x) none ≡ false
+equal_stays_not : {A : Type 0} (half : Half A) (x : A) → stays (above half) (Some x) (half.timestamp x) None ≡ false
 unfolding stays above
 equal_stays_not half x = le-ltb (half.timestamp x) (half.timestamp x) (omega arith)
 
-pub equal_replaces : (d : Direct) → younger d.timestamp (some d) ≡ false
+pub equal_replaces : (d : Direct) → younger d.timestamp (Some d) ≡ false
 unfolding younger
 equal_replaces d = equal_stays_not the_direct d
 
-pub equal_heard : (g : Gossip) → younger_gossip g.timestamp (some g) ≡ false
+pub equal_heard : (g : Gossip) → younger_gossip g.timestamp (Some g) ≡ false
 unfolding younger_gossip
 equal_heard g = equal_stays_not the_gossip g
 

@@ -12,7 +12,7 @@
 use Prim.Native.Nat.{ℕ, ◌<◌, ◌≤◌}
 use mathlib.Core.Path.{◌≡◌, refl, sym, ap, ◌∙◌}
 use mathlib.Core.Bool.{Bool, true, false, ◌||◌, and-false, false≢true}
-use mathlib.Core.Option.{Option, some, none}
+use Rattle.std.specs.Prelude.{Option, Some, None}
 use mathlib.Core.List.{List}
 use native.Mathlib.Omega.{arith}
 use lib.ListN.{length}
@@ -51,13 +51,13 @@ pub record Keeps (change : Entry → Entry) : Type 0 where
 module _ (date : ℕ) (h : date ≤ time_limit) where
   good_field : (brought : Option Direct) → IfSome (GoodBrought date) brought → (e : Entry) → Good e → Good (with_field brought (seen_by date e))
   unfolding with_field
-  good_field none b e g = good_seen_by e g date h
-  good_field (some d) b e g = good_updated e g date h d b.key b.dated
+  good_field None b e g = good_seen_by e g date h
+  good_field (Some d) b e g = good_updated e g date h d b.key b.dated
 
   field_address : (brought : Option Direct) (e : Entry) → (with_field brought (seen_by date e)).address ≡ e.address
   unfolding with_field seen_by with_direct
-  field_address none e = refl
-  field_address (some d) e = refl
+  field_address None e = refl
+  field_address (Some d) e = refl
 
   pub keeps_updated : (brought : Option Direct) → IfSome (GoodBrought date) brought → Keeps (updated date brought)
   keeps_updated brought b =
@@ -107,7 +107,7 @@ module _ (t a : List ℕ) (c : is_canonical a ≡ true) (p : AllOctets a) where
   new : Good (newcomer a)
   new = good_newcomer a c p
 
-  pub begun_entry : has_place t a ≡ true → entry_in (begun t a) a ≡ some (or_else (newcomer a) (entry_in t a))
+  pub begun_entry : has_place t a ≡ true → entry_in (begun t a) a ≡ Some (or_else (newcomer a) (entry_in t a))
   unfolding has_place or_else
   begun_entry h =
       by_found (found t a) (λ i e. rw (begun_own t a i e, entry_at t a i e))
@@ -143,7 +143,7 @@ module _ (t a : List ℕ) (c : is_canonical a ≡ true) (p : AllOctets a) where
       changed_others : (j : ℕ) → j < slots (begun t a) → (j ≡ i → ⊥) → has_address (change (entry_of (slot_at (begun t a) i))).address (slot_at (begun t a) j) ≡ false
       changed_others j l d = rw changed_address (others_not (begun t a) (table_sound (begun t a) begun_is_sound) a i f j l d)
 
-      changed_entry : entry_in (put t a change) a ≡ some (change (entry_of (slot_at (begun t a) i)))
+      changed_entry : entry_in (put t a change) a ≡ Some (change (entry_of (slot_at (begun t a) i)))
       changed_entry =
           rw (put_at t a change i f)
           (ap (λ (b : List ℕ). entry_in (with_slot (begun t a) i (slot_of (change (entry_of (slot_at (begun t a) i))))) b) (sym changed_address)
@@ -181,19 +181,19 @@ module _ (t a : List ℕ) (c : is_canonical a ≡ true) (p : AllOctets a) where
         (λ f. rw (put_nothing t a change f) (begun_octets t a c p o))
 
     -- the entry that was there or was begun, changed
-    put_changes : (e : Entry) → entry_in (begun t a) a ≡ some e → entry_in (put t a change) a ≡ some (change e)
+    put_changes : (e : Entry) → entry_in (begun t a) a ≡ Some e → entry_in (put t a change) a ≡ Some (change e)
     put_changes e q =
         by_found (found (begun t a) a)
         (λ i f.
-        let r : some (entry_of (slot_at (begun t a) i)) ≡ some e = sym (entry_at (begun t a) a i f) ∙ q in
+        let r : Some (entry_of (slot_at (begun t a) i)) ≡ Some e = sym (entry_at (begun t a) a i f) ∙ q in
         let x : entry_of (slot_at (begun t a) i) ≡ e = cc in
         rw (← x) (changed_entry i f))
         (λ f.
-        let r : none ≡ some e = sym (entry_nothing (begun t a) a f) ∙ q in
+        let r : None ≡ Some e = sym (entry_nothing (begun t a) a f) ∙ q in
         let z : ◌≡◌ {A = ℕ} 0 1 = cc in
         absurd (omega arith))
 
-    pub put_own : has_place t a ≡ true → entry_in (put t a change) a ≡ some (change (or_else (newcomer a) (entry_in t a)))
+    pub put_own : has_place t a ≡ true → entry_in (put t a change) a ≡ Some (change (or_else (newcomer a) (entry_in t a)))
     put_own h = put_changes (or_else (newcomer a) (entry_in t a)) (begun_entry h)
 
     pub put_other : (b : List ℕ) → same_octets a b ≡ false → entry_in (put t a change) b ≡ entry_in t b
@@ -217,18 +217,18 @@ module _ (t a : List ℕ) (c : is_canonical a ≡ true) (p : AllOctets a) where
 -- the changes of the three writers
 module _ (t a : List ℕ) (c : is_canonical a ≡ true) (p : AllOctets a) (s : checked t ≡ Sound) (o : AllOctets t) (date : ℕ) (h : date ≤ time_limit)
     (tags : List ℕ) (w : Open (begun t a) tags) where
-  pub keyless_open : Open (put t a (updated date none)) tags
-  keyless_open = put_open t a c p (updated date none) (keeps_updated date h none tt) s o tags w
+  pub keyless_open : Open (put t a (updated date None)) tags
+  keyless_open = put_open t a c p (updated date None) (keeps_updated date h None tt) s o tags w
 
   module _ (key : List ℕ) (k₁ : 1 ≤ length key) (k₂ : length key ≤ key_limit) (k₃ : AllOctets key) where
     good_key : GoodKey key
     good_key = record { some_octet = k₁; most = k₂; octets = k₃ }
 
-    keeps_keyed : (m : Bool) → Keeps (updated date (some (record { timestamp = date; key = key; «mutual» = m })))
-    keeps_keyed m = keeps_updated date h (some (record { timestamp = date; key = key; «mutual» = m })) (record { dated = refl; key = good_key })
+    keeps_keyed : (m : Bool) → Keeps (updated date (Some (record { timestamp = date; key = key; «mutual» = m })))
+    keeps_keyed m = keeps_updated date h (Some (record { timestamp = date; key = key; «mutual» = m })) (record { dated = refl; key = good_key })
 
-    pub keyed_open : (m : Bool) → Open (put t a (updated date (some (record { timestamp = date; key = key; «mutual» = m })))) tags
-    keyed_open m = put_open t a c p (updated date (some (record { timestamp = date; key = key; «mutual» = m }))) (keeps_keyed m) s o tags w
+    pub keyed_open : (m : Bool) → Open (put t a (updated date (Some (record { timestamp = date; key = key; «mutual» = m })))) tags
+    keyed_open m = put_open t a c p (updated date (Some (record { timestamp = date; key = key; «mutual» = m }))) (keeps_keyed m) s o tags w
 
     pub heard_open : Open (put t a (heard date key)) tags
     heard_open = put_open t a c p (heard date key) (keeps_heard date h key good_key) s o tags w

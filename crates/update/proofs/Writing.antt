@@ -12,7 +12,7 @@
 use Prim.Native.Nat.{ℕ, ◌<◌, ◌≤◌}
 use mathlib.Core.Path.{◌≡◌, refl, sym, ◌∙◌}
 use mathlib.Core.Bool.{Bool, true, false, ◌&&◌}
-use mathlib.Core.Option.{Option, some, none}
+use Rattle.std.specs.Prelude.{Option, Some, None}
 use mathlib.Core.List.{List}
 use native.Mathlib.Nat.{le-max_right}
 use borrow.Author.Rules.{rules}
@@ -46,7 +46,7 @@ use Rattle.update.specs.Update.{Order, stays, Half, with_half, taking, above, th
 use Rattle.update.proofs.Placing.{begun_sound, put_at, put_nothing}
 
 -- the test of a half, as its numbers are stored
-half_test : {A : Type 0} (half : Half A) (date : ℕ) (b : Bool) (x : A) → (b && ltb date (half.timestamp x)) ≡ stays (above half) (present b x) date none
+half_test : {A : Type 0} (half : Half A) (date : ℕ) (b : Bool) (x : A) → (b && ltb date (half.timestamp x)) ≡ stays (above half) (present b x) date None
 unfolding stays above
 half_test half date true x = refl
 half_test half date false x = refl
@@ -73,10 +73,10 @@ module _ {A : Type 0} (half : Half A) (order : Order A) (date : ℕ) (brought : 
   taking_takes h = rw (taking, h)
 
 -- whether a half stays is asked of the date alone, not of what comes in
-by_date : {A : Type 0} (half : Half A) (old : Option A) (date : ℕ) (brought : Option A) → stays (above half) old date brought ≡ stays (above half) old date none
+by_date : {A : Type 0} (half : Half A) (old : Option A) (date : ℕ) (brought : Option A) → stays (above half) old date brought ≡ stays (above half) old date None
 unfolding stays above
-by_date half none date brought = refl
-by_date half (some x) date brought = refl
+by_date half None date brought = refl
+by_date half (Some x) date brought = refl
 
 module _ (date : ℕ) (e : Entry) where
   pub updated_older : (brought : Option Direct) → younger date e.direct ≡ true → updated date brought e ≡ e
@@ -179,17 +179,17 @@ module _ (t a u : List ℕ) (f : Found) (i : ℕ) (ef : f ≡ found (begun t a) 
 
   module _ (date : ℕ) (b : Bool) (h : b ≡ false) where
     module _ (e : b ≡ younger date (entry_of (slot_at u i)).direct) where
-      pub seen_raised : (v : List ℕ) → v ≡ with_slot u i (slot_of (seen_by date (entry_of (slot_at u i)))) → v ≡ put t a (updated date none)
+      pub seen_raised : (v : List ℕ) → v ≡ with_slot u i (slot_of (seen_by date (entry_of (slot_at u i)))) → v ≡ put t a (updated date None)
       unfolding with_field
-      seen_raised v ev = written (updated date none) v (ev ∙ rw (updated_now date (entry_of (slot_at u i)) none (sym e ∙ h)))
+      seen_raised v ev = written (updated date None) v (ev ∙ rw (updated_now date (entry_of (slot_at u i)) None (sym e ∙ h)))
 
       pub field_set : (key : List ℕ) (m : Bool) (v : List ℕ)
           → v ≡ with_slot u i (slot_of (with_direct (record { timestamp = date; key = key; «mutual» = m }) (seen_by date (entry_of (slot_at u i)))))
-          → v ≡ put t a (updated date (some (record { timestamp = date; key = key; «mutual» = m })))
+          → v ≡ put t a (updated date (Some (record { timestamp = date; key = key; «mutual» = m })))
       unfolding with_field
       field_set key m v ev =
           let d : Direct = record { timestamp = date; key = key; «mutual» = m } in
-          written (updated date (some d)) v (ev ∙ rw (updated_now date (entry_of (slot_at u i)) (some d) (sym e ∙ h)))
+          written (updated date (Some d)) v (ev ∙ rw (updated_now date (entry_of (slot_at u i)) (Some d) (sym e ∙ h)))
 
     pub gossip_set : b ≡ younger_gossip date (entry_of (slot_at u i)).gossip → (key v : List ℕ)
         → v ≡ with_slot u i (slot_of (with_gossip (record { timestamp = date; key = key }) (entry_of (slot_at u i)))) → v ≡ put t a (heard date key)

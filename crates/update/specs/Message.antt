@@ -6,7 +6,7 @@
 --     entry_after           what that is to the entry of one address
 --     GoodMessage           what holds of every message that is read
 use Rattle.std.specs.Prelude.{ℕ, ◌≤◌, ◌≡◌, Bool, true, false, ◌||◌, List, [], ◌∷◌, ◌++◌, leb, length}
-use Rattle.std.proofs.Math.Option.{Option, some}
+use Rattle.std.specs.Prelude.{Option, Some}
 use Rattle.octets.specs.Octets.{same_octets, AllOctets}
 use Rattle.octets.specs.Options.{or_else, IfSome}
 use Rattle.address.specs.Address.{is_canonical}
@@ -65,7 +65,7 @@ applied t m = heard_all m.date m.gossip (put t m.sender (updated m.date m.direct
 -- U4: what a change to the entry of address a is to the entry of address b: none, unless they are the same; then the entry is begun where there was
 -- none, and changed
 unfoldable pub entry_put : List ℕ → (Entry → Entry) → List ℕ → Option Entry → Option Entry
-entry_put a change b e = elim (same_octets a b) [ true ↦ some (change (or_else (newcomer a) e)) | false ↦ e ]
+entry_put a change b e = elim (same_octets a b) [ true ↦ Some (change (or_else (newcomer a) e)) | false ↦ e ]
 
 -- G9: what accepted gossip is to the entry of address b, field by field in order
 unfoldable pub entry_heard : ℕ → List Gossiped → List ℕ → Option Entry → Option Entry

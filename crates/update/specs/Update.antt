@@ -7,7 +7,7 @@
 --     begun                     the entry of an address begun where it has none
 --     changed_at, put           the table with the entry of an address changed, begun where there was none
 use Rattle.std.specs.Prelude.{ℕ, Bool, true, false, List, ltb}
-use Rattle.std.proofs.Math.Option.{Option, some, none}
+use Rattle.std.specs.Prelude.{Option, Some, None}
 use Rattle.heads.specs.Entry.{Direct, Gossip, Entry, newcomer, seen_by, with_direct, with_gossip}
 use Rattle.slots.specs.Entry.{entry_of, slot_of}
 use Rattle.table.specs.Table.{slot_at, with_slot, found, lowest_free}
@@ -20,8 +20,8 @@ Order A = A → ℕ → Option A → Bool
 
 -- Which half stands, the stored one or what comes in: where none is stored, none stays.
 unfoldable pub stays : {A : Type 0} → Order A → Option A → ℕ → Option A → Bool
-stays order none date brought = false
-stays order (some old) date brought = order old date brought
+stays order None date brought = false
+stays order (Some old) date brought = order old date brought
 
 -- A half of an entry: the one that is stored, its timestamp, what a date alone does to the entry, and the entry with another half.
 pub record Half (A : Type 0) : Type 0 where
@@ -32,8 +32,8 @@ pub record Half (A : Type 0) : Type 0 where
 
 -- U9: what comes in without a half sets none, and clears none
 abbrev pub with_half : {A : Type 0} → Half A → Option A → Entry → Entry
-with_half half none e = e
-with_half half (some x) e = half.set x e
+with_half half None e = e
+with_half half (Some x) e = half.set x e
 
 -- U6, G7: where the stored half stays, so does the entry; else the date and the half that comes in are taken
 unfoldable pub taking : {A : Type 0} → Half A → Order A → ℕ → Option A → Entry → Entry
@@ -53,7 +53,7 @@ the_gossip = record { stored = λ e. e.gossip; timestamp = λ g. g.timestamp; da
 
 -- U6: there is a direct half, and its timestamp is above the date
 unfoldable pub younger : ℕ → Option Direct → Bool
-younger date old = stays (above the_direct) old date none
+younger date old = stays (above the_direct) old date None
 
 -- U8, U9: the entry with the direct half of the counted field; without such a field it stays
 unfoldable pub with_field : Option Direct → Entry → Entry
@@ -66,11 +66,11 @@ updated date brought e = taking the_direct (above the_direct) date brought e
 
 -- G7: there is a gossip half, and its timestamp is above the date
 unfoldable pub younger_gossip : ℕ → Option Gossip → Bool
-younger_gossip date old = stays (above the_gossip) old date none
+younger_gossip date old = stays (above the_gossip) old date None
 
 -- G7, G8: the entry of an address that gossip is about: date and key become its gossip half, unless the stored timestamp is above the date
 unfoldable pub heard : ℕ → List ℕ → Entry → Entry
-heard date key e = taking the_gossip (above the_gossip) date (some (record { timestamp = date; key = key })) e
+heard date key e = taking the_gossip (above the_gossip) date (Some (record { timestamp = date; key = key })) e
 
 -- U4: an empty entry of the address in the slot that was found. Without one the table stays: a message for which there are not enough is refused
 -- before (R8)

@@ -4,7 +4,7 @@
 #![tactic(auto)]
 
 ghost use Rattle.std.specs.Prelude.{◌≤◌, ◌<◌, ◌≡◌, true, length};
-ghost use Rattle.std.proofs.Math.Option.{some, none};
+ghost use Rattle.std.specs.Prelude.{Some, None};
 ghost use Rattle.address.specs.Address.{is_canonical};
 ghost use Rattle.heads.specs.Head.{time_limit};
 ghost use Rattle.slots.specs.Slot.{key_limit, sound};
@@ -57,7 +57,7 @@ fn has_younger_gossip(table: &[u8], i: usize, date: u64) -> bool
 // A message of the sender without a field that counts: it only raises last seen (U6, U7, U9).
 pub fn update_keyless(table: &mut [u8], tags: &mut [u32; Slot::MOST], sender: &[u8], date: u64)
     requires { Open table.old tags.old × (is_canonical sender.now ≡ true) × (date ≤ time_limit) }
-    ensures table_after { table.new ≡ put table.old sender.now (updated date none) }
+    ensures table_after { table.new ≡ put table.old sender.now (updated date None) }
     ensures fact { Open table.new tags.new }
 {
     match place(table, tags, sender) {
@@ -94,7 +94,7 @@ pub fn update_with_key(
     requires { Open table.old tags.old × (is_canonical sender.now ≡ true) × (date ≤ time_limit)
         × (1 ≤ length key.now) × (length key.now ≤ key_limit) }
     ensures table_after { table.new ≡ put table.old sender.now
-        (updated date (some (record { timestamp = date; key = key.now; «mutual» = «mutual» }))) }
+        (updated date (Some (record { timestamp = date; key = key.now; «mutual» = «mutual» }))) }
     ensures fact { Open table.new tags.new }
 {
     match place(table, tags, sender) {

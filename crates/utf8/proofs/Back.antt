@@ -5,7 +5,7 @@ use Prim.Native.Nat.{ℕ, suc, zero, ◌+◌, ◌-◌, ◌*◌, ◌/◌, ◌%◌
 use mathlib.Core.Path.{◌≡◌, refl, sym, ap, ◌∙◌}
 use mathlib.Core.Bool.{Bool, true, ◌&&◌, false≢true}
 use mathlib.Core.List.{List, [], ◌∷◌, ◌++◌}
-use mathlib.Core.Option.{some, none}
+use Rattle.std.specs.Prelude.{Some, None}
 use native.Mathlib.Omega.{arith}
 use borrow.Author.Tests.{ltb-true, leb-true, eqb-true, lt-ltb, le-ltb}
 use lib.Dec.{leb, eqb}
@@ -18,12 +18,12 @@ use Rattle.utf8.specs.declared.Lead.TheVariants.{First, Bad}
 use Rattle.utf8.proofs.Leading.{tailing, rightly, lead_rightly}
 use Rattle.utf8.proofs.RoundTrip.{tails_none, points_lead}
 
-none_some : {P : Type 0} (w : List ℕ) → none ≡ some w → P
+none_some : {P : Type 0} (w : List ℕ) → None ≡ Some w → P
 none_some w p = let z : ◌≡◌ {A = ℕ} 0 1 = cc in absurd (omega arith)
 
 -- an octet was missing, and this is what it was
-tails_some : {P : Type 0} (s : List ℕ) (n l h p : ℕ) (ps : List ℕ) → tails s (suc n) l h p ≡ some ps
-    → ((y : ℕ) (t : List ℕ) → s ≡ y ∷ t → l ≤ y → y ≤ h → tails t n 0x80 0xBF (p * 64 + (y - 0x80)) ≡ some ps → P) → P
+tails_some : {P : Type 0} (s : List ℕ) (n l h p : ℕ) (ps : List ℕ) → tails s (suc n) l h p ≡ Some ps
+    → ((y : ℕ) (t : List ℕ) → s ≡ y ∷ t → l ≤ y → y ≤ h → tails t n 0x80 0xBF (p * 64 + (y - 0x80)) ≡ Some ps → P) → P
 unfolding tails
 tails_some [] n l h p ps e k = none_some ps e
 tails_some (y ∷ t) n l h p ps e k =
@@ -72,15 +72,15 @@ module _ (l h : ℕ) (a : Bool) (e : (tailing l h && a) ≡ true) where
   most = leb-true h 0xBF (and_right (leb 0x80 l) (leb h 0xBF) (and_left (tailing l h) a e))
 
 -- The rest is a tail of a tail, so the induction is over a count of the length.
-module _ (k : ℕ) (ih : (s ps : List ℕ) → length s ≤ k → points s ≡ some ps → encoded ps ≡ s) where
+module _ (k : ℕ) (ih : (s ps : List ℕ) → length s ≤ k → points s ≡ Some ps → encoded ps ≡ s) where
   -- after the last octet of a code point
-  ends : (s : List ℕ) (l h p : ℕ) (ps w : List ℕ) → length s ≤ k → encoded_one p ≡ w → tails s 0 l h p ≡ some ps → encoded ps ≡ w ++ s
+  ends : (s : List ℕ) (l h p : ℕ) (ps w : List ℕ) → length s ≤ k → encoded_one p ≡ w → tails s 0 l h p ≡ Some ps → encoded ps ≡ w ++ s
   unfolding encoded
   ends s l h p ps w b e t =
       let f = front_some p (points s) ps (sym (tails_none s l h p) ∙ t) in
       rw (f.1.1, encoded, e, ih s f.0 b f.1.0)
 
-  read : (m l h q x : ℕ) (s ps : List ℕ) → length s ≤ k → rightly m l h q x ≡ true → tails s m l h q ≡ some ps → encoded ps ≡ x ∷ s
+  read : (m l h q x : ℕ) (s ps : List ℕ) → length s ≤ k → rightly m l h q x ≡ true → tails s m l h q ≡ Some ps → encoded ps ≡ x ∷ s
   unfolding rightly encoded_one
   read zero l h q x s ps b r t =
       let e : q ≡ x = eqb-true q x (and_left (eqb q x) _ r) in
@@ -129,7 +129,7 @@ module _ (k : ℕ) (ih : (s ps : List ℕ) → length s ≤ k → points s ≡ s
       (four q y z w _ refl (omega arith) (omega arith) (omega arith) l₂ h₂ l₃ h₃) t₃))))
   read (suc (suc (suc (suc n)))) l h q x s ps b r t = absurd (false≢true r)
 
-  here : (s ps : List ℕ) → length s ≤ suc k → points s ≡ some ps → encoded ps ≡ s
+  here : (s ps : List ℕ) → length s ≤ suc k → points s ≡ Some ps → encoded ps ≡ s
   unfolding points encoded
   here [] ps b e = let c : [] ≡ ps = cc in rw (← c)
   here (x ∷ s) ps b e = go (lead_of x) refl
@@ -139,14 +139,14 @@ module _ (k : ℕ) (ih : (s ps : List ℕ) → length s ≤ k → points s ≡ s
       go (First m l h v) q =
           read m l h v x s ps (omega arith) (lead_rightly x m l h v q) (sym (points_lead x s m l h v q) ∙ e)
 
-empty : (s ps : List ℕ) → length s ≤ 0 → points s ≡ some ps → encoded ps ≡ s
+empty : (s ps : List ℕ) → length s ≤ 0 → points s ≡ Some ps → encoded ps ≡ s
 unfolding points encoded
 empty [] ps b e = let c : [] ≡ ps = cc in rw (← c)
 empty (x ∷ s) ps b e = absurd (omega arith)
 
-back : (k : ℕ) (s ps : List ℕ) → length s ≤ k → points s ≡ some ps → encoded ps ≡ s
+back : (k : ℕ) (s ps : List ℕ) → length s ≤ k → points s ≡ Some ps → encoded ps ≡ s
 back zero s ps b e = empty s ps b e
 back (suc k) s ps b e = here k (λ s ps b e. back k s ps b e) s ps b e
 
-pub encoded_points : (s ps : List ℕ) → points s ≡ some ps → encoded ps ≡ s
+pub encoded_points : (s ps : List ℕ) → points s ≡ Some ps → encoded ps ≡ s
 encoded_points s ps e = back (length s) s ps (omega arith) e

@@ -11,7 +11,7 @@ use Prim.Native.Nat.{ℕ, zero, suc, ◌+◌, ◌-◌, ◌*◌, ◌<◌, ◌≤�
 use mathlib.Core.Path.{◌≡◌, refl, sym, ap, ◌∙◌}
 use mathlib.Core.Bool.{true, false, ◌&&◌, false≢true}
 use mathlib.Core.List.{List, [], ◌∷◌}
-use mathlib.Core.Option.{some, none}
+use Rattle.std.specs.Prelude.{Some, None}
 use mathlib.Core.Logic.{⊎_elim}
 use native.Mathlib.Omega.{arith}
 use borrow.Author.Tests.{lt-leb}
@@ -37,11 +37,11 @@ use Rattle.utf8.proofs.Octetwise.{octetwise_form, octetwise_ascii, steady_small}
 use Rattle.utf8.proofs.Alike.{Alike, alike_lowered, alike_octetwise}
 
 module _ (s : List ℕ) where
-  text_none : points s ≡ none → lower_text s ≡ lowered s
+  text_none : points s ≡ None → lower_text s ≡ lowered s
   unfolding lower_text
   text_none e = rw (lower_text, e)
 
-  pub text_some : (ps : List ℕ) → points s ≡ some ps → lower_text s ≡ encoded (lower_points ps)
+  pub text_some : (ps : List ℕ) → points s ≡ Some ps → lower_text s ≡ encoded (lower_points ps)
   unfolding lower_text
   text_some ps e = rw (lower_text, e)
 

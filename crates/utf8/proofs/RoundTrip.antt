@@ -10,7 +10,7 @@ use Prim.Native.Nat.{ℕ, suc, zero, ◌+◌, ◌-◌, ◌*◌, ◌/◌, ◌%◌
 use mathlib.Core.Path.{◌≡◌, refl, sym, ◌∙◌}
 use mathlib.Core.Bool.{true, cond, ◌&&◌}
 use mathlib.Core.List.{List, [], ◌∷◌, ◌++◌}
-use mathlib.Core.Option.{some}
+use Rattle.std.specs.Prelude.{Some}
 use mathlib.Core.Logic.{⊎_elim}
 use native.Mathlib.Omega.{arith}
 use borrow.Author.Tests.{ltb-true, leb-true, lt-ltb, le-ltb, le-leb, eqb-true}
@@ -175,7 +175,7 @@ module _ (p : ℕ) (s : List ℕ) where
       (lt_or_le p 0x800))
       (lt_or_le p 0x80)
 
-pub points_encoded : (ps : List ℕ) → scalars ps ≡ true → points (encoded ps) ≡ some ps
+pub points_encoded : (ps : List ℕ) → scalars ps ≡ true → points (encoded ps) ≡ Some ps
 unfolding encoded scalars every in_front points
 points_encoded [] v = refl
 points_encoded (p ∷ ps) v =

@@ -5,7 +5,7 @@ use Prim.Native.Nat.{ℕ, suc, zero, ◌+◌, ◌-◌, ◌*◌, ◌<◌, ◌≤�
 use mathlib.Core.Path.{◌≡◌, refl, sym, ap, ◌∙◌}
 use mathlib.Core.Bool.{Bool, true, false, ◌&&◌, ◌||◌, false≢true}
 use mathlib.Core.List.{List, [], ◌∷◌}
-use mathlib.Core.Option.{Option, some, none}
+use Rattle.std.specs.Prelude.{Option, Some, None}
 use mathlib.Core.Logic.{◌⊎◌, inl, inr, ⊎_elim}
 use native.Mathlib.Omega.{arith}
 use borrow.Author.Tests.{ltb-true, leb-true, lt-ltb, le-leb}
@@ -90,13 +90,13 @@ lead_able = at_leads led (all_below_lem (λ x. led (lead_of x) x) 256 refl) (λ 
 
 -- what was read, where there is something
 all_scalar : Option (List ℕ) → Bool
-all_scalar none = true
-all_scalar (some ps) = scalars ps
+all_scalar None = true
+all_scalar (Some ps) = scalars ps
 
 front_scalar : (p : ℕ) (o : Option (List ℕ)) → scalar p ≡ true → all_scalar o ≡ true → all_scalar (in_front p o) ≡ true
 unfolding all_scalar in_front scalars every
-front_scalar p none a b = refl
-front_scalar p (some ps) a b = rw (a, b)
+front_scalar p None a b = refl
+front_scalar p (Some ps) a b = rw (a, b)
 
 tails_scalar : (s : List ℕ) (n l h p : ℕ) → able n l h p ≡ true → all_scalar (tails s n l h p) ≡ true
 unfolding tails all_scalar able scalar scalars every led
@@ -126,6 +126,6 @@ points_scalar (x ∷ s) = go (lead_of x) refl (lead_able x)
     go Bad q t = rw (points, q)
     go (First m a b k) q t = rw (points, q) (tails_scalar s m a b k (ap (λ o. led o x) (sym q) ∙ t))
 
-pub points_scalars : (s ps : List ℕ) → points s ≡ some ps → scalars ps ≡ true
+pub points_scalars : (s ps : List ℕ) → points s ≡ Some ps → scalars ps ≡ true
 unfolding all_scalar
 points_scalars s ps e = ap all_scalar (sym e) ∙ points_scalar s

@@ -5,7 +5,7 @@ use Prim.Native.Nat.{ℕ}
 use mathlib.Core.Path.{◌≡◌, refl}
 use mathlib.Core.Bool.{true, not}
 use mathlib.Core.List.{List, [], ◌∷◌, map}
-use mathlib.Core.Option.{some}
+use Rattle.std.specs.Prelude.{Some}
 use Rattle.octets.specs.Octets.{ascii, lower, lowered}
 use Rattle.octets.specs.Options.{is_some, in_front}
 use Rattle.octets.specs.Tests.{every}
@@ -20,7 +20,7 @@ abbrev their_octets : List ℕ
 their_octets =
     0 ∷ 0x7F ∷ 0xC2 ∷ 0x80 ∷ 0xDF ∷ 0xBF ∷ 0xE0 ∷ 0xA0 ∷ 0x80 ∷ 0xED ∷ 0x9F ∷ 0xBF ∷ 0xEE ∷ 0x80 ∷ 0x80 ∷ 0xEF ∷ 0xBF ∷ 0xBF ∷ 0xF0 ∷ 0x90 ∷ 0x80 ∷ 0x80 ∷ 0xF4 ∷ 0x8F ∷ 0xBF ∷ 0xBF ∷ []
 
-read : points their_octets ≡ some some_points
+read : points their_octets ≡ Some some_points
 unfolding points tails lead_of in_front
 read = refl
 

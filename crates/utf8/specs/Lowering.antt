@@ -2,7 +2,7 @@
 --     lower_point, lower_points  a code point, and several
 --     lower_text                 a text: by its code points, or by its ASCII letters alone where it is ill-formed
 use Rattle.std.specs.Prelude.{ℕ, ◌+◌, cond, not, ◌&&◌, List, map, eqb}
-use Rattle.std.proofs.Math.Option.{some, none}
+use Rattle.std.specs.Prelude.{Some, None}
 use Rattle.octets.specs.Octets.{lowered}
 use Rattle.utf8.specs.Utf8.{between, points, encoded}
 
@@ -23,4 +23,4 @@ lower_points ps = map lower_point ps
 
 -- L21: by code points where the whole text is well formed (L20); else only its ASCII capitals become small, wherever it is wrong
 unfoldable pub lower_text : List ℕ → List ℕ
-lower_text s = elim (points s) [ none ↦ lowered s | some ps ↦ encoded (lower_points ps) ]
+lower_text s = elim (points s) [ None ↦ lowered s | Some ps ↦ encoded (lower_points ps) ]

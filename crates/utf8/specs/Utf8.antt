@@ -6,7 +6,7 @@
 --     encoded_one, encoded   the octets of a code point, and of several
 --     scalar, scalars        a number that is a code point, and a list of such
 use Rattle.std.specs.Prelude.{ℕ, zero, suc, ◌+◌, ◌-◌, ◌*◌, ◌/◌, ◌%◌, Bool, true, false, cond, ◌&&◌, ◌||◌, List, [], ◌∷◌, ◌++◌, leb, ltb, eqb}
-use Rattle.std.proofs.Math.Option.{Option, some, none}
+use Rattle.std.specs.Prelude.{Option, Some, None}
 use Rattle.octets.specs.Options.{is_some, in_front}
 use Rattle.octets.specs.Tests.{every}
 use Rattle.utf8.specs.declared.Lead.{Lead}
@@ -33,15 +33,15 @@ lead_of x =
 -- L20: `tails s n low high p` are the code points of s behind the start of one. That one is p so far, n of its octets are missing,
 -- and the next of them lies from low to high. Each of them adds six bits.
 unfoldable pub tails : List ℕ → ℕ → ℕ → ℕ → ℕ → Option (List ℕ)
-tails [] zero low high p = some (p ∷ [])
-tails [] (suc n) low high p = none
-tails (x ∷ s) (suc n) low high p = elim (between low high x) [ true ↦ tails s n 0x80 0xBF (p * 64 + (x - 0x80)) | false ↦ none ]
-tails (x ∷ s) zero low high p = elim (lead_of x) [ Bad ↦ none | First m l h q ↦ in_front p (tails s m l h q) ]
+tails [] zero low high p = Some (p ∷ [])
+tails [] (suc n) low high p = None
+tails (x ∷ s) (suc n) low high p = elim (between low high x) [ true ↦ tails s n 0x80 0xBF (p * 64 + (x - 0x80)) | false ↦ None ]
+tails (x ∷ s) zero low high p = elim (lead_of x) [ Bad ↦ None | First m l h q ↦ in_front p (tails s m l h q) ]
 
 -- L20: the code points of a text, or none where it is ill-formed
 unfoldable pub points : List ℕ → Option (List ℕ)
-points [] = some []
-points (x ∷ s) = elim (lead_of x) [ Bad ↦ none | First m l h q ↦ tails s m l h q ]
+points [] = Some []
+points (x ∷ s) = elim (lead_of x) [ Bad ↦ None | First m l h q ↦ tails s m l h q ]
 
 -- L20: a text that stands for code points
 unfoldable pub well_formed : List ℕ → Bool

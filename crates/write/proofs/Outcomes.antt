@@ -8,7 +8,7 @@ use Prim.Native.Nat.{ℕ, ◌≤◌}
 use mathlib.Core.Path.{◌≡◌, refl, sym, ap}
 use mathlib.Core.Bool.{Bool, true}
 use mathlib.Core.List.{List, [], ◌∷◌}
-use mathlib.Core.Option.{Option, some, none}
+use Rattle.std.specs.Prelude.{Option, Some, None}
 use borrow.Author.Tests.{leb-true, not-false}
 use lib.Dec.{leb}
 use lib.ListN.{length}
@@ -25,28 +25,28 @@ use Rattle.write.specs.Writing.{writing_rows, refused_writing, written_of, left_
 use Rattle.write.specs.declared.Written.TheVariants.{Done, Refused}
 
 module _ (d : ℕ) where
-  pub answer_refused : (o : Option Refusal) (r : Refusal) → answered_by o Refused (Done d) ≡ Refused r → o ≡ some r
+  pub answer_refused : (o : Option Refusal) (r : Refusal) → answered_by o Refused (Done d) ≡ Refused r → o ≡ Some r
   unfolding answered_by
-  answer_refused (some q) r e = ap some cc
-  answer_refused none r e = cc
+  answer_refused (Some q) r e = ap Some cc
+  answer_refused None r e = cc
 
-  pub answer_done : (o : Option Refusal) (n : ℕ) → answered_by o Refused (Done d) ≡ Done n → (o ≡ none) × (d ≡ n)
+  pub answer_done : (o : Option Refusal) (n : ℕ) → answered_by o Refused (Done d) ≡ Done n → (o ≡ None) × (d ≡ n)
   unfolding answered_by
-  answer_done (some q) n e = (cc, cc)
-  answer_done none n e = (refl, cc)
+  answer_done (Some q) n e = (cc, cc)
+  answer_done None n e = (refl, cc)
 
 module _ (name address : List ℕ) (m : Bool) (key : List ℕ) (room : ℕ) where
-  pub refused_row : (r : Refusal) → written_of name address m key room ≡ Refused r → refused_writing address key (written name address m key) room ≡ some r
+  pub refused_row : (r : Refusal) → written_of name address m key room ≡ Refused r → refused_writing address key (written name address m key) room ≡ Some r
   unfolding written_of
   refused_row r e = answer_refused (length (written name address m key)) (refused_writing address key (written name address m key) room) r e
 
   pub done_row : (n : ℕ) → written_of name address m key room ≡ Done n
-      → (refused_writing address key (written name address m key) room ≡ none) × (length (written name address m key) ≡ n)
+      → (refused_writing address key (written name address m key) room ≡ None) × (length (written name address m key) ≡ n)
   unfolding written_of
   done_row n e = answer_done (length (written name address m key)) (refused_writing address key (written name address m key) room) n e
 
 -- no row holds
-module _ (address key field : List ℕ) (room : ℕ) (e : refused_writing address key field room ≡ none) where
+module _ (address key field : List ℕ) (room : ℕ) (e : refused_writing address key field room ≡ None) where
   abbrev last : List Row
   last = (OutputLength unless leb (length field) room) ∷ []
 
@@ -85,7 +85,7 @@ module _ (name address : List ℕ) (m : Bool) (key out : List ℕ) where
   pub done_wrote : (n : ℕ) → written_of name address m key (length out) ≡ Done n → Wrote name address m key out n
   unfolding left_by_writing
   done_wrote n e =
-      let none_holds : refused ≡ none = (done_row name address m key (length out) n e).0 in
+      let none_holds : refused ≡ None = (done_row name address m key (length out) n e).0 in
       record {
         address_plain = row_plain address key (written name address m key) (length out) none_holds;
         key_in_range = row_key address key (written name address m key) (length out) none_holds;

@@ -4,7 +4,7 @@
 --     writing_rows, refused_writing  rows 9, 11 and 12
 --     written_of, left_by_writing    the answer, and what the output holds afterwards
 use Rattle.std.specs.Prelude.{ℕ, Bool, false, List, [], ◌∷◌, leb, length}
-use Rattle.std.proofs.Math.Option.{Option}
+use Rattle.std.specs.Prelude.{Option}
 use Rattle.octets.specs.Written.{onto}
 use Rattle.names.specs.Names.{autocrypt as autocrypt_name, gossip as gossip_name}
 use Rattle.octets.specs.Tests.{one_to}
