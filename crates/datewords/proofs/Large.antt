@@ -82,7 +82,7 @@ year_some t n e =
 offset_some : (t : List ℕ) (n : ℕ) → offset_of t ≡ Some n → n ≤ 360_000
 unfolding offset_of offset_by
 offset_some t n e =
-    bind_some (number_of t) (λ m. offset_by m) n (n ≤ 360_000) (only_if_some (eqb (length t) 4) _ n e)
+    option_and_then_some (λ m. offset_by m) (number_of t) n (only_if_some (eqb (length t) 4) _ n e)
     (λ m p q.
     let w : 3600 * (m / 100) + 60 * (m % 100) ≡ n = cc (only_if_some (leb (m % 100) 59) _ n q) in
     omega (arith, number_small t m p, leb-true (m % 100) 59 (only_if_true (leb (m % 100) 59) _ n q)))
