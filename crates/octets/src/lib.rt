@@ -68,13 +68,13 @@ pub fn is_zero(s: &[u8]) -> bool
     most == 0
 }
 
-// Is there an `x` in the piece? No way leads out of the loop early, so that it compiles to vector instructions
-// where the piece's length is a fixed one.
-fn has<T: Copy + PartialEq>(piece: &[T], x: T) -> bool
-    ensures { result ≡ list_any (λ y. T.eq y x) piece.now }
+// Is there an `x` among the elements? No way leads out of the loop early, so that it compiles to vector instructions:
+// several are compared at once.
+pub fn has<T: Copy + PartialEq>(s: &[T], x: T) -> bool
+    ensures { result ≡ list_any (λ y. T.eq y x) s.now }
 {
     let mut found = false;
-    for &y in piece {
+    for &y in s {
         found = found | (y == x);
     }
     found

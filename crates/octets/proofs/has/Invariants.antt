@@ -3,4 +3,4 @@ use Rattle.std.specs.List.{list_any}
 use Rattle.octets.proofs.has.Given as goal
 
 abbrev pub invariant-loop-y : goal.invariant-loop-y
-invariant-loop-y g l = l.found ≡ list_any (λ y. g.T.PartialEq.eq y l.x) (take l.y-index l.piece)
+invariant-loop-y g l = l.found ≡ list_any (λ y. g.T.PartialEq.eq y l.x) (take l.y-index l.s)
