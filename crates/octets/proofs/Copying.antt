@@ -1,6 +1,6 @@
 -- A loop that writes a list w over a buffer d from the place `at` on, an octet a turn.
 --     Copied w d out at i       i of its octets are there
---     copy_begin .. copy_end    the loop's steps, an octet being w's own
+--     copy_begin .. copy_end    the loop's steps
 --     small_begin .. small_end  the steps for the lower case of a list
 --     put_small                 a part into which the lower case of a list was written at once
 --     digit_begin .. digits_put, numbering    the steps for the octets of a number, in the part that they go into
@@ -49,11 +49,6 @@ module _ (w d out : List ℕ) (at i : ℕ) (h : Copied w d out at i) where
 
   pub copy_end : length w ≤ i → out ≡ put_at d at w
   copy_end l = done_at w d out at (at + i) h.fits (rw (drop_done w i l) at h.so_far)
-
-pub copy_own : (w d out : List ℕ) (at i : ℕ) → Copied w d out at i → i < length w → Copied w d (set out (at + i) (get_or w i 0)) at (i + 1)
-copy_own w d out at i h l = copy_next w d out at i h (get_or w i 0) l refl
-
-pub ruleset copying = (copy_begin, copy_room, copy_own, copy_end, copy_kept, rules)
 
 -- the lower case of s: its length is that of s, and its octets are what a call answered
 pub small_begin : (s d : List ℕ) (at : ℕ) → at + length s ≤ length d → Copied (lowered s) d d at 0
