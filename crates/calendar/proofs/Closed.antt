@@ -5,14 +5,14 @@
 --     counted                       the code's sum is the count; enough, years_fit, days_fit: no step of it wraps
 --     closed_count                  the whole count in one equation, for all years from 1900 on
 -- Assumes nothing.
-use Prim.Native.Nat.{ℕ, zero, suc, ◌+◌, ◌-◌, ◌*◌, ◌/◌, ◌%◌, ◌≤◌, ◌<◌}
+use Prim.Native.Nat.{ℕ, zero, suc, ◌+◌, ◌-◌, ◌*◌, ◌/◌, ◌%◌, ◌≤◌}
 use mathlib.Core.Path.{◌≡◌, refl, sym}
 use mathlib.Core.Bool.{cond}
 use native.Mathlib.Omega.{arith}
 use mir.Val.{Fits}
 use mir.Syntax.{w64}
 use borrow.Author.Rules.{rules}
-use borrow.Author.Tests.{ne_eqb, eqb-true, eqb-false, le-leb, lt-leb, leb-true, leb-false}
+use borrow.Author.Tests.{ne_eqb, eqb-true, eqb-false, leb-true, leb-false}
 use lib.Dec.{eqb, leb}
 use Rattle.octets.proofs.Tests.{by_test}
 use Rattle.calendar.specs.Calendar.{leap, leap_day, month_length, year_days, month_days, day_count}
@@ -84,13 +84,6 @@ behind_february year (suc k) =
     rw (month_length, ne_eqb (suc (suc (suc k))) 2 (omega arith)) (omega (arith, behind_february year k))
 
 module _ (year month : ℕ) where
-  -- whatever limit k the code tests by: one below 2 is right where the test holds, and wrong where it does not
-  pub march_before : (k : ℕ) → month ≤ k → k ≤ 2 → year - 1 ≡ cond (leb month 2) (year - 1) year
-  march_before k h b = rw (le-leb month 2 (omega arith))
-
-  pub march_same : 2 < month → year ≡ cond (leb month 2) (year - 1) year
-  march_same h = rw (lt-leb month 2 h)
-
   module _ (y : ℕ) (e : y ≡ cond (leb month 2) (year - 1) year) where
     march_near : (year - 1 ≤ y) × (y ≤ year)
     march_near = by_test (leb month 2) (λ q. omega (arith, rw q at e)) (λ q. omega (arith, rw q at e))
@@ -145,4 +138,4 @@ closed_count year month day h f l =
     sym (counted year month _ refl _ _ h f l (years_closed _ (march_first year month _ refl h)) (months_closed month f l) day)
 
 pub ruleset counting =
-    (march_before, march_same, march_first, march_last, years_closed, months_closed, counted, enough, years_fit, days_fit, rules)
+    (march_first, march_last, counted, enough, years_fit, days_fit, rules)

@@ -68,7 +68,7 @@ month_length_small year month =
     (λ e. rw (month_length, e) (omega (arith, leap_day_small year)))
     (λ e. rw (month_length, e) (at_most 31 month_lengths (omega arith) (month - 1)))
 
-pub ruleset calendar = (leap_hundred, leap_other, leap_day_one, leap_day_none, month_february, month_other, rules)
+pub ruleset calendar = (month_february, month_other, rules)
 
 pub year_bound : (k : ℕ) → year_days k ≤ 366 * k
 unfolding year_days

@@ -13,6 +13,7 @@ const CYCLE: u64 = 146_097;
 const TO_1900: u64 = 693_901;
 
 // Every fourth year is a leap year, of the full hundreds only every fourth one (D8).
+#[tactic(auto, unfolding(crate::specs::Calendar::leap))]
 fn leap(year: u64) -> bool
     ensures { result ≡ leap_of year }
 {
@@ -22,14 +23,16 @@ fn leap(year: u64) -> bool
     year % 4 == 0
 }
 
+#[tactic(auto, unfolding(crate::specs::Calendar::leap_day))]
 fn leap_day(year: u64) -> u64
     ensures { (result ≡ leap_day year) × (result ≤ 1) }
 {
-    if leap(year) { 1 } else { 0 }
+    u64::from(leap(year))
 }
 
 // How many days the month has, January being 1. But for February, long months and short ones take turns, from August on
 // the other way round.
+#[tactic(auto, using(crate::proofs::Counting::calendar))]
 pub fn month_length(year: u64, month: u64) -> u64
     requires { (1 ≤ month) × (month ≤ 12) }
     ensures { (result ≡ month_length year month) × (result ≤ 31) }
@@ -41,6 +44,7 @@ pub fn month_length(year: u64, month: u64) -> u64
 }
 
 // The year in which the month lies, where years begin in March: then a leap day is the last day of its year.
+#[tactic(auto, using(std::proofs::lemmas::Bool::Decides::nat_tests))]
 fn march_year(year: u64, month: u64) -> u64
     requires { 1 ≤ year }
     ensures { result ≡ cond (leb month 2) (year - 1) year }
@@ -49,6 +53,7 @@ fn march_year(year: u64, month: u64) -> u64
 }
 
 // The days from 1 March of the year 0 to 1 March of the year; the next January begins 306 days later.
+#[tactic(auto, using(crate::proofs::Closed::years_closed))]
 fn days_before_year(year: u64) -> u64
     requires { (1899 ≤ year) × (year ≤ 9999) }
     ensures { result + 306 ≡ 693901 + year_days (year - 1899) }
@@ -59,6 +64,7 @@ fn days_before_year(year: u64) -> u64
 
 // The days from 1 March to the month's first day, which no leap day changes: five months from March or from August on
 // have 153 days. The year 1900 tells them, with 59 days before 1 March; the January and February behind it are 1901's.
+#[tactic(auto, using(crate::proofs::Closed::months_closed))]
 fn days_before_month(month: u64) -> u64
     requires { (1 ≤ month) × (month ≤ 12) }
     ensures { 59 + result ≡ day_count (cond (leb month 2) 1901 1900) month 1 }

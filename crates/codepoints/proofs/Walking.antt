@@ -19,7 +19,6 @@ use Rattle.utf8.specs.Utf8.{points}
 use Rattle.utf8.specs.Lowering.{lower_point, lower_points}
 use Rattle.codepoints.specs.Reading.{small_of, Shown, Nought, Many, Found, Gives}
 use Rattle.codepoints.specs.declared.Point.{Point}
-use Rattle.codepoints.specs.declared.Point.TheVariants.{One, Bad}
 
 unfoldable pub all_front : List ℕ → Option (List ℕ) → Option (List ℕ)
 all_front w None = None
@@ -59,38 +58,38 @@ module _ (s d out : List ℕ) (n i : ℕ) (g : Walk s d out n i) where
   pub walk_kept : length out ≡ length d
   walk_kept = g.kept
 
-  module _ (r : Point) where
-    pub walk_bad : r ≡ Bad → Gives s (i + 1) (points (drop i s)) r → Nought d out (small_of (points s))
+  module _ (r : Option Point) where
+    pub walk_bad : r ≡ None → Gives s (i + 1) (points (drop i s)) r → Nought d out (small_of (points s))
     unfolding small_of all_front
     walk_bad a k =
         let e : points (drop i s) ≡ None = rw a at k in
         record { same = g.kept; text = g.is ∙ rw e }
 
-    module _ (p to : ℕ) (a : r ≡ One p to) (k : Gives s (i + 1) (points (drop i s)) r) where
-      one : Found s (i + 1) (points (drop i s)) p to
+    module _ (point : Point) (a : r ≡ Some point) (k : Gives s (i + 1) (points (drop i s)) r) where
+      one : Found s (i + 1) (points (drop i s)) point.number point.end
       one = rw a at k
 
-      here : small_of (points s) ≡ all_front (take n out) (in_front (lower_point p) (small_of (points (drop to s))))
-      here = g.is ∙ rw (one.is, small_front p (points (drop to s)))
+      here : small_of (points s) ≡ all_front (take n out) (in_front (lower_point point.number) (small_of (points (drop point.end s))))
+      here = g.is ∙ rw (one.is, small_front point.number (points (drop point.end s)))
 
-      pub walk_small : p < 0x200000
+      pub walk_small : point.number < 0x200000
       walk_small = one.small
 
-      pub walk_less : i < length s → length s - to < length s - i
+      pub walk_less : i < length s → length s - point.end < length s - i
       walk_less l = omega (arith, one.on)
 
       pub walk_full : length out ≤ n → Many d out (small_of (points s))
       walk_full l =
           record {
             same = g.kept;
-            text = λ ps e. omega (arith, front_long (take n out) (lower_point p) _ ps (sym here ∙ e), ap length (take_all n out l), g.kept);
+            text = λ ps e. omega (arith, front_long (take n out) (lower_point point.number) _ ps (sym here ∙ e), ap length (take_all n out l), g.kept);
           }
 
-      pub walk_next : (q : ℕ) → n < length out → q ≡ lower_point p → Walk s d (set out n q) (n + 1) to
+      pub walk_next : (q : ℕ) → n < length out → q ≡ lower_point point.number → Walk s d (set out n q) (n + 1) point.end
       walk_next q l e =
           let t : take (n + 1) (set out n q) ≡ take n out ++ (q ∷ []) = rw add-one (take-suc-set out n q l) in
           record {
-            is = here ∙ front_one (take n out) (lower_point p) (small_of (points (drop to s))) ∙ rw (t, e);
+            is = here ∙ front_one (take n out) (lower_point point.number) (small_of (points (drop point.end s))) ∙ rw (t, e);
             kept = length-set out n q ∙ g.kept;
             upto = one.upto;
             inside = omega (arith, length-set out n q);

@@ -10,9 +10,8 @@ use Rattle.octets.specs.Options.{in_front}
 use Rattle.utf8.specs.Utf8.{points}
 use Rattle.utf8.specs.Lowering.{lower_points}
 use Rattle.codepoints.specs.declared.Read.{Read}
-use Rattle.codepoints.specs.declared.Read.TheVariants.{Points, Bad as IllFormed, Full}
+use Rattle.codepoints.specs.declared.Read.TheVariants.{Points, Bad, Full}
 use Rattle.codepoints.specs.declared.Point.{Point}
-use Rattle.codepoints.specs.declared.Point.TheVariants.{One, Bad}
 
 -- L21: each of the code points in lower case
 unfoldable pub small_of : Option (List ℕ) → Option (List ℕ)
@@ -37,7 +36,7 @@ pub record Many (d e : List ℕ) (o : Option (List ℕ)) : Type 0 where
 
 abbrev pub Reads : List ℕ → List ℕ → Option (List ℕ) → Read → Type 0
 Reads d e o (Points m) = Shown d e o m
-Reads d e o IllFormed = Nought d e o
+Reads d e o Bad = Nought d e o
 Reads d e o Full = Many d e o
 
 -- L20: `sum` is what a code point is so far. Each octet that is missing adds six bits, and with all of them it has at most 21. The
@@ -54,6 +53,6 @@ pub record Found (s : List ℕ) (at : ℕ) (o : Option (List ℕ)) (p to : ℕ) 
   pub on : at ≤ to
   pub upto : to ≤ length s
 
-abbrev pub Gives : List ℕ → ℕ → Option (List ℕ) → Point → Type 0
-Gives s at o (One p to) = Found s at o p to
-Gives s at o Bad = o ≡ None
+abbrev pub Gives : List ℕ → ℕ → Option (List ℕ) → Option Point → Type 0
+Gives s at o (Some point) = Found s at o point.number point.end
+Gives s at o None = o ≡ None

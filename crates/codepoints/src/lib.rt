@@ -15,105 +15,89 @@ pub enum Read {
     Full,
 }
 
-// A code point and the place behind it. Or the text is ill-formed, whatever follows.
+// A code point and the place behind it.
 #[derive(Clone, Copy)]
-enum Point {
-    One(u32, usize),
-    Bad,
+struct Point {
+    number: u32,
+    end: usize,
 }
 
 // A code point in lower case (L21).
+#[tactic(auto, unfolding(utf8::specs::Lowering::lower_point), using(std::proofs::lemmas::Bool::Decides::nat_tests))]
 fn lower_point(p: u32) -> u32
     requires { p < 0x200000 }
     ensures { result ≡ lower_point p }
 {
-    if (0x41 <= p) & (p <= 0x5A) {
-        return p + 32;
+    match p {
+        0xD7 | 0x3A2 => p,
+        0x41..=0x5A | 0xC0..=0xDE | 0x391..=0x3AB | 0x410..=0x42F => p + 32,
+        0x400..=0x40F => p + 80,
+        _ => p,
     }
-    if ((0xC0 <= p) & (p <= 0xDE)) & (p != 0xD7) {
-        return p + 32;
-    }
-    if ((0x391 <= p) & (p <= 0x3AB)) & (p != 0x3A2) {
-        return p + 32;
-    }
-    if (0x410 <= p) & (p <= 0x42F) {
-        return p + 32;
-    }
-    if (0x400 <= p) & (p <= 0x40F) {
-        return p + 80;
-    }
-    p
 }
 
-// Reads the rest of a code point that is `sum` so far: `need` octets from the place `at` on, the first of them from `low` to
-// `high` and each other one from 80 to BF. Its ranges are all there is to test (L20), so that the number itself never is.
-fn rest_of(s: &[u8], at: usize, need: u8, low: u8, high: u8, sum: u32) -> Point
+// Reads the rest of a code point, whose first octet has been read, from the place `at` on. The ranges of its octets are all
+// there is to test (L20), so that the number itself never is. Or there is none, as the text is ill-formed, whatever follows.
+#[tactic(auto, using(crate::proofs::Reading::resting))]
+fn rest_of(s: &[u8], at: usize, first: utf8::Lead) -> Option<Point>
     requires at_in_bounds { at ≤ length s.now }
-    requires begun { Begun need low high sum }
-    ensures { Gives s.now at (tails (drop at s.now) need low high sum) result }
+    requires begun { Begun first.following first.low first.high first.bits }
+    ensures { Gives s.now at (tails (drop at s.now) first.following first.low first.high first.bits) result }
 {
-    let mut i = at;
-    let mut n = need;
-    let mut l = low;
-    let mut h = high;
-    let mut p = sum;
-    while 0 < n {
-        if s.len() <= i {
-            return Point::Bad;
-        }
-        let x = s[i];
-        if x < l {
-            return Point::Bad;
-        }
-        if h < x {
-            return Point::Bad;
-        }
-        p = p * 64 + (x - 0x80) as u32;
-        n -= 1;
-        l = 0x80;
-        h = 0xBF;
-        i += 1;
+    let following = usize::from(first.following);
+    if s.len() - at < following {
+        return None;
     }
-    Point::One(p, i)
+    let end = at + following;
+    let mut low = first.low;
+    let mut high = first.high;
+    let mut number = u32::from(first.bits);
+    for i in at..end {
+        let x = s[i];
+        if x < low || high < x {
+            return None;
+        }
+        number = number * 64 + u32::from(x - 0x80);
+        low = 0x80;
+        high = 0xBF;
+    }
+    Some(Point { number, end })
 }
 
-// Reads the code point that begins at a place.
-fn point_at(s: &[u8], i: usize) -> Point
+// Reads the code point that begins at a place, or none, as the text is ill-formed.
+#[tactic(auto, using(crate::proofs::Reading::pointing))]
+fn point_at(s: &[u8], i: usize) -> Option<Point>
     requires { i < length s.now }
     ensures { Gives s.now (i + 1) (points_of (drop i s.now)) result }
 {
-    match utf8::lead_of(s[i]) {
-        utf8::Lead::Bad => Point::Bad,
-        utf8::Lead::First(m, l, h, q) => rest_of(s, i + 1, m, l, h, q as u32),
-    }
+    let first = utf8::lead_of(s[i])?;
+    rest_of(s, i + 1, first)
 }
 
 // Stores the code points of a text, in lower case (L21), at the beginning of `out`. Where there is no room for the next one
 // it goes no further: a stranger may have sent the text, as long as he likes.
+#[tactic(auto, using(crate::proofs::Walking::walking))]
 pub fn read_small(s: &[u8], out: &mut [u32]) -> Read
     ensures { Reads out.old out.new (small_of (points_of s.now)) result }
 {
     let mut n = 0;
     let mut i = 0;
     while i < s.len() {
-        match point_at(s, i) {
-            Point::Bad => {
-                return Read::Bad;
-            }
-            Point::One(p, to) => {
-                if out.len() <= n {
-                    return Read::Full;
-                }
-                out[n] = lower_point(p);
-                n += 1;
-                i = to;
-            }
+        let Some(point) = point_at(s, i) else {
+            return Read::Bad;
+        };
+        if out.len() <= n {
+            return Read::Full;
         }
+        out[n] = lower_point(point.number);
+        n += 1;
+        i = point.end;
     }
     Read::Points(n)
 }
 
 // Writes the one to four octets of a code point over `out` from the place `at` on (L20).
+#[tactic(auto, using(crate::proofs::Encoding::laying))]
 fn put_point(out: &mut [u8], at: usize, p: u32) -> octets::Laid
     requires p_bound { p < 0x110000 }
     requires at_in_bounds { at ≤ length out.old }
@@ -155,15 +139,15 @@ fn put_point(out: &mut [u8], at: usize, p: u32) -> octets::Laid
 }
 
 // Writes code points over `out` from the place `at` on (L20), as long as there is room.
+#[tactic(auto, using(crate::proofs::Encoding::writing))]
 pub fn write(points: &[u32], out: &mut [u8], at: usize) -> octets::Laid
     requires points_value { scalars points.now ≡ true }
     requires at_in_bounds { at ≤ length out.old }
     ensures { Puts out.old out.new at (encoded points.now) result }
 {
     let mut to = at;
-    let mut i = 0;
-    while i < points.len() {
-        match put_point(&mut *out, to, points[i]) {
+    for &p in points {
+        match put_point(&mut *out, to, p) {
             octets::Laid::At(next) => {
                 to = next;
             }
@@ -171,7 +155,6 @@ pub fn write(points: &[u32], out: &mut [u8], at: usize) -> octets::Laid
                 return octets::Laid::NoRoom;
             }
         }
-        i += 1;
     }
     octets::Laid::At(to)
 }

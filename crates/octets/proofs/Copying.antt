@@ -1,25 +1,25 @@
 -- A loop that writes a list w over a buffer d from the place `at` on, an octet a turn.
 --     Copied w d out at i       i of its octets are there
---     copy_begin .. copy_end    the loop's steps, an octet being w's own
+--     copy_begin .. copy_end    the loop's steps
 --     small_begin .. small_end  the steps for the lower case of a list
---     digit_begin .. digit_end  the steps for the octets of a number
---     filled_begin .. filled_end    a buffer that is filled with one octet
+--     put_small                 a part into which the lower case of a list was written at once
+--     digit_begin .. digits_put, numbering    the steps for the octets of a number, in the part that they go into
 -- Assumes nothing.
 use Prim.Native.Nat.{ℕ, suc, zero, ◌+◌, ◌-◌, ◌<◌, ◌≤◌, ◌/◌, ◌%◌}
 use mathlib.Core.Path.{◌≡◌, refl, sym, ap, ◌∙◌}
-use mathlib.Core.List.{List, ◌∷◌, ◌++◌, append-nil}
+use mathlib.Core.List.{List, [], ◌∷◌, ◌++◌, map, append-nil}
+use Rattle.std.specs.Char.{to_ascii_lowercase}
+use borrow.Rule.Slice.PartMut.{put_mid}
 use native.Mathlib.Nat.{add-zero, add_assoc, sub-zero}
 use native.Mathlib.Omega.{arith}
 use borrow.Author.Rules.{rules}
-use borrow.Author.Fill.{fill_more}
-use lib.ListN.{length, get_or, take, drop, set, replicate, length-set}
-use lib.Seq.{drop-length}
+use lib.ListN.{length, get_or, take, drop, set, length-take, length-drop}
 use Rattle.octets.specs.Octets.{lower, lowered}
 use Rattle.octets.specs.Numbers.{digits}
-use Rattle.octets.specs.Written.{put_at}
+use Rattle.octets.specs.Written.{put_at, onto}
 use Rattle.octets.proofs.Lists.{drop_one, drop_done, left_one}
-use Rattle.octets.proofs.Letters.{length_lowered, get_d_lowered}
-use Rattle.octets.proofs.Writing.{Wrote, begin_at, room_at, kept, put, done_at}
+use Rattle.octets.proofs.Letters.{lowered_is, length_lowered, get_d_lowered}
+use Rattle.octets.proofs.Writing.{Wrote, begin, begin_at, room_at, kept, counted, put, done, done_at, put_part}
 
 pub record Copied (w d out : List ℕ) (at i : ℕ) : Type 0 where
   pub upto : i ≤ length w
@@ -50,11 +50,6 @@ module _ (w d out : List ℕ) (at i : ℕ) (h : Copied w d out at i) where
   pub copy_end : length w ≤ i → out ≡ put_at d at w
   copy_end l = done_at w d out at (at + i) h.fits (rw (drop_done w i l) at h.so_far)
 
-pub copy_own : (w d out : List ℕ) (at i : ℕ) → Copied w d out at i → i < length w → Copied w d (set out (at + i) (get_or w i 0)) at (i + 1)
-copy_own w d out at i h l = copy_next w d out at i h (get_or w i 0) l refl
-
-pub ruleset copying = (copy_begin, copy_room, copy_own, copy_end, copy_kept, rules)
-
 -- the lower case of s: its length is that of s, and its octets are what a call answered
 pub small_begin : (s d : List ℕ) (at : ℕ) → at + length s ≤ length d → Copied (lowered s) d d at 0
 small_begin s d at h = copy_begin (lowered s) d at (rw length_lowered h)
@@ -72,6 +67,9 @@ module _ (s d out : List ℕ) (at i : ℕ) (h : Copied (lowered s) d out at i) w
   pub small_end : length s ≤ i → out ≡ put_at d at (lowered s)
   small_end l = copy_end (lowered s) d out at i h (rw length_lowered l)
 
+pub put_small : (d : List ℕ) (at k : ℕ) (part w : List ℕ) → part ≡ map to_ascii_lowercase w → k ≡ length w → put_mid at k d part ≡ put_at d at (lowered w)
+put_small d at k part w e f = put_part d at k part (lowered w) (e ∙ lowered_is w) (f ∙ sym (length_lowered w))
+
 pub ruleset making_small = (small_begin, small_room, small_next, small_end, small_kept, rules)
 
 -- the octets of a number n, of which `rest` is what is left to be written
@@ -80,57 +78,32 @@ unfolding digits
 length_digits zero n = refl
 length_digits (suc k) n = ap suc (length_digits k (n / 256))
 
-pub record Numbered (width n : ℕ) (d out : List ℕ) (at rest k : ℕ) : Type 0 where
-  pub copied : Copied (digits width n) d out at k
-  pub left : drop k (digits width n) ≡ digits (width - k) rest
-
-pub digit_begin : (width n at : ℕ) (d : List ℕ) → at + width ≤ length d → Numbered width n d d at n 0
-digit_begin width n at d h = record { copied = copy_begin (digits width n) d at (rw length_digits h); left = simp sub-zero }
-
-module _ (width n at rest k : ℕ) (d out : List ℕ) (h : Numbered width n d out at rest k) where
-  pub digit_kept : length out ≡ length d
-  digit_kept = copy_kept (digits width n) d out at k h.copied
-
-  pub digit_room : k < width → at + k < length out
-  digit_room l = copy_room (digits width n) d out at k h.copied (rw length_digits l)
-
-  pub digit_next : k < width → Numbered width n d (set out (at + k) (rest % 256)) at (rest / 256) (k + 1)
+-- a part d of a buffer of which i octets are the number's by now, and n is what is left of it
+module _ (w d out : List ℕ) (i width n : ℕ) (h : Wrote w d out i (digits (width - i) n)) where
+  pub digit_next : length d ≡ width → i < length out → Wrote w d (set out i (n % 256)) (i + 1) (digits (width - (i + 1)) (n / 256))
   unfolding digits
-  digit_next l =
-      let m : k < length (digits width n) = rw length_digits l in
-      let e : get_or (digits width n) k 0 ∷ drop (k + 1) (digits width n) ≡ rest % 256 ∷ digits (width - (k + 1)) (rest / 256) =
-      sym (drop_one (digits width n) k m) ∙ h.left ∙ rw (left_one width k l) in
-      record { copied = copy_next (digits width n) d out at k h.copied (rest % 256) m (cc); left = cc }
+  digit_next e l =
+      let m : i < width = omega (arith, kept w d out i (digits (width - i) n) h) in
+      put w d out i (n % 256) (digits (width - (i + 1)) (n / 256)) (rw (left_one width i m) at h)
 
-  pub digit_end : width ≤ k → out ≡ put_at d at (digits width n)
-  digit_end l = copy_end (digits width n) d out at k h.copied (rw length_digits l)
+  pub digit_end : length d ≡ width → length d ≤ i → out ≡ w
+  unfolding digits onto
+  digit_end e l =
+      let z : width - i ≡ 0 = omega arith in
+      let f : Wrote w d out i [] = rw z at h in
+      done w d out i f ∙ rw (drop_done d (length w) (omega (arith, counted w d out i [] f))) (append-nil w)
 
-pub ruleset numbering = (digit_begin, digit_room, digit_next, digit_end, digit_kept, rules)
+pub digit_begin : (width n : ℕ) (d : List ℕ) → length d ≡ width → Wrote (digits width n) d d 0 (digits (width - 0) n)
+digit_begin width n d e = rw sub-zero (begin (digits width n) d (omega (arith, length_digits width n)))
 
--- a buffer of which i octets are x by now
-pub record Filled (d out : List ℕ) (x i : ℕ) : Type 0 where
-  pub upto : i ≤ length d
-  pub same : length out ≡ length d
-  pub so_far : out ≡ replicate i x ++ drop i d
+-- all of it is written
+module _ (all d out : List ℕ) (at k i width n rest : ℕ) (h : Wrote (digits width n) d out i (digits (width - i) rest)) where
+  pub digits_put : length d ≡ width → length d ≤ i → k ≡ width → put_mid at k all out ≡ put_at all at (digits width n)
+  digits_put e l f =
+      put_part all at k out (digits width n) (digit_end (digits width n) d out i width rest h e l) (f ∙ sym (length_digits width n))
 
-pub filled_begin : (d : List ℕ) (x : ℕ) → Filled d d x 0
-filled_begin d x = record { upto = omega arith; same = refl; so_far = refl }
+-- how long that part is, as code has it
+pub part_long : (d : List ℕ) (at n : ℕ) → at + n ≤ length d → length (take (at + n - at) (drop at d)) ≡ n
+part_long d at n h = simp (length-take, length-drop) (omega arith)
 
-module _ (d out : List ℕ) (x i : ℕ) (h : Filled d out x i) where
-  pub filled_next : i < length out → Filled d (set out i x) x (i + 1)
-  filled_next l =
-      record {
-        upto = omega (arith, h.same);
-        same = length-set out i x ∙ h.same;
-        so_far = rw h.so_far (fill_more i x d (omega (arith, h.same)));
-      }
-
-  pub filled_end : length out ≤ i → out ≡ replicate (length d) x
-  filled_end l =
-      let e : i ≡ length d = omega (arith, h.same, h.upto) in
-      h.so_far ∙ rw (e, drop-length d) (append-nil (replicate (length d) x))
-
-  pub filled_kept : length out ≡ length d
-  filled_kept = h.same
-
-pub ruleset filling = (filled_begin, filled_next, filled_end, filled_kept, rules)
+pub ruleset numbering = (digit_begin, digit_next, digits_put, part_long, rules)

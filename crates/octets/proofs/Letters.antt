@@ -1,5 +1,6 @@
 -- Lower case.
 --     lower_below, lower_above, lower_capital    by where the octet lies
+--     lower_is, lowered_is                       the library's word for it
 --     by_case                                    what holds of an octet in lower case, by where the octet lies
 --     lower_twice, lowered_twice                 what is in lower case stays as it is
 --     lower_octet, lowered_octets                an octet stays one
@@ -8,10 +9,11 @@
 use Prim.Native.Nat.{ℕ, ◌+◌, ◌<◌, ◌≤◌}
 use mathlib.Core.Path.{◌≡◌, refl, sym}
 use mathlib.Core.Logic.{⊎_elim}
-use mathlib.Core.List.{List, [], ◌∷◌}
+use mathlib.Core.List.{List, [], ◌∷◌, map}
+use Rattle.std.specs.Char.{to_ascii_lowercase}
+use Rattle.std.proofs.lemmas.Bool.Decides.{nat_tests}
 use native.Mathlib.Omega.{arith}
 use borrow.Author.Tests.{le-leb, lt-leb}
-use borrow.Author.Rules.{rules}
 use lib.ListN.{length, get_or, length-map, get_or-map}
 use Rattle.octets.specs.Octets.{AllOctets, lower, lowered}
 use Rattle.octets.proofs.Lists.{lt_or_le}
@@ -28,7 +30,14 @@ pub lower_capital : (x : ℕ) → 65 ≤ x → x ≤ 90 → x + 32 ≡ lower x
 unfolding lower
 lower_capital x h k = rw (le-leb 65 x h, le-leb x 90 k)
 
-pub ruleset lowering = (lower_below, lower_above, lower_capital, rules)
+pub lower_is : (x : ℕ) → to_ascii_lowercase x ≡ lower x
+unfolding lower
+lower_is x = grind (arith, nat_tests)
+
+pub lowered_is : (s : List ℕ) → map to_ascii_lowercase s ≡ lowered s
+unfolding lowered
+lowered_is [] = refl
+lowered_is (x ∷ s) = rw (lower_is x, lowered_is s)
 
 -- the three ways that an octet can go
 pub by_case : (P : ℕ → Type 0) (x : ℕ) → (x < 65 → P x) → (90 < x → P x) → (65 ≤ x → x ≤ 90 → P (x + 32)) → P (lower x)

@@ -65,17 +65,17 @@ module _ (s : List ℕ) (at width n k : ℕ) (h : Reading s at width n k) where
     pub times_fits : ((i : ℕ) → Fits w8 (get_or s i 0)) → Fits w64 (n * 256)
     times_fits g = omega (arith, below g)
 
-    pub sum_fits : ((i : ℕ) → Fits w8 (get_or s i 0)) → (x : ℕ) → (x ≡ get_or s (at + (k - 1)) 0) × (x < 256) → Fits w64 (n * 256 + x)
-    sum_fits g x e = omega (arith, below g, e.1)
+    pub sum_fits : ((i : ℕ) → Fits w8 (get_or s i 0)) → (x : ℕ) → x ≡ get_or s (at + (k - 1)) 0 → Fits w64 (n * 256 + x)
+    sum_fits g x e = omega (arith, below g, (g (at + (k - 1))).fits)
 
-    pub reading_next : (x : ℕ) → (x ≡ get_or s (at + (k - 1)) 0) × (x < 256) → Reading s at width (n * 256 + x) (k - 1)
+    pub reading_next : (x : ℕ) → x ≡ get_or s (at + (k - 1)) 0 → Reading s at width (n * 256 + x) (k - 1)
     unfolding number
     reading_next x e =
         let a : width - (k - 1) ≡ (width - k) + 1 = omega arith in
         let b : at + (k - 1) + 1 ≡ at + k = omega arith in
         record {
           upto = omega arith;
-          so_far = rw (a, add-one, drop_one s (at + (k - 1)) reading_within, b, ← h.so_far) (omega (arith, e.0));
+          so_far = rw (a, add-one, drop_one s (at + (k - 1)) reading_within, b, ← h.so_far) (omega (arith, e));
         }
 
   pub reading_end : k ≤ 0 → n ≡ number (take width (drop at s))

@@ -1,13 +1,14 @@
 -- Tests and what they say.
 --     by_test                     the two ways that a test can go
 --     and_left, and_right         what an "and" that holds says
+--     or_left                     what an "or" that does not hold says
 --     same_bool                   two tests that were compared
 --     all_below, all_below_lem    a test that passes at each number below another, by computing it
 -- Assumes nothing.
 use Prim.Native.Nat.{ℕ, zero, suc, ◌<◌, ◌≤◌}
 use mathlib.Core.Path.{◌≡◌, refl, sym}
 use mathlib.Core.Logic.{⊎_elim}
-use mathlib.Core.Bool.{Bool, true, false, ◌&&◌, beq, false≢true}
+use mathlib.Core.Bool.{Bool, true, false, ◌&&◌, ◌||◌, beq, false≢true}
 use native.Mathlib.Omega.{arith}
 use Rattle.octets.proofs.Lists.{lt_or_le}
 
@@ -22,6 +23,10 @@ and_left false b e = absurd (false≢true e)
 pub and_right : (a b : Bool) → (a && b) ≡ true → b ≡ true
 and_right true b e = e
 and_right false b e = absurd (false≢true e)
+
+pub or_left : (a b : Bool) → (a || b) ≡ false → a ≡ false
+or_left true b e = e
+or_left false b e = refl
 
 pub same_bool : (a b : Bool) → beq a b ≡ true → a ≡ b
 same_bool true true e = refl

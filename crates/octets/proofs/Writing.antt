@@ -4,6 +4,7 @@
 --     room_at                 there is room for what comes next
 --     put, puts               one element more; several
 --     done, done_at           all is written
+--     put_part                a part that was written as a whole
 -- Assumes nothing.
 use Prim.Native.Nat.{ℕ, ◌+◌, ◌<◌, ◌≤◌}
 use mathlib.Core.Path.{◌≡◌, refl, sym, ap, ◌∙◌}
@@ -12,6 +13,7 @@ use native.Mathlib.Numerals.{add-one}
 use native.Mathlib.Omega.{arith}
 use lib.ListN.{length, take, drop, set, length-append, length-take, length-drop, take-append-drop}
 use lib.Seq.{take_at, drop_at, drop-drop, set_split, length-take-le, take-length, take-add}
+use borrow.Rule.Slice.PartMut.{put_mid}
 use Rattle.octets.specs.Written.{put_at, onto}
 
 pub record Wrote (w d out : List ℕ) (o : ℕ) (rest : List ℕ) : Type 0 where
@@ -81,3 +83,8 @@ unfolding put_at onto
 done_at w d out at o h p =
     let n : length (take at d ++ w) ≡ at + length w = simp length-append (omega (arith, length-take-le at d (omega arith))) in
     done (take at d ++ w) d out o p ∙ rw (n, append_assoc)
+
+-- a part that was written as a whole, as code has it
+pub put_part : (d : List ℕ) (at k : ℕ) (part w : List ℕ) → part ≡ w → k ≡ length w → put_mid at k d part ≡ put_at d at w
+unfolding put_at
+put_part d at k part w e f = rw (e, f, drop-drop (length w) at d)

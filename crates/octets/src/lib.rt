@@ -4,8 +4,9 @@
 #![tactic(auto)]
 
 ghost use Rattle.std.specs.Prelude.{◌+◌, ◌≤◌, ◌<◌, max, ◌≡◌, eqb, length, take, drop, replicate};
+ghost use Rattle.std.specs.List.{list_any, position_or_len};
 ghost use Rattle.octets.specs.Octets.{blank, same_octets, lower as lower_of, lowered, same_name, starts_with, all_zero};
-ghost use Rattle.octets.specs.Finding.{holds, length_before, Skipped};
+ghost use Rattle.octets.specs.Finding.{length_before, Skipped};
 ghost use Rattle.octets.specs.Numbers.{number, digits};
 ghost use Rattle.octets.specs.Written.{put_at};
 
@@ -17,214 +18,155 @@ pub enum Laid {
 }
 
 // Is it a space or a tab (L1)?
+#[tactic(auto, unfolding(crate::specs::Octets::blank))]
 pub fn is_blank(x: u8) -> bool
     ensures { result ≡ blank x }
 {
-    (x == b' ') | (x == b'\t')
+    matches!(x, b' ' | b'\t')
 }
 
 // Are the two runs equal? Lengths first: most runs that differ do so there.
+#[tactic(auto, using(crate::proofs::Comparing::same_is))]
 pub fn same(a: &[u8], b: &[u8]) -> bool
     ensures { result ≡ same_octets a.now b.now }
 {
-    if a.len() != b.len() {
-        return false;
-    }
-    let mut i = 0;
-    while i < a.len() {
-        if a[i] != b[i] {
-            return false;
-        }
-        i += 1;
-    }
-    true
+    a == b
 }
 
 // The octet with an ASCII capital made small, any other as it is (L8).
+#[tactic(auto, using(crate::proofs::Letters::lower_is))]
 pub fn lower(x: u8) -> u8
     ensures { result ≡ lower_of x }
 {
-    if x < b'A' {
-        return x;
-    }
-    if b'Z' < x {
-        return x;
-    }
-    x + 32
-}
-
-fn alike(x: u8, y: u8) -> bool
-    ensures { result ≡ eqb (lower_of x) (lower_of y) }
-{
-    lower(x) == lower(y)
+    x.to_ascii_lowercase()
 }
 
 // Are the two names equal, ASCII capitals and small letters being alike (B11)?
 pub fn same_name(a: &[u8], b: &[u8]) -> bool
     ensures { result ≡ same_name a.now b.now }
 {
-    if a.len() != b.len() {
-        return false;
-    }
-    let mut i = 0;
-    while i < a.len() {
-        if alike(a[i], b[i]) {
-            i += 1;
-        } else {
-            return false;
-        }
-    }
-    true
+    a.eq_ignore_ascii_case(b)
 }
 
 // Does `s` go on with `text` at the place `at`?
 pub fn goes_on(s: &[u8], at: usize, text: &[u8]) -> bool
     ensures { result ≡ starts_with text.now (drop at s.now) }
 {
-    if s.len() <= at {
-        return text.len() == 0;
-    }
-    if s.len() - at < text.len() {
-        return false;
-    }
-    let mut i = 0;
-    while i < text.len() {
-        if text[i] != s[at + i] {
-            return false;
-        }
-        i += 1;
-    }
-    true
-}
-
-fn larger(x: u8, y: u8) -> u8
-    ensures { result ≡ max x y }
-{
-    if x < y { y } else { x }
+    s[at.min(s.len())..].starts_with(text)
 }
 
 // Are there only zeros? The largest octet is kept and no way leads out of the loop early, so that it
 // compiles to vector instructions: whole tables are tested so at each call.
+#[tactic(auto, using(crate::proofs::Zeros::zeroing))]
 pub fn is_zero(s: &[u8]) -> bool
     ensures { result ≡ all_zero s.now }
 {
     let mut most = 0;
-    let mut i = 0;
-    while i < s.len() {
-        most = larger(most, s[i]);
-        i += 1;
+    for &x in s {
+        most = most.max(x);
     }
     most == 0
 }
 
-// Is there an `x` in the piece? No way leads out of the loop early, so that it compiles to vector instructions
-// where the piece's length is a fixed one.
-fn has(piece: &[u8], x: u8) -> bool
-    ensures { result ≡ holds x piece.now }
+// Is there an `x` among the elements? No way leads out of the loop early, so that it compiles to vector instructions:
+// several are compared at once.
+pub fn has<T: Copy + PartialEq>(s: &[T], x: T) -> bool
+    ensures { result ≡ list_any (λ y. T.eq y x) s.now }
 {
     let mut found = false;
-    let mut i = 0;
-    while i < piece.len() {
-        found = found | (piece[i] == x);
-        i += 1;
+    for &y in s {
+        found = found | (y == x);
     }
     found
 }
 
-// From the place `at` on, skips pieces of `width` octets that hold no `x`, up to where the next `x` or the end is less
-// than `width` octets away.
-fn skip(s: &[u8], at: usize, width: usize, x: u8) -> usize
-    requires { (0 < width) × (at ≤ length s.now) }
-    ensures { Skipped x s.now at width result }
+// From the place `at` on, skips pieces of `WIDTH` elements that hold no `x`, up to where the next `x` or the end is less
+// than `WIDTH` elements away.
+#[tactic(auto, using(crate::proofs::Finding::skipping))]
+fn skip<T: Copy + PartialEq, const WIDTH: usize>(s: &[T], at: usize, x: T) -> usize
+    requires { (0 < WIDTH) × (at ≤ length s.now) }
+    ensures { Skipped (λ y. T.eq y x) s.now at WIDTH result }
 {
     let mut i = at;
-    while width <= s.len() - i {
-        if has(&s[i..i + width], x) {
+    while WIDTH <= s.len() - i {
+        if has(&s[i..i + WIDTH], x) {
             return i;
         }
-        i += width;
+        i += WIDTH;
     }
     i
 }
 
-// The place of the next `x` from the place `from` on, or the end. Most octets before it are skipped by 32, of the rest
-// most by 8.
+// The place of the next `x` from the place `from` on, or the end. Most elements before it are skipped by `WIDE`, of the
+// rest most by 8.
+pub fn first_from<T: Copy + PartialEq, const WIDE: usize>(s: &[T], from: usize, x: T) -> usize
+    requires { (0 < WIDE) × (from ≤ length s.now) }
+    ensures { result ≡ from + position_or_len (λ y. T.eq y x) (drop from s.now) }
+{
+    let near = skip::<T, WIDE>(s, from, x);
+    let nearer = skip::<T, 8>(s, near, x);
+    skip::<T, 1>(s, nearer, x)
+}
+
+// The place of the next `x` from the place `from` on, or the end.
 pub fn find(s: &[u8], from: usize, x: u8) -> usize
     ensures { result ≡ from + length_before x (drop from s.now) }
 {
     if s.len() <= from {
         return from;
     }
-    let near = skip(s, from, 32, x);
-    let nearer = skip(s, near, 8, x);
-    skip(s, nearer, 1, x)
+    first_from::<u8, 32>(s, from, x)
 }
 
 // Writes `src` over `out` from the place `at` on.
+#[tactic(auto, using(crate::proofs::Writing::put_part))]
 pub fn put(out: &mut [u8], at: usize, src: &[u8])
     requires { at + length src.now ≤ length out.old }
     ensures { out.new ≡ put_at out.old at src.now }
 {
-    let mut i = 0;
-    while i < src.len() {
-        out[at + i] = src[i];
-        i += 1;
-    }
+    out[at..at + src.len()].copy_from_slice(src);
 }
 
 // Writes `src` into `out` from the place `at` on, its ASCII capitals as small letters (L8).
+#[tactic(auto, using(crate::proofs::Copying::put_small))]
 pub fn put_lower(out: &mut [u8], at: usize, src: &[u8])
     requires { at + length src.now ≤ length out.old }
     ensures { out.new ≡ put_at out.old at (lowered src.now) }
 {
-    let mut i = 0;
-    while i < src.len() {
-        out[at + i] = lower(src[i]);
-        i += 1;
-    }
+    let part = &mut out[at..at + src.len()];
+    part.copy_from_slice(src);
+    part.make_ascii_lowercase();
 }
 
 // Makes every octet of `out` an `x`.
 pub fn fill(out: &mut [u8], x: u8)
     ensures { out.new ≡ replicate (length out.old) x }
 {
-    let mut i = 0;
-    while i < out.len() {
-        out[i] = x;
-        i += 1;
-    }
-}
-
-fn wide(x: u8) -> u64
-    ensures { (result ≡ x) × (result < 256) }
-{
-    x as u64
+    out.fill(x);
 }
 
 // The number that stands in the `width` octets from the place `at` on, the least octet first (T2).
+#[tactic(auto, using(crate::proofs::Numerals::reading))]
 pub fn number_at(s: &[u8], at: usize, width: usize) -> u64
     requires { (width ≤ 8) × (at + width ≤ length s.now) }
     ensures { result ≡ number (take width (drop at s.now)) }
 {
-    let mut n: u64 = 0;
-    let mut k = width;
-    while 0 < k {
-        k -= 1;
-        n = n * 256 + wide(s[at + k]);
+    let mut n = 0;
+    for k in (0..width).rev() {
+        n = n * 256 + u64::from(s[at + k]);
     }
     n
 }
 
 // Writes a number into the `width` octets from the place `at` on, the least octet first (T2).
+#[tactic(auto, using(crate::proofs::Copying::numbering))]
 pub fn put_number(out: &mut [u8], at: usize, width: usize, n: u64)
     requires { at + width ≤ length out.old }
     ensures { out.new ≡ put_at out.old at (digits width n) }
 {
     let mut rest = n;
-    let mut k = 0;
-    while k < width {
-        out[at + k] = (rest % 256) as u8;
-        rest = rest / 256;
-        k += 1;
+    for place in &mut out[at..at + width] {
+        *place = (rest % 256) as u8;
+        rest /= 256;
     }
 }

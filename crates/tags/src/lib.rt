@@ -12,32 +12,25 @@ const START: u32 = 5381;
 fn with_octet(tag: u32, octet: u8) -> u32
     ensures { result ≡ with_octet tag octet }
 {
-    std::num::wrapping_add_u32(std::num::wrapping_add_u32(tag, tag << 5), octet as u32)
+    tag.wrapping_add(tag << 5).wrapping_add(u32::from(octet))
 }
 
 // The tag of an address.
+#[tactic(auto, using(crate::proofs::Tagging::tagging))]
 pub fn tag_of(address: &[u8]) -> u32
     ensures { result ≡ tag_of address.now }
 {
     let mut tag = START;
-    let mut k = 0;
-    while k < address.len() {
-        tag = with_octet(tag, address[k]);
-        k += 1;
+    for &octet in address {
+        tag = with_octet(tag, octet);
     }
     tag
 }
 
-// Is the tag among the first `n`? The loop looks at all of them: with no way out of it, several are compared at once.
+// Is the tag among the first `n`?
 pub fn is_among(tags: &[u32], n: usize, tag: u32) -> bool
     requires { n ≤ length tags.now }
     ensures { result ≡ in_first tag tags.now n }
 {
-    let mut among = false;
-    let mut k = 0;
-    while k < n {
-        among = among | (tags[k] == tag);
-        k += 1;
-    }
-    among
+    octets::has(&tags[..n], tag)
 }

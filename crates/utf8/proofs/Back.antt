@@ -5,7 +5,7 @@ use Prim.Native.Nat.{ℕ, suc, zero, ◌+◌, ◌-◌, ◌*◌, ◌/◌, ◌%◌
 use mathlib.Core.Path.{◌≡◌, refl, sym, ap, ◌∙◌}
 use mathlib.Core.Bool.{Bool, true, ◌&&◌, false≢true}
 use mathlib.Core.List.{List, [], ◌∷◌, ◌++◌}
-use Rattle.std.specs.Prelude.{Some, None}
+use Rattle.std.specs.Prelude.{Some, None, Option}
 use native.Mathlib.Omega.{arith}
 use borrow.Author.Tests.{ltb-true, leb-true, eqb-true, lt-ltb, le-ltb}
 use lib.Dec.{leb, eqb}
@@ -14,7 +14,6 @@ use Rattle.octets.proofs.Options.{front_some}
 use Rattle.octets.proofs.Tests.{by_test, and_left, and_right}
 use Rattle.utf8.specs.Utf8.{lead_of, tails, points, encoded_one, encoded}
 use Rattle.utf8.specs.declared.Lead.{Lead}
-use Rattle.utf8.specs.declared.Lead.TheVariants.{First, Bad}
 use Rattle.utf8.proofs.Leading.{tailing, rightly, lead_rightly}
 use Rattle.utf8.proofs.RoundTrip.{tails_none, points_lead}
 
@@ -134,10 +133,10 @@ module _ (k : ℕ) (ih : (s ps : List ℕ) → length s ≤ k → points s ≡ S
   here [] ps b e = let c : [] ≡ ps = cc in rw (← c)
   here (x ∷ s) ps b e = go (lead_of x) refl
     where
-      go : (o : Lead) → lead_of x ≡ o → encoded ps ≡ x ∷ s
-      go Bad q = none_some ps (rw (points, q) at e)
-      go (First m l h v) q =
-          read m l h v x s ps (omega arith) (lead_rightly x m l h v q) (sym (points_lead x s m l h v q) ∙ e)
+      go : (o : Option Lead) → lead_of x ≡ o → encoded ps ≡ x ∷ s
+      go None q = none_some ps (rw (points, q) at e)
+      go (Some f) q =
+          read f.following f.low f.high f.bits x s ps (omega arith) (lead_rightly x f q) (sym (points_lead x s f q) ∙ e)
 
 empty : (s ps : List ℕ) → length s ≤ 0 → points s ≡ Some ps → encoded ps ≡ s
 unfolding points encoded

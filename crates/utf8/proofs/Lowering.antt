@@ -11,7 +11,7 @@ use Prim.Native.Nat.{ℕ, zero, suc, ◌+◌, ◌-◌, ◌*◌, ◌<◌, ◌≤�
 use mathlib.Core.Path.{◌≡◌, refl, sym, ap, ◌∙◌}
 use mathlib.Core.Bool.{true, false, ◌&&◌, false≢true}
 use mathlib.Core.List.{List, [], ◌∷◌}
-use Rattle.std.specs.Prelude.{Some, None}
+use Rattle.std.specs.Prelude.{Some, None, Option}
 use mathlib.Core.Logic.{⊎_elim}
 use native.Mathlib.Omega.{arith}
 use borrow.Author.Tests.{lt-leb}
@@ -27,7 +27,6 @@ use Rattle.utf8.specs.Utf8.{lead_of, tails, points, well_formed, encoded}
 use Rattle.utf8.specs.Lowering.{lower_points, lower_text}
 use Rattle.utf8.specs.Steps.{all_ascii, octetwise}
 use Rattle.utf8.specs.declared.Lead.{Lead}
-use Rattle.utf8.specs.declared.Lead.TheVariants.{First, Bad}
 use Rattle.utf8.proofs.Leading.{lead_ascii, lead_low}
 use Rattle.utf8.proofs.RoundTrip.{tails_none, points_encoded}
 use Rattle.utf8.proofs.Scalars.{points_scalars}
@@ -105,13 +104,13 @@ formed_tails (x ∷ s) zero l h p q e = go (λ m l h p q e. formed_tails s m l h
         (λ (a : 0x80 ≤ x). rw (← lower_above x (omega arith)) (same (lead_of x) refl))
         (lt_or_le x 0x80)
       where
-        same : (o : Lead) → lead_of x ≡ o → is_some (tails (x ∷ lowered s) 0 l h q) ≡ is_some (tails (x ∷ s) 0 l h p)
-        same Bad o = rw (tails, tails, o)
-        same (First m f g r) o =
+        same : (o : Option Lead) → lead_of x ≡ o → is_some (tails (x ∷ lowered s) 0 l h q) ≡ is_some (tails (x ∷ s) 0 l h p)
+        same None o = rw (tails, tails, o)
+        same (Some f) o =
             rw (tails, tails, o)
-            (some_front q (tails (lowered s) m f g r)
-            ∙ later m f g r r (lead_low x m f g r o)
-            ∙ sym (some_front p (tails s m f g r)))
+            (some_front q (tails (lowered s) f.following f.low f.high f.bits)
+            ∙ later f.following f.low f.high f.bits f.bits (lead_low x f o)
+            ∙ sym (some_front p (tails s f.following f.low f.high f.bits)))
 
 -- a text is well formed just where there is something in front of its code points
 pub formed_front : (s : List ℕ) → is_some (tails s 0 0 0 0) ≡ well_formed s

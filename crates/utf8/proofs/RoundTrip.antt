@@ -10,7 +10,7 @@ use Prim.Native.Nat.{ℕ, suc, zero, ◌+◌, ◌-◌, ◌*◌, ◌/◌, ◌%◌
 use mathlib.Core.Path.{◌≡◌, refl, sym, ◌∙◌}
 use mathlib.Core.Bool.{true, cond, ◌&&◌}
 use mathlib.Core.List.{List, [], ◌∷◌, ◌++◌}
-use Rattle.std.specs.Prelude.{Some}
+use Rattle.std.specs.Prelude.{Some, Option, None}
 use mathlib.Core.Logic.{⊎_elim}
 use native.Mathlib.Omega.{arith}
 use borrow.Author.Tests.{ltb-true, leb-true, lt-ltb, le-ltb, le-leb, eqb-true}
@@ -20,8 +20,7 @@ use Rattle.octets.specs.Tests.{every}
 use Rattle.octets.proofs.Lists.{lt_or_le}
 use Rattle.octets.proofs.Tests.{by_test, and_left, and_right}
 use Rattle.utf8.specs.declared.Lead.{Lead}
-use Rattle.utf8.specs.declared.Lead.TheVariants.{First, Bad}
-use Rattle.utf8.specs.Utf8.{lead_of, tails, points, encoded_one, encoded, scalar, scalars}
+use Rattle.utf8.specs.Utf8.{lead_of, tails, points, encoded_one, encoded, scalar, scalars, lead}
 use Rattle.utf8.proofs.Leading.{lead_ascii, lead_two}
 
 pub tails_none : (s : List ℕ) (l h p : ℕ) → tails s 0 l h p ≡ in_front p (points s)
@@ -29,17 +28,17 @@ unfolding tails points in_front
 tails_none [] l h p = refl
 tails_none (x ∷ s) l h p = go (lead_of x) refl
   where
-    go : (o : Lead) → lead_of x ≡ o → tails (x ∷ s) 0 l h p ≡ in_front p (points (x ∷ s))
-    go Bad e = rw (tails, points, e)
-    go (First m a b q) e = rw (tails, points, e)
+    go : (o : Option Lead) → lead_of x ≡ o → tails (x ∷ s) 0 l h p ≡ in_front p (points (x ∷ s))
+    go None e = rw (tails, points, e)
+    go (Some f) e = rw (tails, points, e)
 
 pub tails_one : (x : ℕ) (s : List ℕ) (n l h p : ℕ) → l ≤ x → x ≤ h → tails (x ∷ s) (suc n) l h p ≡ tails s n 0x80 0xBF (p * 64 + (x - 0x80))
 unfolding tails
 tails_one x s n l h p a b = rw (tails, le-leb l x a, le-leb x h b)
 
-pub points_lead : (x : ℕ) (s : List ℕ) (m l h q : ℕ) → lead_of x ≡ First m l h q → points (x ∷ s) ≡ tails s m l h q
+pub points_lead : (x : ℕ) (s : List ℕ) (f : Lead) → lead_of x ≡ Some f → points (x ∷ s) ≡ tails s f.following f.low f.high f.bits
 unfolding points
-points_lead x s m l h q e = rw (points, e)
+points_lead x s f e = rw (points, e)
 
 -- a statement at each number below n
 abbrev Upto : (ℕ → Type 0) → ℕ → Type 0
@@ -67,21 +66,21 @@ low_four v = cond (eqb v 0) 0x90 0x80
 abbrev high_four : ℕ → ℕ
 high_four v = cond (eqb v 4) 0x8F 0xBF
 
-first_two : (v : ℕ) → 2 ≤ v → v < 32 → lead_of (0xC0 + v) ≡ First 1 0x80 0xBF v
+first_two : (v : ℕ) → 2 ≤ v → v < 32 → lead_of (0xC0 + v) ≡ Some (lead 1 0x80 0xBF v)
 first_two v a b =
     let e : 0xC0 + v - 0xC0 ≡ v = omega arith in
     rw e at (sym (lead_two (0xC0 + v) (omega arith) (omega arith)))
 
-first_three : (v : ℕ) → v < 16 → lead_of (0xE0 + v) ≡ First 2 (low_three v) (high_three v) v
+first_three : (v : ℕ) → v < 16 → lead_of (0xE0 + v) ≡ Some (lead 2 (low_three v) (high_three v) v)
 unfolding lead_of
 first_three =
-    up_to (λ v. lead_of (0xE0 + v) ≡ First 2 (low_three v) (high_three v) v) 16
+    up_to (λ v. lead_of (0xE0 + v) ≡ Some (lead 2 (low_three v) (high_three v) v)) 16
     (refl, (refl, (refl, (refl, (refl, (refl, (refl, (refl, (refl, (refl, (refl, (refl, (refl, (refl, (refl, (refl, tt))))))))))))))))
 
-first_four : (v : ℕ) → v < 5 → lead_of (0xF0 + v) ≡ First 3 (low_four v) (high_four v) v
+first_four : (v : ℕ) → v < 5 → lead_of (0xF0 + v) ≡ Some (lead 3 (low_four v) (high_four v) v)
 unfolding lead_of
 first_four =
-    up_to (λ v. lead_of (0xF0 + v) ≡ First 3 (low_four v) (high_four v) v) 5 (refl, (refl, (refl, (refl, (refl, tt)))))
+    up_to (λ v. lead_of (0xF0 + v) ≡ Some (lead 3 (low_four v) (high_four v) v)) 5 (refl, (refl, (refl, (refl, (refl, tt)))))
 
 four_parts : (b c a p : ℕ) → a * 64 + b % 64 ≡ b → b * 64 + c % 64 ≡ c → c * 64 + p % 64 ≡ p
     → ((a * 64 + (0x80 + b % 64 - 0x80)) * 64 + (0x80 + c % 64 - 0x80)) * 64 + (0x80 + p % 64 - 0x80) ≡ p
@@ -101,12 +100,12 @@ scalar_most p v =
 -- one code point in front of a text, by its number of octets
 module _ (p : ℕ) (s : List ℕ) where
   one : p < 0x80 → points (p ∷ s) ≡ in_front p (points s)
-  one a = points_lead p s 0 0 0 p (sym (lead_ascii p (omega arith))) ∙ tails_none s 0 0 p
+  one a = points_lead p s (lead 0 0 0 p) (sym (lead_ascii p (omega arith))) ∙ tails_none s 0 0 p
 
   two : 0x80 ≤ p → p < 0x800 → points ((0xC0 + p / 64) ∷ (0x80 + p % 64) ∷ s) ≡ in_front p (points s)
   two a b =
       let e : p / 64 * 64 + (0x80 + p % 64 - 0x80) ≡ p = omega arith in
-      points_lead (0xC0 + p / 64) _ 1 0x80 0xBF (p / 64) (first_two (p / 64) (omega arith) (omega arith))
+      points_lead (0xC0 + p / 64) _ (lead 1 0x80 0xBF (p / 64)) (first_two (p / 64) (omega arith) (omega arith))
       ∙ tails_one (0x80 + p % 64) s 0 0x80 0xBF (p / 64) (omega arith) (omega arith)
       ∙ tails_none s 0x80 0xBF _
       ∙ rw e
@@ -134,7 +133,7 @@ module _ (p : ℕ) (s : List ℕ) where
   three : 0x800 ≤ p → p < 0x10000 → scalar p ≡ true → points ((0xE0 + p / 4096) ∷ (0x80 + p / 64 % 64) ∷ (0x80 + p % 64) ∷ s) ≡ in_front p (points s)
   three a b v =
       let e : (p / 4096 * 64 + (0x80 + p / 64 % 64 - 0x80)) * 64 + (0x80 + p % 64 - 0x80) ≡ p = omega arith in
-      points_lead (0xE0 + p / 4096) _ 2 _ _ (p / 4096) (first_three (p / 4096) (omega arith))
+      points_lead (0xE0 + p / 4096) _ (lead 2 (low_three (p / 4096)) (high_three (p / 4096)) (p / 4096)) (first_three (p / 4096) (omega arith))
       ∙ tails_one (0x80 + p / 64 % 64) _ 1 _ _ (p / 4096) (second_low a) (second_high b v)
       ∙ tails_one (0x80 + p % 64) s 0 0x80 0xBF _ (omega arith) (omega arith)
       ∙ tails_none s 0x80 0xBF _
@@ -152,7 +151,7 @@ module _ (p : ℕ) (s : List ℕ) where
       → points ((0xF0 + p / 262144) ∷ (0x80 + p / 4096 % 64) ∷ (0x80 + p / 64 % 64) ∷ (0x80 + p % 64) ∷ s) ≡ in_front p (points s)
   four a b =
       let e = four_parts (p / 4096) (p / 64) (p / 262144) p (omega arith) (omega arith) (omega arith) in
-      points_lead (0xF0 + p / 262144) _ 3 _ _ (p / 262144) (first_four (p / 262144) (omega arith))
+      points_lead (0xF0 + p / 262144) _ (lead 3 (low_four (p / 262144)) (high_four (p / 262144)) (p / 262144)) (first_four (p / 262144) (omega arith))
       ∙ tails_one (0x80 + p / 4096 % 64) _ 2 _ _ (p / 262144) (next_low a) (next_high b)
       ∙ tails_one (0x80 + p / 64 % 64) _ 1 0x80 0xBF _ (omega arith) (omega arith)
       ∙ tails_one (0x80 + p % 64) s 0 0x80 0xBF _ (omega arith) (omega arith)

@@ -15,7 +15,6 @@ use Rattle.octets.specs.Tests.{every}
 use Rattle.octets.proofs.Tests.{by_test, and_left, and_right, all_below_lem}
 use Rattle.utf8.specs.Utf8.{lead_of, tails, points, scalar, scalars}
 use Rattle.utf8.specs.declared.Lead.{Lead}
-use Rattle.utf8.specs.declared.Lead.TheVariants.{First, Bad}
 use Rattle.utf8.proofs.Leading.{at_leads}
 
 -- the numbers from low to high lie below a, or from b on below c
@@ -80,9 +79,9 @@ able_step (suc (suc zero)) l h p x e i j = wider 0 14 272 l h p x e i j 864 896 
 able_step (suc (suc (suc n))) l h p x e i j = absurd (false≢true e)
 
 -- so it is behind each first octet
-led : Lead → ℕ → Bool
-led Bad x = true
-led (First m l h q) x = able m l h q
+led : Option Lead → ℕ → Bool
+led None x = true
+led (Some f) x = able f.following f.low f.high f.bits
 
 lead_able : (x : ℕ) → led (lead_of x) x ≡ true
 unfolding lead_of led able
@@ -111,20 +110,20 @@ tails_scalar (x ∷ s) (suc n) l h p e =
     (λ t. rw (tails, t))
 tails_scalar (x ∷ s) zero l h p e = go (λ m l h q e. tails_scalar s m l h q e) (lead_of x) refl (lead_able x)
   where
-    go : ((m l h q : ℕ) → able m l h q ≡ true → all_scalar (tails s m l h q) ≡ true) → (o : Lead) → lead_of x ≡ o → led (lead_of x) x ≡ true
+    go : ((m l h q : ℕ) → able m l h q ≡ true → all_scalar (tails s m l h q) ≡ true) → (o : Option Lead) → lead_of x ≡ o → led (lead_of x) x ≡ true
         → all_scalar (tails (x ∷ s) zero l h p) ≡ true
-    go later Bad q t = rw (tails, q)
-    go later (First m a b k) q t =
-        rw (tails, q) (front_scalar p (tails s m a b k) e (later m a b k (ap (λ o. led o x) (sym q) ∙ t)))
+    go later None q t = rw (tails, q)
+    go later (Some f) q t =
+        rw (tails, q) (front_scalar p (tails s f.following f.low f.high f.bits) e (later f.following f.low f.high f.bits (ap (λ o. led o x) (sym q) ∙ t)))
 
 points_scalar : (s : List ℕ) → all_scalar (points s) ≡ true
 unfolding points all_scalar scalars every led
 points_scalar [] = refl
 points_scalar (x ∷ s) = go (lead_of x) refl (lead_able x)
   where
-    go : (o : Lead) → lead_of x ≡ o → led (lead_of x) x ≡ true → all_scalar (points (x ∷ s)) ≡ true
-    go Bad q t = rw (points, q)
-    go (First m a b k) q t = rw (points, q) (tails_scalar s m a b k (ap (λ o. led o x) (sym q) ∙ t))
+    go : (o : Option Lead) → lead_of x ≡ o → led (lead_of x) x ≡ true → all_scalar (points (x ∷ s)) ≡ true
+    go None q t = rw (points, q)
+    go (Some f) q t = rw (points, q) (tails_scalar s f.following f.low f.high f.bits (ap (λ o. led o x) (sym q) ∙ t))
 
 pub points_scalars : (s ps : List ℕ) → points s ≡ Some ps → scalars ps ≡ true
 unfolding all_scalar

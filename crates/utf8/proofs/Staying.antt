@@ -4,20 +4,20 @@
 --     Steady s all a i                          what a loop knows that goes through one; steady_begin .. steady_end are its steps
 -- Assumes nothing.
 use Prim.Native.Nat.{ℕ, ◌+◌, ◌<◌, ◌≤◌}
-use mathlib.Core.Path.{◌≡◌, refl, sym, ap, ◌∙◌}
+use mathlib.Core.Path.{◌≡◌, refl, sym, ◌∙◌}
 use mathlib.Core.Bool.{Bool, true, false, not, ◌&&◌, ◌||◌, beq, and-true, and-false, and_assoc}
 use mathlib.Core.List.{List, [], ◌∷◌}
 use mathlib.Core.Logic.{⊎_elim}
 use native.Mathlib.Omega.{arith}
 use borrow.Author.Rules.{rules}
-use borrow.Author.Tests.{eqb-true, eqb-false, eq-eqb, ne_eqb, le-ltb, lt-leb}
+use borrow.Author.Tests.{eqb-true, eqb-false, eq-eqb, le-ltb, lt-leb}
 use lib.Dec.{leb, ltb, eqb}
 use lib.ListN.{length, get_or, drop}
 use Rattle.octets.specs.Octets.{lower, same_octets}
 use Rattle.octets.proofs.Lists.{lt_or_le, drop_one, drop_done}
 use Rattle.octets.proofs.Tests.{by_test, same_bool, all_below_lem}
 use Rattle.utf8.specs.Utf8.{between}
-use Rattle.utf8.specs.Steps.{second_of, first_of, lower_at, octetwise, moves, stays_behind}
+use Rattle.utf8.specs.Steps.{second_of, first_of, octetwise, moves, stays_behind}
 use Rattle.utf8.proofs.Octetwise.{at_ascii, at_second, at_first, second_other}
 
 ascii_stays : (a x : ℕ) → x < 0x80 → eqb (lower x) x ≡ not (moves a x)

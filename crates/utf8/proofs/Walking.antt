@@ -1,4 +1,5 @@
 -- What the loops know that go through a text.
+--     ascii_is                        what the library says of a text in ASCII
 --     bits_begin .. bits_end          the steps of a loop that puts octets together
 --     small_begin .. small_end        the steps of a loop that writes lower case
 --     put_text, put_broken            what is written where the text is well formed, and where not
@@ -6,7 +7,9 @@
 -- Assumes nothing.
 use Prim.Native.Nat.{ℕ, suc, zero, ◌+◌, ◌<◌, ◌≤◌}
 use mathlib.Core.Path.{◌≡◌, refl, sym, ap, ◌∙◌}
-use mathlib.Core.Bool.{Bool, true, false, ◌&&◌}
+use mathlib.Core.Bool.{Bool, true, false, ◌&&◌, and-false}
+use Rattle.std.specs.Bool.{MatchBool}
+use Rattle.std.specs.Str.{IsAscii, IsNotAscii}
 use mathlib.Core.List.{List, [], ◌∷◌}
 use native.Mathlib.Omega.{arith}
 use native.Mathlib.Numerals.{add-one}
@@ -16,6 +19,7 @@ use lib.Bits.{bit_or, or_lt, or_add_and, and_le_l, and_le_r}
 use borrow.Author.Tests.{ltb-true, ltb-false, lt-ltb, le-ltb}
 use lib.ListN.{length, get_or, set}
 use Rattle.octets.specs.Octets.{lowered}
+use Rattle.octets.specs.Tests.{every}
 use Rattle.octets.specs.Written.{put_at}
 use Rattle.octets.proofs.Every.{Passed, passed_begin, passed_next, passed_end}
 use Rattle.octets.proofs.Tests.{by_test}
@@ -47,6 +51,22 @@ pub bits_begin : (s : List ℕ) → Passed (λ x. ltb x 128) s (ltb 0 128) 0
 bits_begin s = passed_begin (λ x. ltb x 128) s
 
 pub ruleset gathering = (bits_begin, bits_next, bits_end, rules)
+
+-- by what the library says of a text in ASCII
+all_below : (s : List ℕ) → IsAscii s → all_ascii s ≡ true
+unfolding every
+all_below [] h = refl
+all_below (x ∷ s) h = rw (lt-ltb x 128 (h 0)) (all_below s (λ i. h (suc i)))
+
+one_above : (s : List ℕ) (i : ℕ) → 128 ≤ get_or s i 0 → all_ascii s ≡ false
+unfolding every
+one_above [] i h = absurd (omega arith)
+one_above (x ∷ s) zero h = rw (le-ltb x 128 h)
+one_above (x ∷ s) (suc i) h = rw (one_above s i h) (and-false (ltb x 128))
+
+pub ascii_is : (s : List ℕ) (r : Bool) → MatchBool r (IsAscii s) (IsNotAscii s) → r ≡ all_ascii s
+ascii_is s true h = sym (all_below s h)
+ascii_is s false h = sym (one_above s h.0 h.1)
 
 -- writing lower case and testing for ASCII at once
 pub ruleset making_ascii = (gathering, making_small)

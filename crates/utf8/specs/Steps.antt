@@ -8,12 +8,11 @@
 --     formed_from, formed_after   is what is left well formed?
 --     Follows                     what an octet says of what has to follow it
 use Rattle.std.specs.Prelude.{ℕ, zero, suc, ◌+◌, ◌-◌, ◌≡◌, Bool, true, false, cond, not, ◌&&◌, ◌||◌, List, [], ◌∷◌, ltb, eqb, get_or}
+use Rattle.std.specs.Prelude.{Option, Some, None}
 use Rattle.octets.specs.Octets.{lower}
 use Rattle.octets.specs.Tests.{every}
 use Rattle.utf8.specs.Utf8.{between, lead_of}
-use Rattle.utf8.specs.declared.Lead.TheVariants.{First, Bad}
 use Rattle.utf8.specs.declared.Next.{Next}
-use Rattle.utf8.specs.declared.Next.TheVariants.{Wants, Never}
 
 -- L21: a text to which the rule for ASCII is enough
 abbrev pub all_ascii : List ℕ → Bool
@@ -70,13 +69,13 @@ unfoldable pub formed_from : ℕ → ℕ → ℕ → List ℕ → Bool
 formed_from zero low high [] = true
 formed_from (suc n) low high [] = false
 formed_from (suc n) low high (x ∷ s) = between low high x && formed_from n 0x80 0xBF s
-formed_from zero low high (x ∷ s) = elim (lead_of x) [ Bad ↦ false | First m l h q ↦ formed_from m l h s ]
+formed_from zero low high (x ∷ s) = elim (lead_of x) [ None ↦ false | Some f ↦ formed_from f.following f.low f.high s ]
 
 -- L20: the same of an answer
-abbrev pub formed_after : Next → List ℕ → Bool
-formed_after (Wants n l h) s = formed_from n l h s
-formed_after Never s = false
+abbrev pub formed_after : Option Next → List ℕ → Bool
+formed_after (Some next) s = formed_from next.missing next.low next.high s
+formed_after None s = false
 
 -- L20: what the octet x comes to, whatever stands behind it
-pub record Follows (x need low high : ℕ) (r : Next) : Type 0 where
-  pub is : (rest : List ℕ) → formed_from need low high (x ∷ rest) ≡ formed_after r rest
+pub record Follows (x : ℕ) (next : Next) (r : Option Next) : Type 0 where
+  pub is : (rest : List ℕ) → formed_after (Some next) (x ∷ rest) ≡ formed_after r rest
