@@ -1,11 +1,12 @@
 -- The code points below 128, their delimiter, and the coder as a whole.
---     basic_none, basic_one, basic_full     one code point
+--     one_put, one_full                     one octet
+--     basic_none, basic_one                 one code point
 --     Basics, basics_begin .. basics_end    all of them
---     delimiter_none .. delimiter_full      the delimiter
+--     delimiter_none, delimiter_one         the delimiter
 --     encode_full .. encode_end             one part behind the other
---     the rulesets                          basic, basics, delimiting and encoding
+--     the rulesets                          one, basic, basics, delimiting and encoding
 -- Assumes nothing.
-use Prim.Native.Nat.{ℕ, suc, ◌+◌, ◌-◌, ◌<◌, ◌≤◌}
+use Prim.Native.Nat.{ℕ, suc, ◌+◌, ◌<◌, ◌≤◌}
 use mathlib.Core.Path.{◌≡◌, refl, ◌∙◌}
 use mathlib.Core.List.{List, [], ◌∷◌, ◌++◌, append_assoc}
 use mathlib.Core.Logic.{⊎_elim}
@@ -23,23 +24,27 @@ use Rattle.octets.specs.declared.Laid.TheVariants.{At, NoRoom}
 use Rattle.punycode.proofs.Below.{below_yes, below_no}
 use Rattle.octets.proofs.Puts.{wrote_none, wrote_single, wrote_before, wrote_then, wrote_long, wrote_counts, full_before, full_then}
 
+-- `put_octet`
+module _ (d : List ℕ) (at x : ℕ) where
+  pub one_put : at < length d → Written d at (set d at x) (at + 1) (x ∷ []) []
+  one_put l = wrote_single d at x [] l
+
+  pub one_full : length d ≤ at → TooLong d at d (x ∷ [])
+  one_full l = record { long = omega arith; same = refl }
+
+pub ruleset one = (one_put, one_full, rules)
+
 -- `put_basic`
 module _ (d : List ℕ) (at c : ℕ) where
-  one_basic : c ≤ 127 → below 128 (c ∷ []) ≡ c ∷ []
+  pub basic_none : at ≤ length d → 128 ≤ c → Written d at d at (below 128 (c ∷ [])) []
   unfolding below
-  one_basic l = below_yes 128 c [] (omega arith)
+  basic_none h l = rw (below_no 128 c [] l) (wrote_none d at [] h)
 
-  pub basic_none : at ≤ length d → 127 < c → Written d at d at (below 128 (c ∷ [])) []
+  pub basic_one : (e : List ℕ) (r : Laid) → Puts d e at (c ∷ []) r → c < 128 → Puts d e at (below 128 (c ∷ [])) r
   unfolding below
-  basic_none h l = rw (below_no 128 c [] (omega arith)) (wrote_none d at [] h)
+  basic_one e r k l = rw (below_yes 128 c [] l) k
 
-  pub basic_one : c ≤ 127 → at < length d → Written d at (set d at c) (at + 1) (below 128 (c ∷ [])) []
-  basic_one l k = rw (one_basic l) (wrote_single d at c [] k)
-
-  pub basic_full : c ≤ 127 → length d ≤ at → TooLong d at d (below 128 (c ∷ []))
-  basic_full l k = rw (one_basic l) (record { long = omega arith; same = refl })
-
-pub ruleset basic = (basic_none, basic_one, basic_full, rules)
+pub ruleset basic = (basic_none, basic_one, rules)
 
 -- `put_basics`
 below_front : (n c : ℕ) (s : List ℕ) → below n (c ∷ s) ≡ below n (c ∷ []) ++ below n s
@@ -93,15 +98,11 @@ module _ (d : List ℕ) (at : ℕ) (h : at ≤ length d) where
   unfolding delimiter_at
   delimiter_none e = rw (eq-eqb at 0 e) (wrote_none d at [] h)
 
-  pub delimiter_one : (at ≡ 0 → ⊥) → at < length d → Written d at (set d at 45) (at + 1) (delimiter_at at) []
+  pub delimiter_one : (e : List ℕ) (r : Laid) → Puts d e at (45 ∷ []) r → (at ≡ 0 → ⊥) → Puts d e at (delimiter_at at) r
   unfolding delimiter_at
-  delimiter_one e l = rw (ne_eqb at 0 e) (wrote_single d at 45 [] l)
+  delimiter_one e r k n = rw (ne_eqb at 0 n) k
 
-  pub delimiter_full : (at ≡ 0 → ⊥) → length d ≤ at → TooLong d at d (delimiter_at at)
-  unfolding delimiter_at
-  delimiter_full e l = rw (ne_eqb at 0 e) (record { long = omega arith; same = refl })
-
-pub ruleset delimiting = (delimiter_none, delimiter_one, delimiter_full, rules)
+pub ruleset delimiting = (delimiter_none, delimiter_one, rules)
 
 -- `encode`
 delimited_parts : (x : List ℕ) → delimited x ≡ x ++ delimiter_at (length x)

@@ -43,9 +43,6 @@ module _ (d out : List ℕ) (at bias delta q k i : ℕ) (g : Going d out at bias
   pub going_kept : length out ≡ length d
   going_kept = wrote_long d at out i _ _ g.wrote
 
-  pub going_nearer : i < length out → length d - (i + 1) < length d - i
-  going_nearer l = omega (arith, going_kept)
-
   module _ (t : ℕ) (h : Threshold k bias t) (x : ℕ) where
     pub going_last : x ≡ digit q → i < length out → q < t → Written d at (set out i x) (i + 1) (integer delta bias 36 delta) []
     going_last e l p =
@@ -60,7 +57,7 @@ module _ (d out : List ℕ) (at bias delta q k i : ℕ) (g : Going d out at bias
           bound = omega (arith, g.bound, h.low);
         }
 
-  pub going_full : length out ≤ i → TooLong d at out (integer delta bias 36 delta)
-  going_full l = full_then d at out i _ _ g.wrote out (record { long = omega (arith, integer_some q bias k q); same = refl })
+  pub going_full : length d ≤ i → TooLong d at out (integer delta bias 36 delta)
+  going_full l = full_then d at out i _ _ g.wrote out (record { long = omega (arith, going_kept, integer_some q bias k q); same = refl })
 
-pub ruleset going = (going_begin, going_digit, going_sum, going_nearer, going_kept, going_last, going_next, going_full, rules)
+pub ruleset going = (going_begin, going_digit, going_sum, going_kept, going_last, going_next, going_full, rules)

@@ -4,8 +4,9 @@
 --     Walk, walk_begin .. walk_end                    a pass, as far as it is
 --     the rulesets                                    turning for `turn`, walking for `pass`
 -- Assumes nothing.
-use Prim.Native.Nat.{ℕ, ◌+◌, ◌-◌, ◌^◌, ◌<◌, ◌≤◌}
+use Prim.Native.Nat.{ℕ, ◌+◌, ◌^◌, ◌<◌, ◌≤◌}
 use mathlib.Core.Path.{◌≡◌, refl}
+use Rattle.std.specs.Prelude.{Option, Some, None}
 use mathlib.Core.List.{List, [], ◌∷◌}
 use native.Mathlib.Omega.{arith}
 use borrow.Author.Rules.{rules}
@@ -20,8 +21,6 @@ use Rattle.coder.specs.Steps.{Turned, Ready, Turning, Stopping, Passing, Stopped
 use Rattle.coder.specs.declared.Coder.{Coder}
 use Rattle.octets.specs.declared.Laid.{Laid}
 use Rattle.octets.specs.declared.Laid.TheVariants.{At, NoRoom}
-use Rattle.coder.specs.declared.Passed.{Passed}
-use Rattle.coder.specs.declared.Passed.TheVariants.{On, Full}
 use Rattle.octets.proofs.Puts.{wrote_none, wrote_then, wrote_long, wrote_before, full_before, wrote_counts, full_then}
 use Rattle.punycode.proofs.Integers.{integer_some}
 use Rattle.punycode.proofs.Turns.{pass_below, pass_here, pass_above}
@@ -110,7 +109,7 @@ module _ (d out : List ℕ) (b n : ℕ) (ps : List ℕ) (s t : Coder) (i : ℕ) 
     here : (after : ℕ → ℕ → ℕ → List ℕ) → Written d s.at out t.at (pass after b n ps s.delta s.bias s.h) (pass after b n (x ∷ drop (i + 1) ps) t.delta t.bias t.h)
     here after = rw (drop_one ps i l, ← p) at (h.wrote after)
 
-    pub walk_next : (u : Coder) (r : Passed) → r ≡ On u → Turned out out₁ b n x t r → Walk d out₁ b n ps s u (i + 1)
+    pub walk_next : (u : Coder) (r : Option Coder) → r ≡ Some u → Turned out out₁ b n x t r → Walk d out₁ b n ps s u (i + 1)
     walk_next u r a q =
         let k : Turning out out₁ b n x t u = rw a at q in
         let w = wrote_then d s.at out t.at _ _ (here (λ _ _ _. [])) out₁ u.at _ (k.wrote (λ _ _ _. []) (drop (i + 1) ps)) in
@@ -124,7 +123,7 @@ module _ (d out : List ℕ) (b n : ℕ) (ps : List ℕ) (s t : Coder) (i : ℕ) 
           inside = w.room;
         }
 
-    pub walk_full : (r : Passed) → r ≡ Full → Turned out out₁ b n x t r → Stopped d out₁ b n ps s
+    pub walk_full : (r : Option Coder) → r ≡ None → Turned out out₁ b n x t r → Stopped d out₁ b n ps s
     walk_full r a q =
         let k : Stopping out out₁ b n x t = rw a at q in
         record { long = λ after. full_then d s.at out t.at _ _ (here after) out₁ (k.long after (drop (i + 1) ps)) }

@@ -6,7 +6,9 @@
 use Prim.Native.Nat.{ℕ, ◌+◌, ◌-◌, ◌*◌, ◌^◌, ◌<◌, ◌≤◌}
 use mathlib.Core.Path.{◌≡◌, refl, sym, ◌∙◌}
 use mathlib.Core.List.{List, []}
-use Rattle.std.specs.Prelude.{Option, Some, None}
+use Rattle.std.specs.Prelude.{Option, Some, None, min}
+use Rattle.std.specs.List.{filter, reduce}
+use lib.Dec.{leb}
 use native.Mathlib.Nat.{mul-le-mul_left, mul-le-mul_right, add-mul}
 use native.Mathlib.Omega.{arith}
 use borrow.Author.Rules.{rules}
@@ -14,14 +16,11 @@ use mir.Syntax.{w64}
 use mir.Val.{Fits}
 use lib.ListN.{length}
 use Rattle.octets.specs.Puts.{Written, TooLong}
-use Rattle.punycode.specs.Punycode.{least, pass, passes, numbers, below}
-use Rattle.coder.specs.Steps.{Ready, Passing, Stopped, Passes, Able, Rounding, Ending, Rounded, Points, Begins, found_of}
+use Rattle.punycode.specs.Punycode.{least, pass, passes, numbers}
+use Rattle.coder.specs.Steps.{Ready, Passing, Stopped, Passes, Able, Rounding, Ending, Rounded, Points, Begins}
 use Rattle.coder.specs.declared.Coder.{Coder}
-use Rattle.coder.specs.declared.Found.{Found}
-use Rattle.coder.specs.declared.Found.TheVariants.{Point, Nothing}
-use Rattle.coder.specs.declared.Passed.{Passed}
-use Rattle.coder.specs.declared.Passed.TheVariants.{On, Full}
 use Rattle.punycode.proofs.Enough.{found, passes_none, passes_next, least_most}
+use Rattle.coder.proofs.Seeking.{least_is}
 use Rattle.octets.proofs.Puts.{wrote_none, wrote_then, wrote_long, full_then}
 
 -- the coder at the next code point m, before its pass
@@ -59,8 +58,8 @@ module _ (room : ℕ) (ps : List ℕ) (n m : ℕ) (s : Coder) (h : Able room ps 
   pub round_ready : Ready room (length ps) (moved n m s)
   round_ready = record { inside = h.inside; counted = h.counted; short = h.short; few = omega (arith, sum_most, all_most, h.few) }
 
-module _ (d e : List ℕ) (b n m : ℕ) (ps : List ℕ) (s : Coder) (h : Able (length d) ps n m s) (r : Passed) where
-  pub round_on : (t : Coder) → r ≡ On t → Passes d e b m ps (moved n m s) r
+module _ (d e : List ℕ) (b n m : ℕ) (ps : List ℕ) (s : Coder) (h : Able (length d) ps n m s) (r : Option Coder) where
+  pub round_on : (t : Coder) → r ≡ Some t → Passes d e b m ps (moved n m s) r
       → Rounding d e b n m ps s (record { delta = t.delta + 1; bias = t.bias; h = t.h; at = t.at })
   round_on t a p =
       let k : Passing d e b m ps (moved n m s) t = rw a at p in
@@ -70,13 +69,13 @@ module _ (d e : List ℕ) (b n m : ℕ) (ps : List ℕ) (s : Coder) (h : Able (l
         counted = k.counted;
       }
 
-  pub round_more : (t : Coder) → r ≡ On t → Passes d e b m ps (moved n m s) r
+  pub round_more : (t : Coder) → r ≡ Some t → Passes d e b m ps (moved n m s) r
       → Fits w64 (t.delta + 1)
   round_more t a p =
       let k : Passing d e b m ps (moved n m s) t = rw a at p in
       omega (arith, k.grows, sum_most (length d) ps n m s h, all_most (length d) ps n m s h, h.few)
 
-  pub round_full : r ≡ Full → Passes d e b m ps (moved n m s) r → Ending d e b n m ps s
+  pub round_full : r ≡ None → Passes d e b m ps (moved n m s) r → Ending d e b n m ps s
   round_full a p =
       let k : Stopped d e b m ps (moved n m s) = rw a at p in
       record { long = k.long }
@@ -84,16 +83,6 @@ module _ (d e : List ℕ) (b n m : ℕ) (ps : List ℕ) (s : Coder) (h : Able (l
 pub ruleset rounding = (round_step, round_sum, round_count, round_ready, round_on, round_more, round_full, rules)
 
 -- `passes`
-found_some : (o : Option ℕ) (m : ℕ) → Point m ≡ found_of o → o ≡ Some m
-unfolding found_of
-found_some None m e = let z : ◌≡◌ {A = ℕ} 0 1 = cc in absurd (omega arith)
-found_some (Some k) m e = cc
-
-found_none : (o : Option ℕ) → Nothing ≡ found_of o → o ≡ None
-unfolding found_of
-found_none None e = refl
-found_none (Some k) e = let z : ◌≡◌ {A = ℕ} 0 1 = cc in absurd (omega arith)
-
 pub record Rounds (d out ps : List ℕ) (b at : ℕ) (s : Coder) (n : ℕ) : Type 0 where
   pub wrote : Written d at out s.at (numbers ps b) (passes (length ps) ps b n s.delta s.bias s.h)
   pub counted : s.h ≤ s.at
@@ -117,13 +106,13 @@ module _ (d out ps : List ℕ) (b at : ℕ) (s : Coder) (n : ℕ) (g : Rounds d 
   pub rounds_kept : length out ≡ length d
   rounds_kept = g.kept
 
-  module _ (f : Found) where
-    pub rounds_end : f ≡ Nothing → f ≡ found_of (least n ps) → Written d at out s.at (numbers ps b) []
-    rounds_end a e = rw (passes_none (length ps) ps b n s.delta s.bias s.h (found_none (least n ps) (sym a ∙ e))) at g.wrote
+  module _ (f : Option ℕ) where
+    pub rounds_end : f ≡ None → f ≡ reduce min (filter (λ c. leb n c) ps) → Written d at out s.at (numbers ps b) []
+    rounds_end a e = rw (passes_none (length ps) ps b n s.delta s.bias s.h (sym (least_is n ps f e) ∙ a)) at g.wrote
 
-    module _ (m : ℕ) (a : f ≡ Point m) (e : f ≡ found_of (least n ps)) where
+    module _ (m : ℕ) (a : f ≡ Some m) (e : f ≡ reduce min (filter (λ c. leb n c) ps)) where
       there : least n ps ≡ Some m
-      there = found_some (least n ps) m (sym a ∙ e)
+      there = sym (least_is n ps f e) ∙ a
 
       rounds_below : m < 0x110000
       rounds_below = least_most 0x110000 n ps g.points.below m there
@@ -152,8 +141,8 @@ module _ (d out ps : List ℕ) (b at : ℕ) (s : Coder) (n : ℕ) (g : Rounds d 
       ahead : Written d at out s.at (numbers ps b) (pass (passes (length ps) ps b (m + 1)) b m ps (s.delta + (m - n) * (s.h + 1)) s.bias s.h)
       ahead = rw (passes_next ps b n s.delta s.bias s.h m there) at g.wrote
 
-      module _ (r : Passed) (out₁ : List ℕ) where
-        pub rounds_next : (t : Coder) → r ≡ On t → Rounded out out₁ b n m ps s r → Rounds d out₁ ps b at t (m + 1)
+      module _ (r : Option Coder) (out₁ : List ℕ) where
+        pub rounds_next : (t : Coder) → r ≡ Some t → Rounded out out₁ b n m ps s r → Rounds d out₁ ps b at t (m + 1)
         rounds_next t q p =
             let k : Rounding out out₁ b n m ps s t = rw q at p in
             let w = wrote_then d at out s.at _ _ ahead out₁ t.at _ (k.wrote (passes (length ps) ps b (m + 1))) in
@@ -166,7 +155,7 @@ module _ (d out ps : List ℕ) (b at : ℕ) (s : Coder) (n : ℕ) (g : Rounds d 
               kept = wrote_long d at out₁ t.at _ _ w;
             }
 
-        pub rounds_full : r ≡ Full → Rounded out out₁ b n m ps s r → TooLong d at out₁ (numbers ps b)
+        pub rounds_full : r ≡ None → Rounded out out₁ b n m ps s r → TooLong d at out₁ (numbers ps b)
         rounds_full q p =
             let k : Ending out out₁ b n m ps s = rw q at p in
             full_then d at out s.at _ _ ahead out₁ (k.long (passes (length ps) ps b (m + 1)))

@@ -1,5 +1,4 @@
 -- L23 as the coder goes. Below, d is the lent memory as it came and e as it is left, and a coder s says how far it is.
---     found_of, lesser_of                 the smallest code point from n on, as an answer
 --     Ready                               so many turns may be asked for
 --     Turning, Stopping, Turned           what one code point comes to
 --     Passing, Stopped, Passes            what a pass comes to
@@ -7,24 +6,11 @@
 --     Points                              what a caller shows of its code points
 --     Begins                              what the passes begin with
 --     delimiter_at                        the delimiter behind so many octets
-use Rattle.std.specs.Prelude.{ℕ, ◌+◌, ◌-◌, ◌*◌, ◌^◌, ◌<◌, ◌≤◌, true, false, cond, List, [], ◌∷◌, ltb, eqb, length, get_or}
+use Rattle.std.specs.Prelude.{ℕ, ◌+◌, ◌-◌, ◌*◌, ◌^◌, ◌<◌, ◌≤◌, cond, List, [], ◌∷◌, eqb, length, get_or}
 use Rattle.std.specs.Prelude.{Option, Some, None}
 use Rattle.octets.specs.Puts.{Written, TooLong}
 use Rattle.punycode.specs.Punycode.{delimiter, pass}
-use Rattle.coder.specs.declared.Found.{Found}
-use Rattle.coder.specs.declared.Found.TheVariants.{Point, Nothing}
 use Rattle.coder.specs.declared.Coder.{Coder}
-use Rattle.coder.specs.declared.Passed.{Passed}
-use Rattle.coder.specs.declared.Passed.TheVariants.{On, Full}
-
-unfoldable pub found_of : Option ℕ → Found
-found_of None = Nothing
-found_of (Some m) = Point m
-
--- what was found behind c, and c
-unfoldable pub lesser_of : ℕ → ℕ → Found → Found
-lesser_of n c Nothing = elim (ltb c n) [ true ↦ Nothing | false ↦ Point c ]
-lesser_of n c (Point m) = elim (ltb c n) [ true ↦ Point m | false ↦ Point (cond (ltb c m) c m) ]
 
 -- each of n turns may add one to delta, and every sum fits
 pub record Ready (room n : ℕ) (s : Coder) : Type 0 where
@@ -42,9 +28,9 @@ pub record Turning (d e : List ℕ) (b n c : ℕ) (s t : Coder) : Type 0 where
 pub record Stopping (d e : List ℕ) (b n c : ℕ) (s : Coder) : Type 0 where
   pub long : (after : ℕ → ℕ → ℕ → List ℕ) (rest : List ℕ) → TooLong d s.at e (pass after b n (c ∷ rest) s.delta s.bias s.h)
 
-abbrev pub Turned : List ℕ → List ℕ → ℕ → ℕ → ℕ → Coder → Passed → Type 0
-Turned d e b n c s (On t) = Turning d e b n c s t
-Turned d e b n c s Full = Stopping d e b n c s
+abbrev pub Turned : List ℕ → List ℕ → ℕ → ℕ → ℕ → Coder → Option Coder → Type 0
+Turned d e b n c s (Some t) = Turning d e b n c s t
+Turned d e b n c s None = Stopping d e b n c s
 
 -- what a pass writes and leaves, whatever comes behind it
 pub record Passing (d e : List ℕ) (b n : ℕ) (ps : List ℕ) (s t : Coder) : Type 0 where
@@ -55,9 +41,9 @@ pub record Passing (d e : List ℕ) (b n : ℕ) (ps : List ℕ) (s t : Coder) : 
 pub record Stopped (d e : List ℕ) (b n : ℕ) (ps : List ℕ) (s : Coder) : Type 0 where
   pub long : (after : ℕ → ℕ → ℕ → List ℕ) → TooLong d s.at e (pass after b n ps s.delta s.bias s.h)
 
-abbrev pub Passes : List ℕ → List ℕ → ℕ → ℕ → List ℕ → Coder → Passed → Type 0
-Passes d e b n ps s (On t) = Passing d e b n ps s t
-Passes d e b n ps s Full = Stopped d e b n ps s
+abbrev pub Passes : List ℕ → List ℕ → ℕ → ℕ → List ℕ → Coder → Option Coder → Type 0
+Passes d e b n ps s (Some t) = Passing d e b n ps s t
+Passes d e b n ps s None = Stopped d e b n ps s
 
 -- the way from n to the next code point m; delta grows by less than `sum` says for each number up to n
 pub record Able (room : ℕ) (ps : List ℕ) (n m : ℕ) (s : Coder) : Type 0 where
@@ -77,9 +63,9 @@ pub record Rounding (d e : List ℕ) (b n m : ℕ) (ps : List ℕ) (s t : Coder)
 pub record Ending (d e : List ℕ) (b n m : ℕ) (ps : List ℕ) (s : Coder) : Type 0 where
   pub long : (after : ℕ → ℕ → ℕ → List ℕ) → TooLong d s.at e (pass after b m ps (s.delta + (m - n) * (s.h + 1)) s.bias s.h)
 
-abbrev pub Rounded : List ℕ → List ℕ → ℕ → ℕ → ℕ → List ℕ → Coder → Passed → Type 0
-Rounded d e b n m ps s (On t) = Rounding d e b n m ps s t
-Rounded d e b n m ps s Full = Ending d e b n m ps s
+abbrev pub Rounded : List ℕ → List ℕ → ℕ → ℕ → ℕ → List ℕ → Coder → Option Coder → Type 0
+Rounded d e b n m ps s (Some t) = Rounding d e b n m ps s t
+Rounded d e b n m ps s None = Ending d e b n m ps s
 
 -- L23: at most U+10FFFF, and few enough that every sum fits
 pub record Points (room : ℕ) (ps : List ℕ) : Type 0 where

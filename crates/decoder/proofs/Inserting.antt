@@ -1,77 +1,40 @@
 -- A code point that is put in between others, and which numbers are code points.
---     Moving, moving_begin .. moving_end       those behind it are moved on
---     take_inserted                            the first code points behind that
---     scalar_low .. scalar_high                the tests of `is_scalar`
---     scalar_over                              no number from 0x110000 on is one
---     the rulesets                             moving, scalaring
+--     inserting         those behind it are moved on
+--     take_inserted     the first code points behind that
+--     scalar_over       no number from 0x110000 on is one
 -- Assumes nothing.
-use Prim.Native.Nat.{ℕ, suc, ◌+◌, ◌-◌, ◌<◌, ◌≤◌}
-use mathlib.Core.Path.{◌≡◌, refl, sym, ap, ◌∙◌}
-use mathlib.Core.Bool.{true, false}
+use Prim.Native.Nat.{ℕ, ◌+◌, ◌-◌, ◌<◌, ◌≤◌}
+use mathlib.Core.Path.{◌≡◌, sym, ◌∙◌}
+use mathlib.Core.Bool.{false}
 use mathlib.Core.List.{List, ◌∷◌, ◌++◌, append_assoc}
-use native.Mathlib.Numerals.{add-one}
 use native.Mathlib.Omega.{arith}
-use borrow.Author.Rules.{rules}
-use borrow.Author.Tests.{lt-ltb, le-ltb, le-leb, lt-leb}
-use lib.Dec.{ltb}
-use lib.ListN.{length, get_or, take, drop, set, length-drop, length-append}
-use lib.Seq.{get_or-drop, get_or-take, length-take-le, take_at, take-take, get_or-set_other}
+use borrow.Author.Tests.{le-ltb, le-leb}
+use lib.ListN.{length, take, drop, set, length-drop, length-append}
+use Rattle.std.proofs.lemmas.List.{drop-take}
+use lib.Seq.{length-take-le, take_at, take-take, set-append_left, take-set-lt, drop-set-lt}
+use Rattle.std.specs.List.{copy_within}
 use Rattle.octets.specs.Written.{put_at}
-use Rattle.octets.proofs.Copying.{Copied as Copying, copy_begin, copy_next, copy_end, copy_kept}
+use Rattle.octets.proofs.Putting.{put_then}
 use Rattle.utf8.specs.Utf8.{scalar}
 use Rattle.punycode.specs.Punycode.{inserted}
 
 -- `insert`
-module _ (d : List ℕ) (len at x : ℕ) where
-  -- what is written
-  abbrev moved : List ℕ
-  moved = x ∷ drop at (take len d)
+-- the w of d from `at` to `len` come one place further on, and x before them
+shifted : (d : List ℕ) (len at x : ℕ) (w : List ℕ) → at ≤ len → len < length d → take (len - at) (drop at d) ≡ w → length w ≡ len - at
+    → set (copy_within d at len (at + 1)) at x ≡ put_at d at (x ∷ w)
+unfolding put_at
+shifted d len at x w h l t m =
+    let k : length (take (at + 1) d) ≡ at + 1 = length-take-le (at + 1) d (omega arith) in
+    let n : at + 1 + (len - at) ≡ at + 1 + length w = omega (arith, m) in
+    rw (t, n)
+    (set-append_left (take (at + 1) d ++ w) _ at x (simp length-append (omega (arith, k)))
+    ∙ rw (set-append_left (take (at + 1) d) w at x (omega (arith, k)), append_assoc, ← take-set-lt (at + 1) d at x (omega arith))
+    (rw (← drop-set-lt (at + 1 + length w) d at x (omega arith)) (put_then d at x w (omega (arith, m)))))
 
-  pub record Moving (out : List ℕ) (carry j : ℕ) : Type 0 where
-    pub copied : Copying moved d out at j
-    pub next : carry ≡ get_or moved j 0
-    pub fits : (at ≤ len) × (len < length d)
-    pub rest : (i : ℕ) → at + j ≤ i → get_or out i 0 ≡ get_or d i 0
-    pub upto : j ≤ len - at
-
-  moved_long : at ≤ len → len < length d → length moved ≡ suc (len - at)
-  moved_long h k = ap suc (length-drop at (take len d) ∙ rw (length-take-le len d (omega arith)))
-
-  pub moving_begin : (at ≤ len) × (len < length d) → Moving d x 0
-  moving_begin h =
-      record {
-        copied = copy_begin moved d at (rw (moved_long h.0 h.1) (omega (arith, h.0, h.1)));
-        next = refl;
-        fits = h;
-        rest = λ i l. refl;
-        upto = omega arith;
-      }
-
-  module _ (out : List ℕ) (carry j : ℕ) (h : Moving out carry j) where
-    pub moving_kept : length out ≡ length d
-    moving_kept = copy_kept moved d out at j h.copied
-
-    pub moving_room : at + j < length out
-    moving_room = omega (arith, moving_kept, h.fits.0, h.fits.1, h.upto)
-
-    stored : Copying moved d (set out (at + j) carry) at (j + 1)
-    stored = copy_next moved d out at j h.copied carry (rw (moved_long h.fits.0 h.fits.1) (omega (arith, h.upto))) h.next
-
-    pub moving_next : j < len - at → Moving (set out (at + j) carry) (get_or out (at + j) 0) (j + 1)
-    moving_next l =
-        let m : get_or moved (j + 1) 0 ≡ get_or d (at + j) 0 = rw (add-one, get_or-drop at (take len d) j 0, get_or-take len d (at + j) 0 (omega arith)) in
-        record {
-          copied = stored;
-          next = h.rest (at + j) (omega arith) ∙ sym m;
-          fits = h.fits;
-          rest = λ i k. get_or-set_other out (at + j) i carry 0 (λ e. omega arith) ∙ h.rest i (omega arith);
-          upto = omega arith;
-        }
-
-    pub moving_end : len - at ≤ j → set out (at + j) carry ≡ put_at d at moved
-    moving_end l = copy_end moved d (set out (at + j) carry) at (j + 1) stored (rw (moved_long h.fits.0 h.fits.1) (omega arith))
-
-pub ruleset moving = (moving_begin, moving_kept, moving_room, moving_next, moving_end, rules)
+pub inserting : (d : List ℕ) (len at x : ℕ) → at ≤ len → len < length d → set (copy_within d at len (at + 1)) at x ≡ put_at d at (x ∷ drop at (take len d))
+inserting d len at x h l =
+    let e : at + (len - at) ≡ len = omega arith in
+    shifted d len at x (drop at (take len d)) h l (sym (drop-take at (len - at) d) ∙ rw e) (length-drop at (take len d) ∙ rw (length-take-le len d (omega arith)))
 
 -- the first code points after an insertion
 pub take_inserted : (d : List ℕ) (len at x : ℕ) → at ≤ len → len < length d → take (len + 1) (put_at d at (x ∷ drop at (take len d))) ≡ inserted x at (take len d)
@@ -82,22 +45,6 @@ take_inserted d len at x h l =
     let c : length (take at d ++ (x ∷ drop at (take len d))) ≡ len + 1 = simp (length-append, length-drop) (omega (arith, a, b)) in
     rw (← append_assoc (take at d) (x ∷ drop at (take len d)) (drop (at + length (x ∷ drop at (take len d))) d), take-take at len d h)
     (take_at (take at d ++ (x ∷ drop at (take len d))) _ (len + 1) c)
-
--- `is_scalar`
-module _ (n : ℕ) where
-  pub scalar_low : n < 0xD800 → true ≡ scalar n
-  unfolding scalar
-  scalar_low l = rw (lt-ltb n 0xD800 l)
-
-  pub scalar_none : 0xD800 ≤ n → n < 0xE000 → false ≡ scalar n
-  unfolding scalar
-  scalar_none l k = rw (le-ltb n 0xD800 l, lt-leb 0xE000 n k)
-
-  pub scalar_high : 0xD800 ≤ n → 0xE000 ≤ n → ltb n 0x110000 ≡ scalar n
-  unfolding scalar
-  scalar_high l k = rw (le-ltb n 0xD800 l, le-leb 0xE000 n k)
-
-pub ruleset scalaring = (scalar_low, scalar_none, scalar_high, rules)
 
 -- and nothing beyond them is one
 pub scalar_over : (n : ℕ) → 0x110000 ≤ n → scalar n ≡ false

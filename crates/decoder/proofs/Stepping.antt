@@ -25,8 +25,6 @@ use Rattle.punycode.specs.declared.Value.TheVariants.{Digit, Other}
 use Rattle.punycode.proofs.Integers.{value_below, run_more, run_last}
 use Rattle.decoder.specs.Steps.{run_from, Steps, Lands, Landed, Going, Gone, Stepped}
 use Rattle.decoder.specs.declared.Decoder.{Decoder}
-use Rattle.decoder.specs.declared.Step.{Step}
-use Rattle.decoder.specs.declared.Step.TheVariants.{On, Never}
 use Rattle.decoder.proofs.Landing.{landed_over}
 
 run_other : (c : ℕ) (s : List ℕ) (n old bias : ℕ) (out : List ℕ) (i w k : ℕ) → value c ≡ None → run (c ∷ s) n old bias out i w k ≡ None
@@ -140,8 +138,8 @@ module _ (d : List ℕ) (c : ℕ) (s : Decoder) (h : Steps (length d) s) (r : Va
       ends : v < t → (rest : List ℕ) → run_from s d (c ∷ rest) ≡ landed (run rest) s.n s.old (take s.len d) (s.i + v * s.w)
       ends l rest = run_last c v rest s.n s.old s.bias (take s.len d) s.i s.w s.k is (rw (← q.same) l)
 
-      pub one_last : v < t → (x : Step) (f : List ℕ) → Landed d f (s.i + v * s.w) s x → Stepped d f c s x
-      one_last l (On u) f k =
+      pub one_last : v < t → (x : Option Decoder) (f : List ℕ) → Landed d f (s.i + v * s.w) s x → Stepped d f c s x
+      one_last l (Some u) f k =
           record {
             same = k.same;
             goes = λ rest. ends l rest ∙ k.goes rest;
@@ -149,7 +147,7 @@ module _ (d : List ℕ) (c : ℕ) (s : Decoder) (h : Steps (length d) s) (r : Va
             slow = k.slow;
             turns = omega (arith, k.turns);
           }
-      one_last l Never f k =
+      one_last l None f k =
           record { same = k.same; goes = λ rest. ends l rest ∙ k.goes rest }
 
 pub ruleset stepping = (one_other, one_product, one_sum, one_most, one_over, one_weight, one_turn, one_more, one_lands, one_last, rules)

@@ -1,21 +1,14 @@
 -- L23 as the decoder goes. Below, d is the lent memory as it came and e as it is left, and a decoder s says how far it is.
 --     Front, behind_of               how long the front of a text is, and where the numbers begin behind it
---     Copied, Foreign, Basics        what copying the front comes to
 --     run_from                       what the rest of a text comes to
 --     Fine, Steps, Lands             the bounds that a decoder keeps, and what may be asked for under them
 --     Landing, Lost, Landed          what a number that ends comes to
 --     Going, Gone, Stepped           what one octet comes to
---     Reads                          what the numbers begin with
 --     Shown, NoText, Decodes         what decoding answers
-use Rattle.std.specs.Prelude.{ℕ, ◌+◌, ◌*◌, ◌^◌, ◌<◌, ◌≤◌, ◌≡◌, true, false, cond, List, ◌∷◌, eqb, length, take}
+use Rattle.std.specs.Prelude.{ℕ, ◌+◌, ◌*◌, ◌^◌, ◌<◌, ◌≤◌, ◌≡◌, cond, List, ◌∷◌, eqb, length, take}
 use Rattle.std.specs.Prelude.{Option, Some, None}
-use Rattle.octets.specs.Written.{put_at}
-use Rattle.punycode.specs.Punycode.{front, all_basic, landed, run}
-use Rattle.decoder.specs.declared.Basic.{Basic}
-use Rattle.decoder.specs.declared.Basic.TheVariants.{Yes, No}
+use Rattle.punycode.specs.Punycode.{front, landed, run}
 use Rattle.decoder.specs.declared.Decoder.{Decoder}
-use Rattle.decoder.specs.declared.Step.{Step}
-use Rattle.decoder.specs.declared.Step.TheVariants.{On, Never}
 use Rattle.decoder.specs.declared.Decoded.{Decoded}
 use Rattle.decoder.specs.declared.Decoded.TheVariants.{Points, Nothing}
 
@@ -27,18 +20,6 @@ pub record Front (s : List ℕ) (r : ℕ) : Type 0 where
 -- L23: a delimiter in the first place is none
 abbrev pub behind_of : ℕ → ℕ
 behind_of b = cond (eqb b 0) 0 (b + 1)
-
-pub record Copied (d e w : List ℕ) : Type 0 where
-  pub text : e ≡ put_at d 0 w
-  pub basic : all_basic w ≡ true
-
-pub record Foreign (d e w : List ℕ) : Type 0 where
-  pub same : length e ≡ length d
-  pub basic : all_basic w ≡ false
-
-abbrev pub Basics : List ℕ → List ℕ → List ℕ → Basic → Type 0
-Basics d e w Yes = Copied d e w
-Basics d e w No = Foreign d e w
 
 -- what the rest of a text comes to, from where the decoder is
 abbrev pub run_from : Decoder → List ℕ → List ℕ → Option (List ℕ)
@@ -80,9 +61,9 @@ pub record Lost (d e : List ℕ) (sum : ℕ) (s : Decoder) : Type 0 where
   pub same : length e ≡ length d
   pub goes : (rest : List ℕ) → landed (run rest) s.n s.old (take s.len d) sum ≡ None
 
-abbrev pub Landed : List ℕ → List ℕ → ℕ → Decoder → Step → Type 0
-Landed d e sum s (On t) = Landing d e sum s t
-Landed d e sum s Never = Lost d e sum s
+abbrev pub Landed : List ℕ → List ℕ → ℕ → Decoder → Option Decoder → Type 0
+Landed d e sum s (Some t) = Landing d e sum s t
+Landed d e sum s None = Lost d e sum s
 
 -- the octet c is read, and so it goes on, whatever stands behind it
 pub record Going (d e : List ℕ) (c : ℕ) (s t : Decoder) : Type 0 where
@@ -96,16 +77,9 @@ pub record Gone (d e : List ℕ) (c : ℕ) (s : Decoder) : Type 0 where
   pub same : length e ≡ length d
   pub goes : (rest : List ℕ) → run_from s d (c ∷ rest) ≡ None
 
-abbrev pub Stepped : List ℕ → List ℕ → ℕ → Decoder → Step → Type 0
-Stepped d e c s (On t) = Going d e c s t
-Stepped d e c s Never = Gone d e c s
-
--- b code points are there, and the numbers stand from the place `from` on
-pub record Reads (room : ℕ) (text : List ℕ) (from b : ℕ) : Type 0 where
-  pub short : room < 2 ^ 32
-  pub long : length text ≤ room
-  pub upto : from ≤ length text
-  pub less : b ≤ from
+abbrev pub Stepped : List ℕ → List ℕ → ℕ → Decoder → Option Decoder → Type 0
+Stepped d e c s (Some t) = Going d e c s t
+Stepped d e c s None = Gone d e c s
 
 -- L23: the code points stand at the beginning of the memory
 pub record Shown (d e : List ℕ) (o : Option (List ℕ)) (m : ℕ) : Type 0 where

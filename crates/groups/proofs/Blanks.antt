@@ -20,7 +20,7 @@ use Rattle.runs.specs.Runs.{belongs, run, run_length}
 use Rattle.runs.specs.declared.Class.TheVariants.{Blank}
 use Rattle.runs.proofs.Running.{run_in, run_out, run_upto, run_stop, run_zero}
 use Rattle.groups.specs.Steps.{NextLetter}
-use Rattle.groups.specs.declared.Letter.TheVariants.{End, At}
+use Rattle.std.specs.Prelude.{Some, None}
 
 -- a run goes where it is of what goes
 without_run : (test : ℕ → Bool) (s : List ℕ) → without test s ≡ without test (drop (run test s) s)
@@ -54,11 +54,11 @@ module _ (s : List ℕ) (at i : ℕ) (r : i ≡ at + run_length Blank (drop at s
   h : NextPlace s at i
   h = next_place s at i r
 
-  pub stays : i < length s → NextLetter s at (At (get_or s i 0) (i + 1))
+  pub stays : i < length s → NextLetter s at (Some (get_or s i 0, i + 1))
   unfolding NextLetter
   stays l = (h.same ∙ rw (drop_one s i l) (without_other blank _ _ (h.stops l)), omega (arith, h.behind), omega arith)
 
-  pub at_end : length s ≤ i → NextLetter s at End
+  pub at_end : length s ≤ i → NextLetter s at None
   unfolding NextLetter
   at_end l = h.same ∙ rw (drop_done s i l) (without_none blank)
 

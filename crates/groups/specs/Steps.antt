@@ -3,23 +3,19 @@
 --     step_of          what a text goes on with whose next four characters are a group
 --     NextGroup        what `next_group` answers
 --     WholeGroup       what `whole_group` answers
-use Rattle.std.specs.Prelude.{ℕ, ◌+◌, ◌<◌, ◌≤◌, ◌≡◌, List, [], ◌∷◌, length, drop}
-use Rattle.std.specs.Prelude.{Some, None}
+use Rattle.std.specs.Prelude.{ℕ, ◌+◌, ◌<◌, ◌≤◌, ◌≡◌, List, [], ◌∷◌, length, get_or, drop}
+use Rattle.std.specs.Prelude.{Option, Some, None}
 use Rattle.octets.specs.Octets.{without_blanks}
 use Rattle.letters.specs.Base64.{before, decode}
 use Rattle.letters.specs.declared.Group.{Group}
 use Rattle.letters.specs.declared.Group.TheVariants.{Three as GThree, Two as GTwo, One as GOne, Broken as GBroken}
-use Rattle.groups.specs.declared.Letter.{Letter}
-use Rattle.groups.specs.declared.Letter.TheVariants.{End as Over, At}
 use Rattle.groups.specs.declared.Next.{Next}
 use Rattle.groups.specs.declared.Next.TheVariants.{Three, Two, One, End, Broken}
-use Rattle.groups.specs.declared.Whole.{Whole}
-use Rattle.groups.specs.declared.Whole.TheVariants.{Three as WThree, Other as WOther}
 
--- F9: x is the next character of s from the place `at` on that is no blank, and n the place behind it; or there are only blanks
-unfoldable pub NextLetter : List ℕ → ℕ → Letter → Type 0
-NextLetter s at Over = without_blanks (drop at s) ≡ []
-NextLetter s at (At x n) = (without_blanks (drop at s) ≡ x ∷ without_blanks (drop n s)) × (at < n) × (n ≤ length s)
+-- F9: the next character of s from the place `at` on that is no blank, and the place behind it; or there are only blanks
+unfoldable pub NextLetter : List ℕ → ℕ → Option (ℕ × ℕ) → Type 0
+NextLetter s at None = without_blanks (drop at s) ≡ []
+NextLetter s at (Some r) = (without_blanks (drop at s) ≡ r.0 ∷ without_blanks (drop r.1 s)) × (at < r.1) × (r.1 ≤ length s)
 
 -- F9: a group, the place behind it and the characters that follow: with pads it is the last
 unfoldable pub step_of : Group → ℕ → List ℕ → Next
@@ -41,6 +37,6 @@ NextGroup s at End = decode (without_blanks (drop at s)) ≡ Some []
 NextGroup s at Broken = decode (without_blanks (drop at s)) ≡ None
 
 -- the next group where it is known to be whole, four letters from the place `at` on; else nothing is said
-unfoldable pub WholeGroup : List ℕ → ℕ → Whole → Type 0
-WholeGroup s at (WThree x y z) = NextGroup s at (Three x y z (at + 4))
-WholeGroup s at WOther = Unit
+unfoldable pub WholeGroup : List ℕ → ℕ → Option (List ℕ) → Type 0
+WholeGroup s at (Some w) = NextGroup s at (Three (get_or w 0 0) (get_or w 1 0) (get_or w 2 0) (at + 4))
+WholeGroup s at None = Unit

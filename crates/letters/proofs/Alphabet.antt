@@ -4,7 +4,7 @@
 --     is_value, is_pad, is_other    a sign by its number
 --     sign_of_letter    the sign of a value's letter is the value
 --     tabled            the table once the first values are in it, with what `signs` asks
---     the rulesets      lettering for `letters`, looking for `letter_of`, tabling for `signs`, finding for `code_of` and `sign_of`
+--     the rulesets      lettering for `letters`, tabling for `signs`, finding for `sign_of`
 -- Assumes nothing.
 use Prim.Native.Nat.{ℕ, zero, suc, ◌+◌, ◌-◌, ◌<◌, ◌≤◌}
 use mathlib.Core.Path.{◌≡◌, refl, sym, ap, ◌∙◌}
@@ -110,7 +110,7 @@ table_known x h = all_below_lem (λ x. eqb (get_or (set (tabled 64) 61 64) x 0) 
 pub whole : Signs (set (tabled 64) 61 64)
 whole = record { at = λ x h. eqb-true _ _ (table_known x h) }
 
--- `letters` and `letter_of`
+-- `letters`
 abbrev alphabet : List ℕ
 alphabet = ascii "ABCDEFGHIJKLMNOPQRSTUVWXYZabcdefghijklmnopqrstuvwxyz0123456789+/"
 
@@ -123,15 +123,7 @@ all_letters = record { at = λ v h. eqb-true _ _ (alphabet_known v h) }
 
 pub ruleset lettering = (all_letters, rules)
 
-pub looked_up : (t : List ℕ) (v : ℕ) → Letters t → v < 64 → get_or t v 0 ≡ letter v
-looked_up t v h k = h.at v k
-
-pub ruleset looking = (looked_up, rules)
-
--- `code_of`, and `sign_of` by its tests
-pub code_found : (t : List ℕ) (x : ℕ) → Signs t → x < 256 → get_or t x 0 ≡ code_of (sign_of x)
-code_found t x h k = h.at x k
-
+-- `sign_of` by its tests
 module _ (x v : ℕ) (e : v ≡ code_of (sign_of x)) where
   pub found_value : v < 64 → Value v ≡ sign_of x
   found_value k = rw e (is_value (sign_of x) (below x) (omega arith))
@@ -142,7 +134,7 @@ module _ (x v : ℕ) (e : v ≡ code_of (sign_of x)) where
   pub found_other : 64 ≤ v → (v ≡ 64 → ⊥) → Other ≡ sign_of x
   found_other k l = is_other (sign_of x) (below x) (λ u. omega arith) (λ u. l (e ∙ u))
 
-pub ruleset finding = (code_found, found_value, found_pad, found_other, rules)
+pub ruleset finding = (found_value, found_pad, found_other, rules)
 
 -- `signs`
 pub tabled_none : replicate 256 65 ≡ tabled 0

@@ -1,5 +1,4 @@
 pub mod Alphabet
-pub mod Groups
 pub mod Standing
 pub mod Alphabetic
 pub mod Lengths

@@ -26,6 +26,7 @@ pub enum Group {
 
 // The letter of each value. Looking letters up, where the values are as good as random, takes about a tenth of the time of
 // choosing them by tests.
+#[tactic(auto, using(crate::proofs::Alphabet::lettering))]
 pub fn letters() -> [u8; 64]
     ensures { Letters result }
 {
@@ -37,24 +38,21 @@ pub fn letter_of(letters: &[u8; 64], value: u8) -> u8
     requires { Letters letters.now × (value < 64) }
     ensures { result ≡ letter value }
 {
-    let at = value as usize;
-    letters[at]
+    letters[usize::from(value)]
 }
 
 // For each octet what it stands for as a character: a value, 64 for the pad, 65 for nothing. It is made
 // once a text: looking characters up in it takes about a fifth of the time of comparing them.
+#[tactic(auto, using(crate::proofs::Alphabet::tabling))]
 pub fn signs() -> [u8; 256]
     ensures { Signs result }
 {
     let letters = letters();
     let mut table = [65u8; 256];
-    let mut value: u8 = 0;
-    while value < 64 {
-        let at = letter_of(&letters, value) as usize;
-        table[at] = value;
-        value += 1;
+    for value in 0..64u8 {
+        table[usize::from(letter_of(&letters, value))] = value;
     }
-    table[61] = 64;
+    table[usize::from(b'=')] = 64;
     table
 }
 
@@ -63,26 +61,25 @@ pub fn code_of(table: &[u8; 256], x: u8) -> u8
     requires { Signs table.now }
     ensures { result ≡ code_of (sign_of x) }
 {
-    let at = x as usize;
-    table[at]
+    table[usize::from(x)]
 }
 
 // What a character stands for.
+#[tactic(auto, using(crate::proofs::Alphabet::finding))]
 fn sign_of(table: &[u8; 256], x: u8) -> Sign
     requires { Signs table.now }
     ensures { (result ≡ sign_of x) × Low result }
 {
-    let value = code_of(table, x);
-    if value < 64 {
-        return Sign::Value(value);
+    let code = code_of(table, x);
+    match code {
+        0..=63 => Sign::Value(code),
+        64 => Sign::Pad,
+        _ => Sign::Other,
     }
-    if value == 64 {
-        return Sign::Pad;
-    }
-    Sign::Other
 }
 
 // The three octets of four values.
+#[tactic(auto, unfolding(crate::specs::Base64::closed))]
 fn three(p: u8, q: u8, r: u8, s: u8) -> Group
     requires { (p < 64) × (q < 64) × (r < 64) × (s < 64) }
     ensures { result ≡ closed p q (Sign.Value r) (Sign.Value s) }
@@ -91,6 +88,7 @@ fn three(p: u8, q: u8, r: u8, s: u8) -> Group
 }
 
 // The two octets of three values, where the last two bits are zero (F9).
+#[tactic(auto, unfolding(crate::specs::Base64::closed))]
 fn two(p: u8, q: u8, r: u8) -> Group
     requires { (p < 64) × (q < 64) × (r < 64) }
     ensures { result ≡ closed p q (Sign.Value r) Sign.Pad }
@@ -103,6 +101,7 @@ fn two(p: u8, q: u8, r: u8) -> Group
 }
 
 // The octet of two values, where the last four bits are zero (F9).
+#[tactic(auto, unfolding(crate::specs::Base64::closed))]
 fn one(p: u8, q: u8) -> Group
     requires { (p < 64) × (q < 64) }
     ensures { result ≡ closed p q Sign.Pad Sign.Pad }
@@ -114,38 +113,21 @@ fn one(p: u8, q: u8) -> Group
     }
 }
 
-// Two values and two characters more.
-fn closed_group(table: &[u8; 256], p: u8, q: u8, c: u8, d: u8) -> Group
-    requires { Signs table.now × (p < 64) × (q < 64) }
-    ensures { result ≡ closed p q (sign_of c) (sign_of d) }
-{
-    match sign_of(table, c) {
-        Sign::Value(r) => match sign_of(table, d) {
-            Sign::Value(s) => three(p, q, r, s),
-            Sign::Pad => two(p, q, r),
-            Sign::Other => Group::Broken,
-        },
-        Sign::Pad => match sign_of(table, d) {
-            Sign::Value(_) => Group::Broken,
-            Sign::Pad => one(p, q),
-            Sign::Other => Group::Broken,
-        },
-        Sign::Other => Group::Broken,
-    }
-}
-
 // What four characters stand for.
+#[tactic(auto, unfolding(crate::specs::Base64::closed, crate::specs::Base64::grouped))]
 pub fn group_of(table: &[u8; 256], a: u8, b: u8, c: u8, d: u8) -> Group
     requires { Signs table.now }
     ensures { result ≡ group_of a b c d }
 {
-    match sign_of(table, a) {
-        Sign::Value(p) => match sign_of(table, b) {
-            Sign::Value(q) => closed_group(table, p, q, c, d),
-            Sign::Pad => Group::Broken,
-            Sign::Other => Group::Broken,
-        },
-        Sign::Pad => Group::Broken,
-        Sign::Other => Group::Broken,
+    match (
+        sign_of(table, a),
+        sign_of(table, b),
+        sign_of(table, c),
+        sign_of(table, d),
+    ) {
+        (Sign::Value(p), Sign::Value(q), Sign::Value(r), Sign::Value(s)) => three(p, q, r, s),
+        (Sign::Value(p), Sign::Value(q), Sign::Value(r), Sign::Pad) => two(p, q, r),
+        (Sign::Value(p), Sign::Value(q), Sign::Pad, Sign::Pad) => one(p, q),
+        _ => Group::Broken,
     }
 }

@@ -1,4 +1,3 @@
-pub mod Leaves
 pub mod Scaling
 pub mod Integers
 pub mod Below

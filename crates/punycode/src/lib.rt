@@ -14,70 +14,48 @@ pub enum Value {
 }
 
 // The octet of a digit.
+#[tactic(auto, unfolding(crate::specs::Punycode::digit))]
 pub fn digit(v: u64) -> u8
     requires { v < 36 }
     ensures { result ≡ digit_of v }
 {
     if v < 26 {
-        return b'a' + v as u8;
+        b'a' + v as u8
+    } else {
+        b'0' + (v - 26) as u8
     }
-    b'0' + (v - 26) as u8
-}
-
-fn wide(x: u8) -> u64
-    ensures { (result ≡ x) × (result < 256) }
-{
-    x as u64
 }
 
 // The digit of an octet. Most are small letters, so they are asked for first.
+#[tactic(auto, unfolding(crate::specs::Punycode::value, crate::specs::Steps::value_of))]
 pub fn value_of(c: u8) -> Value
     ensures { result ≡ value_of (value_as c) }
 {
-    if b'a' <= c {
-        if c <= b'z' {
-            return Value::Digit(wide(c - b'a'));
-        }
-        return Value::Other;
+    match c {
+        b'a'..=b'z' => Value::Digit(u64::from(c - b'a')),
+        b'A'..=b'Z' => Value::Digit(u64::from(c - b'A')),
+        b'0'..=b'9' => Value::Digit(u64::from(c - b'0') + 26),
+        _ => Value::Other,
     }
-    if b'A' <= c {
-        if c <= b'Z' {
-            return Value::Digit(wide(c - b'A'));
-        }
-        return Value::Other;
-    }
-    if b'0' <= c {
-        if c <= b'9' {
-            return Value::Digit(wide(c - b'0') + 26);
-        }
-    }
-    Value::Other
 }
 
 // A digit below this ends its number.
+#[tactic(auto, unfolding(crate::specs::Punycode::threshold))]
 pub fn threshold(k: u64, bias: u64) -> u64
     ensures { Threshold k bias result }
 {
-    if k <= bias {
-        return 1;
-    }
-    if 26 <= k - bias {
-        return 26;
-    }
-    k - bias
+    k.saturating_sub(bias).clamp(1, 26)
 }
 
 // What counts of a number, for the bias behind it.
 fn halved(delta: u64, first: bool) -> u64
     ensures { Halved delta first result }
 {
-    if first {
-        return delta / 700;
-    }
-    delta / 2
+    delta / if first { 700 } else { 2 }
 }
 
 // The bias behind the number `delta`, when there are so many code points.
+#[tactic(auto, using(crate::proofs::Scaling::scaling))]
 pub fn adapt(delta: u64, points: u64, first: bool) -> u64
     requires { (delta < 2 ^ 56) × (0 < points) }
     ensures { result ≡ adapt_of delta points first }
@@ -86,7 +64,7 @@ pub fn adapt(delta: u64, points: u64, first: bool) -> u64
     let mut d = part + part / points;
     let mut k = 0;
     while 455 < d {
-        d = d / 35;
+        d /= 35;
         k += 36;
     }
     k + 36 * d / (d + 38)

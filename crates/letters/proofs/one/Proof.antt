@@ -1,7 +1,0 @@
--- `letters::one` meets its contract: the laws of `Groups` answer every need. Assumes nothing.
-use Rattle.letters.proofs.Groups.{valuing}
-use Rattle.letters.proofs.one as fn
-
-pub one_spec : {M : Type 1} → fn.Statement.statement M
-one_spec =
-    fn.Tie.close (fn.Tie.spec (λ c. search valuing) (λ c. search valuing) (λ c. search valuing) (λ c. search valuing))
