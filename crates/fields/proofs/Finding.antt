@@ -7,7 +7,7 @@ use Prim.Native.Nat.{ℕ, ◌-◌, ◌<◌, ◌≤◌}
 use mathlib.Core.Path.{◌≡◌, refl, sym, ◌∙◌}
 use mathlib.Core.Bool.{Bool, true, false}
 use mathlib.Core.List.{List, [], ◌∷◌}
-use Rattle.std.specs.Prelude.{Some}
+use Rattle.std.specs.Prelude.{Option, Some, None}
 use native.Mathlib.Omega.{arith}
 use borrow.Author.Rules.{rules}
 use lib.ListN.{length, take, drop, length-take, length-drop}
@@ -20,8 +20,7 @@ use Rattle.header.proofs.Fields.{from_over, from_field, clear_next, clear_whole}
 use Rattle.fields.specs.Fields.{is_kind, values_of}
 use Rattle.fields.specs.Answers.{value_at, values_from, NamedAt, NamedAs}
 use Rattle.fields.specs.declared.Kind.{Kind}
-use Rattle.fields.specs.declared.Named.{Named}
-use Rattle.fields.specs.declared.Named.TheVariants.{Field as FieldAt, Nothing}
+use Rattle.fields.specs.declared.Field.{Field as FieldAt}
 use Rattle.fields.proofs.Values.{values_in, values_out, values_by}
 
 pub record Seeking (kind : Kind) (s : List ℕ) (at place : ℕ) : Type 0 where
@@ -34,11 +33,11 @@ module _ (kind : Kind) (s : List ℕ) (at : ℕ) where
   seek_begin c = record { same = refl; clear = c; behind = omega arith }
 
   module _ (place : ℕ) (r : Step) (h : Seeking kind s at place) (t : r ≡ step_at s place) where
-    pub seek_over : r ≡ Over → NamedAs kind s at Nothing
+    pub seek_over : r ≡ Over → NamedAs kind s at None
     unfolding NamedAs values_of or_else
     seek_over q = h.same ∙ values_by kind s place (Some []) (from_over s place r t q)
 
-    pub seek_broken : r ≡ Broken → NamedAs kind s at Nothing
+    pub seek_broken : r ≡ Broken → NamedAs kind s at None
     seek_broken q = absurd (clear_whole s place r h.clear t q)
 
     module _ (n v e : ℕ) (q : r ≡ Field n v e) (b : Bool) (u : b ≡ is_kind kind (take (n - place) (drop place s))) where
@@ -51,7 +50,7 @@ module _ (kind : Kind) (s : List ℕ) (at : ℕ) where
       lies : Places s place n v e
       lies = field_places s place n v e r t q
 
-      pub seek_found : b ≡ true → NamedAs kind s at (FieldAt v e)
+      pub seek_found : b ≡ true → NamedAs kind s at (Some (record { value = v; end = e }))
       unfolding NamedAs values_from
       seek_found y =
           record {
@@ -71,45 +70,46 @@ module _ (kind : Kind) (s : List ℕ) (at : ℕ) where
             behind = omega (arith, h.behind, lies);
           }
 
-  pub seek_last : (place last : ℕ) → Seeking kind s at place → values_from kind s last ≡ [] → place ≡ last → NamedAs kind s at Nothing
+  pub seek_last : (place last : ℕ) → Seeking kind s at place → values_from kind s last ≡ [] → place ≡ last → NamedAs kind s at None
   unfolding NamedAs
   seek_last place last h n e = h.same ∙ rw e n
 
 pub ruleset seeking = (seek_begin, seek_last, seek_over, seek_broken, seek_found, seek_next, name_from, name_upto, field_less, rules)
 
-module _ (kind : Kind) (s : List ℕ) (at : ℕ) (k : Named) (p : NamedAs kind s at k) where
-  module _ (v e : ℕ) (q : k ≡ FieldAt v e) where
-    named : NamedAt kind s at v e
+module _ (kind : Kind) (s : List ℕ) (at : ℕ) where
+  module _ (f : FieldAt) (p : NamedAs kind s at (Some f)) where
+    named : NamedAt kind s at f
     unfolding NamedAs
-    named = rw q at p
+    named = p
 
-    pub named_first : values_from kind s at ≡ value_at s v e ∷ values_from kind s e
+    pub named_first : values_from kind s at ≡ value_at s f.value f.end ∷ values_from kind s f.end
     named_first = named.first
 
-    pub named_order : v ≤ e
+    pub named_order : f.value ≤ f.end
     named_order = named.order
 
-    pub named_later : at < e
+    pub named_later : at < f.end
     named_later = named.later
 
-    pub named_upto : e ≤ length s
+    pub named_upto : f.end ≤ length s
     named_upto = named.upto
 
-    pub named_readable : is_some (fields_from s e) ≡ true
+    pub named_readable : is_some (fields_from s f.end) ≡ true
     named_readable = named.readable
 
-    pub named_fits : (room : ℕ) → length s ≤ room → length (take (e - v) (drop v s)) ≤ room
+    pub named_fits : (room : ℕ) → length s ≤ room → length (take (f.end - f.value) (drop f.value s)) ≤ room
     named_fits room h = simp (length-take, length-drop) (omega arith)
 
     -- a text that was written to is as long as it came
-    pub named_fits_kept : (d text : List ℕ) → length s ≤ length d → length text ≡ length d → length (take (e - v) (drop v s)) ≤ length text
+    pub named_fits_kept :
+        (d text : List ℕ) → length s ≤ length d → length text ≡ length d → length (take (f.end - f.value) (drop f.value s)) ≤ length text
     named_fits_kept d text h l = named_fits (length text) (omega arith)
 
-    pub named_less : length s - e < length s - at
+    pub named_less : length s - f.end < length s - at
     named_less = omega (arith, named.later, named.upto)
 
-  pub named_none : k ≡ Nothing → values_from kind s at ≡ []
+  pub named_none : NamedAs kind s at None → values_from kind s at ≡ []
   unfolding NamedAs
-  named_none q = rw q at p
+  named_none p = p
 
 pub ruleset finding = (named_order, named_upto, named_readable, named_fits, named_fits_kept, named_less)
