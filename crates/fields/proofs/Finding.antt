@@ -40,35 +40,35 @@ module _ (kind : Kind) (s : List ℕ) (at : ℕ) where
     pub seek_broken : r ≡ Broken → NamedAs kind s at None
     seek_broken q = absurd (clear_whole s place r h.clear t q)
 
-    module _ (n v e : ℕ) (q : r ≡ Field n v e) (b : Bool) (u : b ≡ is_kind kind (take (n - place) (drop place s))) where
-      front : values_from kind s at ≡ values_of kind (or_else [] (in_front (field_at s place n v e) (fields_from s e)))
-      front = h.same ∙ values_by kind s place (in_front (field_at s place n v e) (fields_from s e)) (from_field s place r t n v e q)
+  module _ (place : ℕ) (h : Seeking kind s at place) (n v e : ℕ) (q : Field n v e ≡ step_at s place) (b : Bool) (u : b ≡ is_kind kind (take (n - place) (drop place s))) where
+    front : values_from kind s at ≡ values_of kind (or_else [] (in_front (field_at s place n v e) (fields_from s e)))
+    front = h.same ∙ values_by kind s place (in_front (field_at s place n v e) (fields_from s e)) (from_field s place (Field n v e) q n v e refl)
 
-      clear_behind : is_some (fields_from s e) ≡ true
-      clear_behind = clear_next s place r h.clear t n v e q
+    clear_behind : is_some (fields_from s e) ≡ true
+    clear_behind = clear_next s place (Field n v e) h.clear q n v e refl
 
-      lies : Places s place n v e
-      lies = field_places s place n v e r t q
+    lies : Places s place n v e
+    lies = field_places s place n v e (Field n v e) q refl
 
-      pub seek_found : b ≡ true → NamedAs kind s at (Some (record { value = v; end = e }))
-      unfolding NamedAs values_from
-      seek_found y =
-          record {
-            first = front ∙ values_in kind (field_at s place n v e) (fields_from s e) (sym u ∙ y) clear_behind;
-            order = lies.behind;
-            later = omega (arith, h.behind, lies);
-            upto = lies.upto;
-            readable = clear_behind;
-          }
+    pub seek_found : b ≡ true → NamedAs kind s at (Some (record { value = v; end = e }))
+    unfolding NamedAs values_from
+    seek_found y =
+        record {
+          first = front ∙ values_in kind (field_at s place n v e) (fields_from s e) (sym u ∙ y) clear_behind;
+          order = lies.behind;
+          later = omega (arith, h.behind, lies);
+          upto = lies.upto;
+          readable = clear_behind;
+        }
 
-      pub seek_next : b ≡ false → Seeking kind s at e
-      unfolding values_from
-      seek_next y =
-          record {
-            same = front ∙ values_out kind (field_at s place n v e) (fields_from s e) (sym u ∙ y);
-            clear = clear_behind;
-            behind = omega (arith, h.behind, lies);
-          }
+    pub seek_next : b ≡ false → Seeking kind s at e
+    unfolding values_from
+    seek_next y =
+        record {
+          same = front ∙ values_out kind (field_at s place n v e) (fields_from s e) (sym u ∙ y);
+          clear = clear_behind;
+          behind = omega (arith, h.behind, lies);
+        }
 
   pub seek_last : (place last : ℕ) → Seeking kind s at place → values_from kind s last ≡ [] → place ≡ last → NamedAs kind s at None
   unfolding NamedAs
