@@ -2,12 +2,13 @@
 // kind stand, and the search for the next one. What is right is said by specs/Fields.antt.
 #![tactic(auto)]
 
-ghost use Rattle.std.specs.Prelude.{◌≡◌, true, []};
+ghost use Rattle.std.specs.Prelude.{◌≡◌, ◌≤◌, true, [], length};
 ghost use Rattle.octets.specs.Options.{is_some, only_one};
+ghost use Rattle.octets.specs.Written.{onto};
 ghost use Rattle.header.specs.Answers.{fields_from};
 ghost use Rattle.fields.specs.Fields.{fields_in, is_kind as kind_of, values_of};
 ghost use Rattle.fields.specs.Spans.{span_past, survey_new, survey_past, SpanAs, SurveyedAs};
-ghost use Rattle.fields.specs.Answers.{values_from, NamedAs, value_in, OnlyWithin};
+ghost use Rattle.fields.specs.Answers.{Lies, value_at, values_from, NamedAs, value_in, OnlyWithin};
 
 use header::Step;
 
@@ -69,6 +70,17 @@ pub fn is_kind(name: &[u8], kind: Kind) -> bool
                 || octets::same_name(name, b"Reply-To")
         }
         Kind::AutocryptGossip => octets::same_name(name, b"Autocrypt-Gossip"),
+    }
+}
+
+impl Field {
+    // Writes the field's value, unfolded (B9), to the front of `text`, and answers how many octets that are.
+    pub fn unfold(self, block: &[u8], text: &mut [u8]) -> usize
+        requires { Lies block.now self × (length block.now ≤ length text.old) }
+        ensures value { result ≡ length (value_at block.now self) }
+        ensures text_after { text.new ≡ onto (value_at block.now self) text.old }
+    {
+        header::unfold(&block[self.value..self.end], text)
     }
 }
 
