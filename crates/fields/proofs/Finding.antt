@@ -1,16 +1,15 @@
 -- The first field of a kind from a place on.
 --     Seeking kind s at place      no such field stands from `at` up to `place`
 --     seek_begin .. seek_last      the steps of the loop that looks for the first one
---     named_first .. named_none    what a caller asks of the answer
 -- Assumes nothing.
-use Prim.Native.Nat.{ℕ, ◌-◌, ◌<◌, ◌≤◌}
+use Prim.Native.Nat.{ℕ, ◌-◌, ◌≤◌}
 use mathlib.Core.Path.{◌≡◌, refl, sym, ◌∙◌}
 use mathlib.Core.Bool.{Bool, true, false}
 use mathlib.Core.List.{List, [], ◌∷◌}
 use Rattle.std.specs.Prelude.{Some}
 use native.Mathlib.Omega.{arith}
 use borrow.Author.Rules.{rules}
-use lib.ListN.{length, take, drop, length-take, length-drop}
+use lib.ListN.{take, drop}
 use Rattle.octets.specs.Options.{in_front, is_some, or_else}
 use Rattle.header.specs.Answers.{fields_from, step_at, field_at}
 use Rattle.header.specs.declared.Step.{Step}
@@ -18,10 +17,9 @@ use Rattle.header.specs.declared.Step.TheVariants.{Over, Broken, Field}
 use Rattle.header.proofs.Stepping.{Places, field_places, name_from, name_upto, field_less}
 use Rattle.header.proofs.Fields.{from_over, from_field, clear_next, clear_whole}
 use Rattle.fields.specs.Fields.{is_kind, values_of}
-use Rattle.fields.specs.Answers.{value_at, values_from, NamedAt, NamedAs}
+use Rattle.fields.specs.Answers.{value_at, values_from, NamedAt}
 use Rattle.fields.specs.declared.Kind.{Kind}
-use Rattle.fields.specs.declared.Named.{Named}
-use Rattle.fields.specs.declared.Named.TheVariants.{Field as FieldAt, Nothing}
+use Rattle.fields.specs.declared.Field.{Field as FieldAt}
 use Rattle.fields.proofs.Values.{values_in, values_out, values_by}
 
 pub record Seeking (kind : Kind) (s : List ℕ) (at place : ℕ) : Type 0 where
@@ -34,33 +32,27 @@ module _ (kind : Kind) (s : List ℕ) (at : ℕ) where
   seek_begin c = record { same = refl; clear = c; behind = omega arith }
 
   module _ (place : ℕ) (r : Step) (h : Seeking kind s at place) (t : r ≡ step_at s place) where
-    pub seek_over : r ≡ Over → NamedAs kind s at Nothing
-    unfolding NamedAs values_of or_else
+    pub seek_over : r ≡ Over → values_from kind s at ≡ []
+    unfolding values_of or_else
     seek_over q = h.same ∙ values_by kind s place (Some []) (from_over s place r t q)
 
-    pub seek_broken : r ≡ Broken → NamedAs kind s at Nothing
+    pub seek_broken : r ≡ Broken → values_from kind s at ≡ []
     seek_broken q = absurd (clear_whole s place r h.clear t q)
 
-    module _ (n v e : ℕ) (q : r ≡ Field n v e) (b : Bool) (u : b ≡ is_kind kind (take (n - place) (drop place s))) where
+  module _ (place : ℕ) (h : Seeking kind s at place) (n v e : ℕ) (q : Field n v e ≡ step_at s place) where
+    clear_behind : is_some (fields_from s e) ≡ true
+    clear_behind = clear_next s place (Field n v e) h.clear q n v e refl
+
+    lies : Places s place n v e
+    lies = field_places s place n v e (Field n v e) q refl
+
+    module _ (b : Bool) (u : b ≡ is_kind kind (take (n - place) (drop place s))) where
       front : values_from kind s at ≡ values_of kind (or_else [] (in_front (field_at s place n v e) (fields_from s e)))
-      front = h.same ∙ values_by kind s place (in_front (field_at s place n v e) (fields_from s e)) (from_field s place r t n v e q)
+      front = h.same ∙ values_by kind s place (in_front (field_at s place n v e) (fields_from s e)) (from_field s place (Field n v e) q n v e refl)
 
-      clear_behind : is_some (fields_from s e) ≡ true
-      clear_behind = clear_next s place r h.clear t n v e q
-
-      lies : Places s place n v e
-      lies = field_places s place n v e r t q
-
-      pub seek_found : b ≡ true → NamedAs kind s at (FieldAt v e)
-      unfolding NamedAs values_from
-      seek_found y =
-          record {
-            first = front ∙ values_in kind (field_at s place n v e) (fields_from s e) (sym u ∙ y) clear_behind;
-            order = lies.behind;
-            later = omega (arith, h.behind, lies);
-            upto = lies.upto;
-            readable = clear_behind;
-          }
+      first : b ≡ true → values_from kind s at ≡ value_at s (record { value = v; end = e }) ∷ values_from kind s e
+      unfolding values_from
+      first y = front ∙ values_in kind (field_at s place n v e) (fields_from s e) (sym u ∙ y) clear_behind
 
       pub seek_next : b ≡ false → Seeking kind s at e
       unfolding values_from
@@ -71,45 +63,18 @@ module _ (kind : Kind) (s : List ℕ) (at : ℕ) where
             behind = omega (arith, h.behind, lies);
           }
 
-  pub seek_last : (place last : ℕ) → Seeking kind s at place → values_from kind s last ≡ [] → place ≡ last → NamedAs kind s at Nothing
-  unfolding NamedAs
+  pub seek_found : (place : ℕ) → Seeking kind s at place → (f : FieldAt) (n : ℕ) → Field n f.value f.end ≡ step_at s place
+      → (b : Bool) → b ≡ is_kind kind (take (n - place) (drop place s)) → b ≡ true → NamedAt kind s at f
+  seek_found place h f n q b u y =
+      let l : Places s place n f.value f.end = lies place h n f.value f.end q in
+      record {
+        first = first place h n f.value f.end q b u y;
+        lies = record { order = l.behind; upto = l.upto };
+        later = omega (arith, h.behind, l);
+        readable = clear_behind place h n f.value f.end q;
+      }
+
+  pub seek_last : (place last : ℕ) → Seeking kind s at place → values_from kind s last ≡ [] → place ≡ last → values_from kind s at ≡ []
   seek_last place last h n e = h.same ∙ rw e n
 
 pub ruleset seeking = (seek_begin, seek_last, seek_over, seek_broken, seek_found, seek_next, name_from, name_upto, field_less, rules)
-
-module _ (kind : Kind) (s : List ℕ) (at : ℕ) (k : Named) (p : NamedAs kind s at k) where
-  module _ (v e : ℕ) (q : k ≡ FieldAt v e) where
-    named : NamedAt kind s at v e
-    unfolding NamedAs
-    named = rw q at p
-
-    pub named_first : values_from kind s at ≡ value_at s v e ∷ values_from kind s e
-    named_first = named.first
-
-    pub named_order : v ≤ e
-    named_order = named.order
-
-    pub named_later : at < e
-    named_later = named.later
-
-    pub named_upto : e ≤ length s
-    named_upto = named.upto
-
-    pub named_readable : is_some (fields_from s e) ≡ true
-    named_readable = named.readable
-
-    pub named_fits : (room : ℕ) → length s ≤ room → length (take (e - v) (drop v s)) ≤ room
-    named_fits room h = simp (length-take, length-drop) (omega arith)
-
-    -- a text that was written to is as long as it came
-    pub named_fits_kept : (d text : List ℕ) → length s ≤ length d → length text ≡ length d → length (take (e - v) (drop v s)) ≤ length text
-    named_fits_kept d text h l = named_fits (length text) (omega arith)
-
-    pub named_less : length s - e < length s - at
-    named_less = omega (arith, named.later, named.upto)
-
-  pub named_none : k ≡ Nothing → values_from kind s at ≡ []
-  unfolding NamedAs
-  named_none q = rw q at p
-
-pub ruleset finding = (named_order, named_upto, named_readable, named_fits, named_fits_kept, named_less)

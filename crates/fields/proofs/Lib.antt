@@ -1,4 +1,3 @@
-pub mod Names
 pub mod Values
 pub mod Finding
 pub mod Walking

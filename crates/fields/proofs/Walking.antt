@@ -1,5 +1,4 @@
 -- The walk over a block.
---     past_other .. past_later     a span with one field more, by the tests of the code
 --     Passed kind s v at           the span v is that of the fields of a kind up to the place `at`
 --     Walked s v at                of each kind that is asked for; the block is readable if it is from `at` on
 --     walk_begin .. walk_next      the walk's steps
@@ -10,7 +9,7 @@ use mathlib.Core.Path.{◌≡◌, refl, sym, ap, ◌∙◌}
 use mathlib.Core.Bool.{Bool, true, false}
 use mathlib.Core.List.{List, []}
 use borrow.Author.Rules.{rules}
-use borrow.Author.Tests.{eq-eqb, ne_eqb, eqb-true}
+use borrow.Author.Tests.{eqb-true}
 use lib.Dec.{eqb}
 use lib.ListN.{length, take, drop}
 use Rattle.octets.specs.Options.{is_some, or_else}
@@ -30,33 +29,6 @@ use Rattle.fields.specs.declared.Survey.{Survey}
 use Rattle.fields.specs.declared.Surveyed.{Surveyed}
 use Rattle.fields.specs.declared.Surveyed.TheVariants.{Readable, Unreadable}
 use Rattle.fields.proofs.Values.{values_out, values_all}
-
--- one field more, by the tests of the code
-module _ (b : Bool) (at e : ℕ) (v : Span) where
-  pub past_other : b ≡ false → record { first = v.first; last = v.last } ≡ span_past b at e v
-  unfolding span_past
-  past_other k = rw k
-
-  pub past_first : b ≡ true → v.last ≡ 0 → record { first = at; last = e } ≡ span_past b at e v
-  unfolding span_past
-  past_first k z = rw (k, span_past, eq-eqb v.last 0 z)
-
-  pub past_later : b ≡ true → (v.last ≡ 0 → ⊥) → record { first = v.first; last = e } ≡ span_past b at e v
-  unfolding span_past
-  past_later k z = rw (k, span_past, ne_eqb v.last 0 z)
-
-pub ruleset passing = (past_other, past_first, past_later, rules)
-
--- of all kinds at once
-pub past_all : (name : List ℕ) (at e : ℕ) (v : Survey) (x y z w u : Span) (a b c d f : Bool)
-    → a ≡ is_kind From name → x ≡ span_past a at e v.from
-    → b ≡ is_kind ContentType name → y ≡ span_past b at e v.content
-    → c ≡ is_kind Date name → z ≡ span_past c at e v.date
-    → d ≡ is_kind Autocrypt name → w ≡ span_past d at e v.autocrypt
-    → f ≡ is_kind Recipients name → u ≡ span_past f at e v.recipients
-    → record { from = x; content = y; date = z; autocrypt = w; recipients = u } ≡ survey_past name at e v
-unfolding survey_past
-past_all name at e v x y z w u a b c d f k₁ p₁ k₂ p₂ k₃ p₃ k₄ p₄ k₅ p₅ = rw (p₁, p₂, p₃, p₄, p₅, k₁, k₂, k₃, k₄, k₅)
 
 pub record Passed (kind : Kind) (s : List ℕ) (v : Span) (at : ℕ) : Type 0 where
   pub all : values_from kind s v.first ≡ values_from kind s 0

@@ -2,12 +2,13 @@
 // kind stand, and the search for the next one. What is right is said by specs/Fields.antt.
 #![tactic(auto)]
 
-ghost use Rattle.std.specs.Prelude.{◌≡◌, true, []};
+ghost use Rattle.std.specs.Prelude.{◌≡◌, ◌≤◌, true, [], length};
 ghost use Rattle.octets.specs.Options.{is_some, only_one};
+ghost use Rattle.octets.specs.Written.{onto};
 ghost use Rattle.header.specs.Answers.{fields_from};
 ghost use Rattle.fields.specs.Fields.{fields_in, is_kind as kind_of, values_of};
 ghost use Rattle.fields.specs.Spans.{span_past, survey_new, survey_past, SpanAs, SurveyedAs};
-ghost use Rattle.fields.specs.Answers.{values_from, NamedAs, value_in, OnlyWithin};
+ghost use Rattle.fields.specs.Answers.{Lies, value_at, values_from, NamedAs, value_in, OnlyWithin};
 
 use header::Step;
 
@@ -24,9 +25,9 @@ pub enum Kind {
 
 // A field: where its value stands in the block, not unfolded yet; the next line begins at its end.
 #[derive(Clone, Copy)]
-pub enum Named {
-    Field { value: usize, end: usize },
-    Nothing,
+pub struct Field {
+    pub value: usize,
+    pub end: usize,
 }
 
 // Where the fields of a kind stand: none begins before the place `first`, and none from the place `last` on.
@@ -53,13 +54,6 @@ pub enum Surveyed {
     Unreadable,
 }
 
-// The one field of a kind that has no other.
-#[derive(Clone, Copy)]
-pub enum Only {
-    One { value: usize, end: usize },
-    Other,
-}
-
 // Is a field of this name asked for? Names have no case (B11).
 #[tactic(auto, unfolding(crate::specs::Fields::is_kind))]
 pub fn is_kind(name: &[u8], kind: Kind) -> bool
@@ -72,48 +66,61 @@ pub fn is_kind(name: &[u8], kind: Kind) -> bool
         Kind::Autocrypt => octets::same_name(name, b"Autocrypt"),
         Kind::Recipients => {
             octets::same_name(name, b"To")
-                | octets::same_name(name, b"Cc")
-                | octets::same_name(name, b"Reply-To")
+                || octets::same_name(name, b"Cc")
+                || octets::same_name(name, b"Reply-To")
         }
         Kind::AutocryptGossip => octets::same_name(name, b"Autocrypt-Gossip"),
     }
 }
 
+impl Field {
+    // Writes the field's value, unfolded (B9), to the front of `text`, and answers how many octets that are.
+    pub fn unfold(self, block: &[u8], text: &mut [u8]) -> usize
+        requires { Lies block.now self × (length block.now ≤ length text.old) }
+        ensures value { result ≡ length (value_at block.now self) }
+        ensures text_after { text.new ≡ onto (value_at block.now self) text.old }
+    {
+        header::unfold(&block[self.value..self.end], text)
+    }
+}
+
 impl Span {
     // With the field that begins at the place `at` and ends at the place `end`, if it is of the kind.
+    #[tactic(auto, unfolding(crate::specs::Spans::span_past))]
     fn past(self, named: bool, at: usize, end: usize) -> Self
         ensures { result ≡ span_past named at end self }
     {
-        let first = self.first;
-        let last = self.last;
-        if named {
-            if last == 0 {
-                return Self {
-                    first: at,
-                    last: end,
-                };
-            }
-            return Self { first, last: end };
+        if !named {
+            return self;
         }
-        Self { first, last }
+        if self.last == 0 {
+            return Self {
+                first: at,
+                last: end,
+            };
+        }
+        Self { last: end, ..self }
     }
 }
 
 impl Survey {
     // Of a block of which nothing was seen yet.
+    #[tactic(auto, unfolding(crate::specs::Spans::survey_new, crate::specs::Spans::unseen))]
     fn new() -> Self
         ensures { result ≡ survey_new }
     {
+        let unseen = Span { first: 0, last: 0 };
         Self {
-            from: Span { first: 0, last: 0 },
-            content: Span { first: 0, last: 0 },
-            date: Span { first: 0, last: 0 },
-            autocrypt: Span { first: 0, last: 0 },
-            recipients: Span { first: 0, last: 0 },
+            from: unseen,
+            content: unseen,
+            date: unseen,
+            autocrypt: unseen,
+            recipients: unseen,
         }
     }
 
     // With the field of this name.
+    #[tactic(auto, unfolding(crate::specs::Spans::survey_past))]
     fn past(self, name: &[u8], at: usize, end: usize) -> Self
         ensures { result ≡ survey_past name.now at end self }
     {
@@ -130,6 +137,7 @@ impl Survey {
 }
 
 // Walks over the block: is it readable, and where do the fields stand that are asked for?
+#[tactic(auto, using(crate::proofs::Walking::walking))]
 pub fn walk(block: &[u8]) -> Surveyed
     ensures { SurveyedAs block.now result }
 {
@@ -142,11 +150,7 @@ pub fn walk(block: &[u8]) -> Surveyed
         match header::field_at(block, place) {
             Step::Over => return Surveyed::Readable(seen),
             Step::Broken => return Surveyed::Unreadable,
-            Step::Field {
-                name_end,
-                value: _,
-                end,
-            } => {
+            Step::Field { name_end, end, .. } => {
                 seen = seen.past(&block[place..name_end], place, end);
                 place = end;
             }
@@ -155,44 +159,40 @@ pub fn walk(block: &[u8]) -> Surveyed
 }
 
 // The first field of the kind from the place `at` on, where a line begins; none stands from the place `last` on.
-pub fn find(block: &[u8], at: usize, last: usize, kind: Kind) -> Named
+#[tactic(auto, using(crate::proofs::Finding::seeking))]
+pub fn find(block: &[u8], at: usize, last: usize, kind: Kind) -> Option<Field>
     requires { (is_some (fields_from block.now at) ≡ true) × (values_from kind block.now last ≡ []) }
     ensures { NamedAs kind block.now at result }
 {
     let mut place = at;
-    loop {
-        if place == last {
-            return Named::Nothing;
+    while place != last {
+        let Step::Field {
+            name_end,
+            value,
+            end,
+        } = header::field_at(block, place)
+        else {
+            return None;
+        };
+        if is_kind(&block[place..name_end], kind) {
+            return Some(Field { value, end });
         }
-        match header::field_at(block, place) {
-            Step::Over => return Named::Nothing,
-            Step::Broken => return Named::Nothing,
-            Step::Field {
-                name_end,
-                value,
-                end,
-            } => {
-                if is_kind(&block[place..name_end], kind) {
-                    return Named::Field { value, end };
-                }
-                place = end;
-            }
-        }
+        place = end;
     }
+    None
 }
 
 // The one field of the kind, if there is exactly one.
-pub fn only_field(block: &[u8], span: Span, kind: Kind) -> Only
+#[tactic(auto, using(crate::proofs::Single::single))]
+pub fn only_field(block: &[u8], span: Span, kind: Kind) -> Option<Field>
     requires { SpanAs kind block.now span }
     ensures result_value { value_in block.now result ≡ only_one (values_of kind (fields_in block.now)) }
     ensures only_within { OnlyWithin block.now result }
 {
     let last = span.last;
-    match find(block, span.first, last, kind) {
-        Named::Field { value, end } => match find(block, end, last, kind) {
-            Named::Field { value: _, end: _ } => Only::Other,
-            Named::Nothing => Only::One { value, end },
-        },
-        Named::Nothing => Only::Other,
+    let field = find(block, span.first, last, kind)?;
+    match find(block, field.end, last, kind) {
+        Some(_) => None,
+        None => Some(field),
     }
 }

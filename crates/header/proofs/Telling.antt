@@ -1,29 +1,25 @@
 -- What the octets at one place are: the laws behind the functions that have no loop.
---     peek_past                   past the end stands no octet
 --     next_octet                  the octet at a place, as the definitions have it
---     ends_lf, ends_cr, ends_other    octets of a line ending
+--     ends_lf, ends_other         octets of a line ending
 --     closes_lf, closes_other     the last octet of a field
 --     over_past, over_here        the end of a block
 --     follow_past, follow_here    what may follow the name of a type
 -- Assumes nothing.
 use Prim.Native.Nat.{ℕ, ◌+◌, ◌<◌, ◌≤◌}
-use mathlib.Core.Path.{◌≡◌, sym, ap, ◌∙◌}
+use mathlib.Core.Path.{◌≡◌, ap, ◌∙◌}
 use mathlib.Core.Bool.{Bool, true, false, not, ◌||◌}
 use mathlib.Core.List.{List}
 use native.Mathlib.Nat.{add-zero}
 use borrow.Author.Rules.{rules}
 use borrow.Author.Tests.{eq-eqb, ne_eqb}
 use lib.Dec.{eqb}
-use lib.ListN.{length, get_or, drop, get_or-eq_default}
+use lib.ListN.{length, get_or, drop}
 use lib.Seq.{get_or-drop}
 use Rattle.octets.specs.Octets.{octet, cr, lf}
 use Rattle.octets.proofs.Lists.{drop_one, drop_done}
 use Rattle.runs.specs.Runs.{belongs}
 use Rattle.runs.specs.declared.Class.TheVariants.{Blank}
 use Rattle.header.specs.Header.{of_ending, over, closes, may_follow}
-
-pub peek_past : (s : List ℕ) (at : ℕ) → length s ≤ at → 0 ≡ get_or s at 0
-peek_past s at h = sym (get_or-eq_default s 0 {n = at} h)
 
 pub next_octet : (s : List ℕ) (at : ℕ) → get_or (drop at s) 0 0 ≡ get_or s at 0
 next_octet s at = get_or-drop at s 0 0 ∙ ap (λ (i : ℕ). get_or s i 0) (add-zero at)
@@ -36,10 +32,6 @@ module _ (x y : ℕ) where
   pub ends_other : (x ≡ lf → ⊥) → (x ≡ cr → ⊥) → false ≡ of_ending x y
   unfolding of_ending
   ends_other n m = rw (ne_eqb x lf n, ne_eqb x cr m)
-
-  pub ends_cr : (p : ℕ) → (x ≡ lf → ⊥) → x ≡ cr → p ≡ y → eqb p lf ≡ of_ending x y
-  unfolding of_ending
-  ends_cr p n e q = rw (ne_eqb x lf n, eq-eqb x cr e, q)
 
   pub closes_other : (x ≡ lf → ⊥) → false ≡ closes x y
   unfolding closes
@@ -66,4 +58,4 @@ module _ (s : List ℕ) (at : ℕ) where
   unfolding may_follow
   follow_here b h e = rw (drop_one s at h, e)
 
-pub ruleset telling = (peek_past, ends_lf, ends_cr, ends_other, closes_lf, closes_other, over_past, over_here, follow_past, follow_here, rules)
+pub ruleset telling = (over_past, over_here, follow_past, follow_here, rules)

@@ -32,35 +32,33 @@ pub enum Step {
 fn peek(s: &[u8], at: usize) -> u8
     ensures { result ≡ get_or s.now at 0 }
 {
-    if at < s.len() { s[at] } else { 0 }
+    s.get(at).copied().unwrap_or(0)
 }
 
 // Is the octet at the place `at` one of a line ending: an LF, or a CR directly before one (B2, B3)?
+#[tactic(auto, unfolding(crate::specs::Header::of_ending))]
 fn ends_at(s: &[u8], at: usize) -> bool
     requires { at < length s.now }
     ensures { result ≡ of_ending (get_or s.now at 0) (get_or s.now (at + 1) 0) }
 {
-    if s[at] == b'\n' {
-        return true;
+    match s[at] {
+        b'\n' => true,
+        b'\r' => peek(s, at + 1) == b'\n',
+        _ => false,
     }
-    if s[at] != b'\r' {
-        return false;
-    }
-    peek(s, at + 1) == b'\n'
 }
 
 // Is the octet at the place `at` the last of a field: an LF that neither space nor tab follows (B6)?
+#[tactic(auto, unfolding(crate::specs::Header::closes))]
 fn closes_at(s: &[u8], at: usize) -> bool
     requires { at < length s.now }
     ensures { result ≡ closes (get_or s.now at 0) (get_or s.now (at + 1) 0) }
 {
-    if s[at] != b'\n' {
-        return false;
-    }
-    !runs::within(Class::Blank, peek(s, at + 1))
+    s[at] == b'\n' && !runs::within(Class::Blank, peek(s, at + 1))
 }
 
 // The end of the field whose value begins at the place `at`.
+#[tactic(auto, using(crate::proofs::Counting::closing))]
 fn raw_end(s: &[u8], at: usize) -> usize
     ensures { result ≡ at + raw_length (drop at s.now) }
 {
@@ -75,13 +73,11 @@ fn raw_end(s: &[u8], at: usize) -> usize
 }
 
 // Is the block over at the place `at`, where a line begins (B5)?
+#[tactic(auto, using(crate::proofs::Telling::telling))]
 fn over_at(block: &[u8], at: usize) -> bool
     ensures { result ≡ over (drop at block.now) }
 {
-    if block.len() <= at {
-        return true;
-    }
-    ends_at(block, at)
+    block.len() <= at || ends_at(block, at)
 }
 
 // The end of the name that begins at the place `at`. It is a function of its own so that, compiled into the next one, its loop
@@ -94,6 +90,7 @@ fn name_end(s: &[u8], at: usize) -> usize
 
 // What stands at the place `at`, where a line begins. A continuation with no field above has no name, since neither space
 // nor tab is of one; so it is no field (B6).
+#[tactic(auto, using(crate::proofs::Stepping::stepping))]
 pub fn field_at(block: &[u8], at: usize) -> Step
     ensures { result ≡ step_at block.now at }
 {
@@ -101,10 +98,7 @@ pub fn field_at(block: &[u8], at: usize) -> Step
         return Step::Over;
     }
     let name_end = name_end(block, at);
-    if name_end == at {
-        return Step::Broken;
-    }
-    if peek(block, name_end) != b':' {
+    if name_end == at || peek(block, name_end) != b':' {
         return Step::Broken;
     }
     let value = name_end + 1;
@@ -133,6 +127,7 @@ impl Cursor {
 }
 
 // Is the block one of fields alone, up to its end, and no longer than a block may be (B1, B8)?
+#[tactic(auto, using(crate::proofs::Fields::reading))]
 pub fn readable(block: &[u8]) -> bool
     ensures { result ≡ readable_of block.now }
 {
@@ -144,28 +139,27 @@ pub fn readable(block: &[u8]) -> bool
         match here.step(block) {
             Step::Over => return true,
             Step::Broken => return false,
-            Step::Field {
-                name_end: _,
-                value: _,
-                end,
-            } => here = Cursor { at: end },
+            Step::Field { end, .. } => here = Cursor { at: end },
         }
     }
 }
 
 // The end of the text of the line from the place `at` on, whose LF, or the end, is at the place `lf`.
+#[tactic(auto, using(crate::proofs::LineByLine::texts))]
 fn text_end(s: &[u8], at: usize, lf: usize) -> usize
     requires { lf ≡ at + line_length (drop at s.now) }
     ensures { result ≡ at + text_length (drop at s.now) }
 {
-    if lf <= at {
-        return lf;
+    if at < lf && ends_at(s, lf - 1) {
+        lf - 1
+    } else {
+        lf
     }
-    if ends_at(s, lf - 1) { lf - 1 } else { lf }
 }
 
 // Writes the value `raw` without its line endings (B9) over the beginning of `out`, and answers how many octets that are.
 // The text of each line is copied whole.
+#[tactic(auto, using(crate::proofs::LineByLine::unfolds))]
 pub fn unfold(raw: &[u8], out: &mut [u8]) -> usize
     requires { length raw.now ≤ length out.old }
     ensures value { result ≡ length (unfolded raw.now) }
@@ -184,14 +178,14 @@ pub fn unfold(raw: &[u8], out: &mut [u8]) -> usize
 }
 
 // May what stands at the place `at` follow the name of a type (B13)?
+#[tactic(auto, using(crate::proofs::Telling::telling))]
 fn may_follow(s: &[u8], at: usize) -> bool
     ensures { result ≡ may_follow (drop at s.now) }
 {
-    if s.len() <= at {
-        return true;
+    match s.get(at) {
+        None => true,
+        Some(&x) => runs::within(Class::Blank, x) | (x == b';') | (x == b'('),
     }
-    let x = s[at];
-    runs::within(Class::Blank, x) | (x == b';') | (x == b'(')
 }
 
 // Is the value of a Content-Type multipart/report, which has 16 octets (B13)?
@@ -204,9 +198,5 @@ pub fn is_report(value: &[u8]) -> bool
         return false;
     }
     let end = at + 16;
-    if octets::same_name(&value[at..end], b"multipart/report") {
-        may_follow(value, end)
-    } else {
-        false
-    }
+    octets::same_name(&value[at..end], b"multipart/report") && may_follow(value, end)
 }

@@ -1,14 +1,14 @@
 -- What a reader hands out.
 --     out_over .. out_field          what is handed out at a place, by what stands there
 --     behind_over .. behind_field    where the reader goes on
---     Ahead s at k i l               what comes after k others from the place `at` on comes after l others from i on
---     ahead_begin .. ahead_next      the steps of a loop over the fields
+--     Ahead s at k i n               what comes after k others from the place `at` on comes from i on after n others fewer
+--     ahead_begin .. ahead_end       the steps of a loop over the fields
 -- Assumes nothing.
-use Prim.Native.Nat.{ℕ, zero, suc, ◌+◌, ◌-◌}
-use mathlib.Core.Path.{◌≡◌, refl, sym, ap, ◌∙◌}
+use Prim.Native.Nat.{ℕ, zero, suc, ◌+◌, ◌-◌, ◌<◌, ◌≤◌}
+use mathlib.Core.Path.{◌≡◌, sym, ap, ◌∙◌}
 use mathlib.Core.List.{List}
 use native.Mathlib.Omega.{arith}
-use native.Mathlib.Numerals.{add-one}
+use native.Mathlib.Nat.{sub-zero}
 use borrow.Author.Rules.{rules}
 use Rattle.header.specs.Answers.{step_at}
 use Rattle.header.specs.declared.Step.{Step}
@@ -50,38 +50,37 @@ module _ (h : Handed) (at : ℕ) where
   unfolding place_behind
   behind_field m n v e q = rw q
 
-pub ruleset GoingOn = (behind_over, behind_broken, behind_field, rules)
-
 -- where the reader stays, all that comes after is the same
 pub stays : (k : ℕ) (s : List ℕ) (at : ℕ) (h : Handed) → h ≡ handed_at s at → at ≡ place_behind h at → h ≡ handed_after k s at
 unfolding handed_after
 stays zero s at h t p = t
 stays (suc k) s at h t p = rw (handed_after, ← t, ← p) (stays k s at h t p)
 
-pub record Ahead (s : List ℕ) (at k i l : ℕ) : Type 0 where
-  pub same : handed_after k s at ≡ handed_after l s i
+pub record Ahead (s : List ℕ) (at k i n : ℕ) : Type 0 where
+  pub same : handed_after k s at ≡ handed_after (k - n) s i
 
-pub ahead_begin : (s : List ℕ) (at k : ℕ) → Ahead s at k at k
-ahead_begin s at k = record { same = refl }
+pub ahead_begin : (s : List ℕ) (at k : ℕ) → Ahead s at k at 0
+ahead_begin s at k = record { same = rw sub-zero }
 
-module _ (s : List ℕ) (at k i l : ℕ) (a : Ahead s at k i l) (r : Taken) (t : r ≡ taken_at s i) where
+module _ (s : List ℕ) (at k i n : ℕ) (a : Ahead s at k i n) (r : Taken) (t : r ≡ taken_at s i) where
   handed_is : r.handed ≡ handed_at s i
   handed_is = ap (λ (x : Taken). x.handed) t
 
-  pub ahead_over : r.handed ≡ Over → Over ≡ handed_after k s at
-  ahead_over e = sym e ∙ stays l s i r.handed handed_is (behind_over r.handed i e) ∙ sym a.same
+  pub ahead_stays : r.at ≡ i → r.handed ≡ handed_after k s at
+  ahead_stays e =
+      let p : i ≡ place_behind r.handed i = rw handed_is (sym e ∙ ap (λ (x : Taken). x.at) t) in
+      stays (k - n) s i r.handed handed_is p ∙ sym a.same
 
-  pub ahead_broken : r.handed ≡ Broken → Broken ≡ handed_after k s at
-  ahead_broken e = sym e ∙ stays l s i r.handed handed_is (behind_broken r.handed i e) ∙ sym a.same
-
-  pub ahead_here : (m n v e : ℕ) → r.handed ≡ Field m n v e → l ≡ 0 → Field m n v e ≡ handed_after k s at
+  pub ahead_next : n < k → Ahead s at k r.at (n + 1)
   unfolding handed_after
-  ahead_here m n v e q z = sym q ∙ handed_is ∙ sym (a.same ∙ ap (λ (x : ℕ). handed_after x s i) z)
+  ahead_next l =
+      let p : k - n ≡ suc (k - (n + 1)) = omega arith in
+      record { same = a.same ∙ ap (λ (x : ℕ). handed_after x s i) p ∙ ap (λ (x : Taken). handed_after (k - (n + 1)) s x.at) (sym t) }
 
-  pub ahead_next : (l ≡ 0 → ⊥) → Ahead s at k r.at (l - 1)
+  pub ahead_end : k ≤ n → r.handed ≡ handed_after k s at
   unfolding handed_after
-  ahead_next z =
-      let p : l ≡ (l - 1) + 1 = omega arith in
-      record { same = a.same ∙ ap (λ (x : ℕ). handed_after x s i) (p ∙ add-one (l - 1)) ∙ ap (λ (x : Taken). handed_after (l - 1) s x.at) (sym t) }
+  ahead_end l =
+      let p : k - n ≡ 0 = omega arith in
+      handed_is ∙ sym (a.same ∙ ap (λ (x : ℕ). handed_after x s i) p)
 
-pub ruleset reading_on = (ahead_begin, ahead_over, ahead_broken, ahead_here, ahead_next, rules)
+pub ruleset reading_on = (ahead_begin, ahead_stays, ahead_next, ahead_end, rules)

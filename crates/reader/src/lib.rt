@@ -6,6 +6,8 @@
 ghost use Rattle.std.specs.Prelude.{◌≡◌};
 ghost use Rattle.reader.specs.Reading.{handed_at, place_behind, handed_after, opened, moved_on, taken_at};
 
+use header::Step;
+
 // What a reader hands out: a field, whose name lies from `name` to `name_end` and its value, not unfolded yet, from `value`
 // to `end`, where the next line begins; or word that the block is over, or unreadable at the reader's place.
 #[derive(Clone, Copy)]
@@ -21,13 +23,14 @@ pub enum Handed {
 }
 
 // What stands at the place `at`, where a line begins.
+#[tactic(auto, using(crate::proofs::Handing::handing))]
 fn hand_out(block: &[u8], at: usize) -> Handed
     ensures { result ≡ handed_at block.now at }
 {
     match header::field_at(block, at) {
-        header::Step::Over => Handed::Over,
-        header::Step::Broken => Handed::Broken,
-        header::Step::Field {
+        Step::Over => Handed::Over,
+        Step::Broken => Handed::Broken,
+        Step::Field {
             name_end,
             value,
             end,
@@ -41,18 +44,13 @@ fn hand_out(block: &[u8], at: usize) -> Handed
 }
 
 // Where a reader goes on that was at the place `at`: behind the field that it handed out; else it stays (B14).
+#[tactic(auto, unfolding(crate::specs::Reading::place_behind))]
 fn place_behind(handed: Handed, at: usize) -> usize
     ensures { result ≡ place_behind handed at }
 {
     match handed {
-        Handed::Over => at,
-        Handed::Broken => at,
-        Handed::Field {
-            name: _,
-            name_end: _,
-            value: _,
-            end,
-        } => end,
+        Handed::Over | Handed::Broken => at,
+        Handed::Field { end, .. } => end,
     }
 }
 
@@ -102,36 +100,19 @@ pub fn take(block: &[u8], at: usize) -> Taken
     }
 }
 
-// The field of the number `k`, from 0, of a block: what a reader at its beginning hands out after `k` others (B14).
+// The field of the number `k`, from 0, of a block: what a reader at its beginning hands out after `k` others (B14). A reader
+// that stays at its place hands out the same however often it is asked.
 #[tactic(auto, using(crate::proofs::Handing::reading_on))]
 pub fn field_number(block: &[u8], k: usize) -> Handed
     ensures { result ≡ handed_after k block.now 0 }
 {
     let mut at = 0;
-    let mut left = k;
-    loop {
+    for _ in 0..k {
         let taken = take(block, at);
-        let handed = taken.handed;
-        match handed {
-            Handed::Over => return Handed::Over,
-            Handed::Broken => return Handed::Broken,
-            Handed::Field {
-                name,
-                name_end,
-                value,
-                end,
-            } => {
-                if left == 0 {
-                    return Handed::Field {
-                        name,
-                        name_end,
-                        value,
-                        end,
-                    };
-                }
-                left -= 1;
-                at = taken.at;
-            }
+        if taken.at == at {
+            return taken.handed;
         }
+        at = taken.at;
     }
+    take(block, at).handed
 }

@@ -35,39 +35,39 @@ pub enum Reached {
 }
 
 // Is it an octet below 32, or 127, the tab excepted (L1)?
+#[tactic(auto, unfolding(crate::specs::Tokens::control))]
 pub fn is_control(x: u8) -> bool
     ensures { result ≡ control x }
 {
-    ((x < 32) | (x == 127)) & (x != b'\t')
+    x != b'\t' && x.is_ascii_control()
 }
 
 // What `x` is inside a comment or a quoted string that `closing` closes.
+#[tactic(auto, unfolding(crate::specs::Tokens::kind_of))]
 fn kind_of(closing: u8, x: u8) -> OctetKind
     ensures { result ≡ kind_of closing x }
 {
     if x == closing {
-        return OctetKind::Closes;
+        OctetKind::Closes
+    } else if x == b'\\' {
+        OctetKind::Escapes
+    } else if is_control(x) {
+        OctetKind::Control
+    } else {
+        OctetKind::Plain
     }
-    if x == b'\\' {
-        return OctetKind::Escapes;
-    }
-    if is_control(x) {
-        return OctetKind::Control;
-    }
-    OctetKind::Plain
 }
 
 // Does an octet stand at the place `at` that a backslash before it may take? A control octet is none (L5).
+#[tactic(auto, using(crate::proofs::Telling::telling))]
 fn takes(s: &[u8], at: usize) -> bool
     ensures { result ≡ takes_of (drop at s.now) }
 {
-    if s.len() <= at {
-        return false;
-    }
-    !is_control(s[at])
+    at < s.len() && !is_control(s[at])
 }
 
 // What stands at the place `at` inside a comment or a quoted string that `closing` closes.
+#[tactic(auto, using(crate::proofs::Stepping::stepping))]
 fn step_in(closing: u8, s: &[u8], at: usize) -> StepIn
     ensures { result ≡ step_in closing at (drop at s.now) }
 {
@@ -76,14 +76,8 @@ fn step_in(closing: u8, s: &[u8], at: usize) -> StepIn
     }
     match kind_of(closing, s[at]) {
         OctetKind::Closes => StepIn::Ends(at + 1),
-        OctetKind::Escapes => {
-            if takes(s, at + 1) {
-                StepIn::On(at + 2)
-            } else {
-                StepIn::Stops
-            }
-        }
-        OctetKind::Control => StepIn::Stops,
+        OctetKind::Escapes if takes(s, at + 1) => StepIn::On(at + 2),
+        OctetKind::Escapes | OctetKind::Control => StepIn::Stops,
         OctetKind::Plain => StepIn::On(at + 1),
     }
 }

@@ -1,9 +1,5 @@
 use Rattle.tokens.proofs.Commenting.{commenting, inside_on, inside_ends}
-use Rattle.std.proofs.Common.{rules, suc, ◌+◌, ◌<◌, ◌≡◌, false, drop, ℕ, ◌-◌, ◌*◌, ◌≤◌, length, ◌/◌, ◌%◌, Bool, true, nat_eq, nat_lt, List, [], ◌∷◌, ◌++◌, slice_index_or, slice_set, bit_and, bit_or, Fits, w8, w32, w64, Bor, MutBor}
-use Rattle.tokens.specs.Tokens.{control, kind_of, depth, skipped, after_quote}
-use Rattle.tokens.specs.Answers.{reached}
-use Rattle.tokens.specs.Answers.{takes as takes_of}
-use Rattle.tokens.specs.Answers.{step_in, opened, Opening, Passed}
+use Rattle.std.proofs.Common.{rules}
 use Rattle.tokens.proofs.+comment_content.Goals as goal
 
 pub comment-returns-then-room-eq0 : goal.comment-returns-then-room-eq0

@@ -1,6 +1,0 @@
--- `header::over_at` meets its contract: the laws of `Telling` answer every need. Assumes nothing.
-use Rattle.header.proofs.Telling.{telling}
-use Rattle.header.proofs.over_at as fn
-
-pub over_at_spec : {M : Type 1} → fn.Statement.statement M
-over_at_spec = fn.Tie.close (fn.Tie.spec (λ c. search telling) (λ c. search telling) (λ c. search telling))
