@@ -1,8 +1,6 @@
 // The tokens of a list: the signs `,` `<` `>` `:` `;`, words and addresses (SCOPE, L9, L10, L12), with blanks and comments
 // between them (L11). A long run costs its length.
 ghost use Rattle.std.specs.Prelude.{◌<◌, ◌≡◌, true, length, get_or, drop};
-ghost use Rattle.octets.specs.Octets.{octet};
-ghost use Rattle.octets.specs.Finding.{holds};
 ghost use Rattle.address.specs.Address.{address_octet};
 ghost use Rattle.addresslist.specs.List.{opening_of, run_token, quoted_token, token_at, first_token};
 ghost use Rattle.addresslist.specs.Answers.{found_in, Inside};
@@ -29,19 +27,6 @@ pub enum TokenAt {
     Unreadable,
 }
 
-fn holds_at(text: &[u8]) -> bool
-    ensures { result ≡ holds (octet "@") text.now }
-{
-    let mut i = 0;
-    while i < text.len() {
-        if text[i] == b'@' {
-            return true;
-        }
-        i += 1;
-    }
-    false
-}
-
 // What the octet opens; a control octet, a bracket or a backslash opens nothing (L5, L15).
 pub fn opened_by(x: u8) -> Start
     ensures { result ≡ opening_of x }
@@ -62,6 +47,7 @@ pub fn opened_by(x: u8) -> Start
 
 // The run that begins at the place `from`: an address as a whole, or words; with an `@` in it and no address it is
 // unreadable (L12).
+#[tactic(auto, using(crate::proofs::Finding::finding_run))]
 fn run(list: &[u8], from: usize) -> TokenAt
     requires { (from < length list.now) × (address_octet (get_or list.now from 0) ≡ true) }
     ensures result_value { found_in list.now result ≡ run_token (drop from list.now) }
@@ -72,7 +58,7 @@ fn run(list: &[u8], from: usize) -> TokenAt
     if address::is_plain(text) {
         return TokenAt::Address { from, to };
     }
-    if holds_at(text) {
+    if text.contains(&b'@') {
         return TokenAt::Unreadable;
     }
     TokenAt::Other {
