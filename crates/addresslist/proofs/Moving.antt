@@ -1,7 +1,8 @@
 -- Cursors: what one token brings, and what the loop knows that looks for the next address.
+--     Goes s c next                what a token brings that is no address
 --     move_hand .. move_unread     one token from a cursor on
 --     Nears s c here               the list gives the same from both cursors, and the second is not before the first
---     near_begin .. near_done      the loop's steps
+--     near_begin .. near_less      the loop's steps
 -- Assumes nothing.
 use Prim.Native.Nat.{ℕ, ◌-◌, ◌<◌, ◌≤◌}
 use mathlib.Core.Path.{◌≡◌, refl, sym, ap, ◌∙◌}
@@ -13,15 +14,19 @@ use borrow.Author.Rules.{rules}
 use lib.ListN.{length, drop}
 use Rattle.grammar.specs.Grammar.{after_address, after, may_end}
 use Rattle.addresslist.specs.List.{address, other, first_token}
-use Rattle.addresslist.specs.Answers.{between, found_in, Inside, left, Gives, Hands, Goes}
+use Rattle.addresslist.specs.Answers.{between, found_in, Inside, left, Gives}
 use Rattle.grammar.specs.declared.Sort.{Sort}
 use Rattle.addresslist.specs.declared.token.TokenAt.{TokenAt}
 use Rattle.addresslist.specs.declared.token.TokenAt.TheVariants.{Address as AddressAt, Other as OtherAt, End as Over, Unreadable as Unfound}
 use Rattle.grammar.specs.declared.Stage.{Stage}
 use Rattle.addresslist.specs.declared.ListCursor.{ListCursor}
-use Rattle.addresslist.specs.declared.NextAddress.{NextAddress}
-use Rattle.addresslist.specs.declared.NextAddress.TheVariants.{Address, End, Unreadable}
 use Rattle.addresslist.proofs.Listing.{stands, listed_address, listed_address_wrong, listed_other, listed_other_wrong, listed_end, listed_unread}
+
+-- The next cursor lies behind this one, and s gives the same from either.
+pub record Goes (s : List ℕ) (c next : ListCursor) : Type 0 where
+  pub gives : left s c ≡ left s next
+  pub behind : c.at < next.at
+  pub upto : next.at ≤ length s
 
 module _ (s : List ℕ) (c : ListCursor) (g : TokenAt) (e : found_in s g ≡ first_token (drop c.at s)) where
   found : (k : TokenAt) → g ≡ k → first_token (drop c.at s) ≡ found_in s k
@@ -85,8 +90,6 @@ module _ (s : List ℕ) (c : ListCursor) (g : TokenAt) (e : found_in s g ≡ fir
   unfolding left found_in
   move_unread q = listed_unread c.stage c.inside (drop c.at s) (found Unfound q)
 
-pub ruleset moving = (move_hand, move_hand_wrong, move_on, move_on_wrong, move_end, move_cut, move_unread, rules)
-
 pub record Nears (s : List ℕ) (c here : ListCursor) : Type 0 where
   pub same : left s c ≡ left s here
   pub behind : c.at ≤ here.at
@@ -113,4 +116,4 @@ module _ (s : List ℕ) (here next : ListCursor) (on : Goes s here next) where
   pub near_less : length s - next.at < length s - here.at
   near_less = omega (arith, on.behind, on.upto)
 
-pub ruleset nearing = (near_begin, near_on, near_less, near_gives, move_hand, move_hand_wrong, move_on, move_on_wrong, move_end, move_cut, move_unread, rules)
+pub ruleset nearing = (near_begin, near_on, near_less, move_hand_wrong, move_on, move_on_wrong, move_end, move_cut, move_unread, rules)

@@ -1,7 +1,7 @@
 -- From the definitions of List.antt to what the code answers: places in the list stand for the octets between them.
 --     found_in, Inside     a token that was found, and that it lies in the list
 --     beginning, left      the first cursor, and what the list still gives from a cursor on
---     Hands, Goes          what is handed out from a cursor, and what a token brings that is no address
+--     Gives, Hands         what is handed out from a cursor
 --     counted_of           how many addresses there are
 --     only_in, Within      the one address of a list that has no other, and that it lies in the list
 use Rattle.std.specs.Prelude.{ℕ, ◌-◌, ◌<◌, ◌≤◌, ◌≡◌, true, false, List, [], length, take, drop}
@@ -57,12 +57,6 @@ abbrev pub Hands : List ℕ → ListCursor → NextAddress → Type 0
 Hands s c (Address from to next) = Gives s c from to next
 Hands s c End = left s c ≡ Some []
 Hands s c Unreadable = left s c ≡ None
-
--- The next cursor lies behind this one, and s gives the same from either.
-pub record Goes (s : List ℕ) (c next : ListCursor) : Type 0 where
-  pub gives : left s c ≡ left s next
-  pub behind : c.at < next.at
-  pub upto : next.at ≤ length s
 
 -- L17: equal addresses count as often as they stand
 unfoldable pub counted_of : Option (List (List ℕ)) → Counted

@@ -28,6 +28,7 @@ pub enum TokenAt {
 }
 
 // What the octet opens; a control octet, a bracket or a backslash opens nothing (L5, L15).
+#[tactic(auto, unfolding(crate::specs::List::opening_of))]
 pub fn opened_by(x: u8) -> Start
     ensures { result ≡ opening_of x }
 {
@@ -68,6 +69,7 @@ fn run(list: &[u8], from: usize) -> TokenAt
 }
 
 // The quoted string whose opening quote stands at the place `from`: a word (L10).
+#[tactic(auto, using(crate::proofs::Finding::finding_quoted))]
 fn quoted(list: &[u8], from: usize) -> TokenAt
     requires { from < length list.now }
     ensures result_value { found_in list.now result ≡ quoted_token (drop from list.now) }
@@ -83,6 +85,7 @@ fn quoted(list: &[u8], from: usize) -> TokenAt
 }
 
 // The token whose first octet stands at the place `from`.
+#[tactic(auto, using(crate::proofs::Finding::finding_at))]
 fn token_at(list: &[u8], from: usize) -> TokenAt
     requires { from < length list.now }
     ensures result_value { found_in list.now result ≡ token_at (drop from list.now) }
@@ -97,6 +100,7 @@ fn token_at(list: &[u8], from: usize) -> TokenAt
 }
 
 // The first token from the place `at` on.
+#[tactic(auto, using(crate::proofs::Finding::finding))]
 pub fn token(list: &[u8], at: usize) -> TokenAt
     ensures result_value { found_in list.now result ≡ first_token (drop at list.now) }
     ensures inside { Inside list.now at result }
