@@ -11,7 +11,8 @@ use mathlib.Core.Path.{◌≡◌, refl, sym, ap, ◌∙◌}
 use mathlib.Core.Logic.{⊎_elim}
 use mathlib.Core.Bool.{Bool, true, false, cond}
 use mathlib.Core.List.{List}
-use Rattle.std.specs.Prelude.{Some}
+use Rattle.std.specs.Prelude.{◌==◌, Some}
+use Rattle.std.specs.List.{list_any}
 use native.Mathlib.Omega.{arith}
 use native.Mathlib.Nat.{sub-zero}
 use borrow.Author.Rules.{rules}
@@ -32,6 +33,7 @@ use Rattle.tokens.proofs.Quoting.{quoted_to, quoted_unreadable}
 use Rattle.address.specs.Address.{address_octet, plain}
 use Rattle.addresslist.specs.List.{opening_of, Token, run_token, quoted_token, token_at, first_token}
 use Rattle.addresslist.specs.Answers.{between, found_in, Inside}
+use Rattle.addresslist.proofs.Telling.{held}
 use Rattle.grammar.specs.declared.Sort.{Sort}
 use Rattle.grammar.specs.declared.Sort.TheVariants.{Word}
 use Rattle.addresslist.specs.declared.token.Start.{Start}
@@ -67,14 +69,17 @@ module _ (s : List ℕ) (from to : ℕ) (l : from < length s) (e : to ≡ from +
     unfolding found_in run_token
     run_address t = rw (run_token, octets_run, sym p ∙ t, octets_run, behind_run)
 
-    module _ (f : b ≡ false) (h : Bool) (q : h ≡ holds (octet "@") (between s from to)) where
+    module _ (f : b ≡ false) (h : Bool) (q : h ≡ list_any (λ x. x == octet "@") (between s from to)) where
+      at_in : h ≡ holds (octet "@") (between s from to)
+      at_in = q ∙ held (octet "@") (between s from to)
+
       pub run_unread : h ≡ true → found_in s Unfound ≡ run_token (drop from s)
       unfolding found_in run_token
-      run_unread t = rw (run_token, octets_run, sym p ∙ f, octets_run, sym q ∙ t)
+      run_unread t = rw (run_token, octets_run, sym p ∙ f, octets_run, sym at_in ∙ t)
 
       pub run_word : h ≡ false → found_in s (Other Word to) ≡ run_token (drop from s)
       unfolding found_in run_token
-      run_word t = rw (run_token, octets_run, sym p ∙ f, octets_run, sym q ∙ t, behind_run)
+      run_word t = rw (run_token, octets_run, sym p ∙ f, octets_run, sym at_in ∙ t, behind_run)
 
 pub ruleset finding_run = (run_from, run_upto, run_long, run_address, run_unread, run_word, rules)
 

@@ -29,8 +29,6 @@ use Rattle.addresslist.specs.declared.token.Start.{Start}
 use Rattle.addresslist.specs.declared.token.Start.TheVariants.{Run, Quote, Sign, Nothing}
 use Rattle.grammar.specs.declared.Stage.{Stage}
 use Rattle.grammar.specs.declared.Stage.TheVariants.{Place}
-use Rattle.grammar.specs.declared.Follow.{Follow}
-use Rattle.grammar.specs.declared.Follow.TheVariants.{On, Wrong}
 use Rattle.addresslist.proofs.Finding.{opens_run_octet}
 
 -- Where a token stands in a list: an address in front of what is left of it, and any other before that.
@@ -103,22 +101,22 @@ shorter s a rest h p = omega (arith, suffix_length h, length-append a rest, plai
 -- one token of a list, the others being counted by n
 module _ (n : ℕ) (stage : Stage) (inside : Bool) (s : List ℕ) where
   module _ (a rest : List ℕ) (e : first_token s ≡ address a rest) where
-    by_address : (next : Stage) (inner : Bool) → after_address stage inside ≡ On next inner
+    by_address : (next : Stage) (inner : Bool) → after_address stage inside ≡ Some (next, inner)
         → listed_by (suc n) stage inside s ≡ in_front a (listed_by n next inner rest)
     unfolding listed_by
     by_address next inner p = rw (listed_by, e, p)
 
-    by_address_wrong : after_address stage inside ≡ Wrong → listed_by (suc n) stage inside s ≡ None
+    by_address_wrong : after_address stage inside ≡ None → listed_by (suc n) stage inside s ≡ None
     unfolding listed_by
     by_address_wrong p = rw (listed_by, e, p)
 
   module _ (sort : Sort) (rest : List ℕ) (e : first_token s ≡ other sort rest) where
-    by_other : (next : Stage) (inner : Bool) → after stage inside sort ≡ On next inner
+    by_other : (next : Stage) (inner : Bool) → after stage inside sort ≡ Some (next, inner)
         → listed_by (suc n) stage inside s ≡ listed_by n next inner rest
     unfolding listed_by
     by_other next inner p = rw (listed_by, e, p)
 
-    by_other_wrong : after stage inside sort ≡ Wrong → listed_by (suc n) stage inside s ≡ None
+    by_other_wrong : after stage inside sort ≡ None → listed_by (suc n) stage inside s ≡ None
     unfolding listed_by
     by_other_wrong p = rw (listed_by, e, p)
 
@@ -135,7 +133,7 @@ data Turn (stage : Stage) (inside : Bool) (s : List ℕ) : Type 0 where
   over : ((n : ℕ) → listed_by (suc n) stage inside s ≡ Some []) → Turn stage inside s
   unread : ((n : ℕ) → listed_by (suc n) stage inside s ≡ None) → Turn stage inside s
   hands :
-      (a rest : List ℕ) (next : Stage) (inner : Bool) → Suffix (a ++ rest) s → plain a ≡ true → after_address stage inside ≡ On next inner
+      (a rest : List ℕ) (next : Stage) (inner : Bool) → Suffix (a ++ rest) s → plain a ≡ true → after_address stage inside ≡ Some (next, inner)
       → ((n : ℕ) → listed_by (suc n) stage inside s ≡ in_front a (listed_by n next inner rest)) → Turn stage inside s
   goes :
       (rest : List ℕ) (next : Stage) (inner : Bool) → Suffix rest s → length rest < length s
@@ -145,16 +143,16 @@ module _ (stage : Stage) (inside : Bool) (s : List ℕ) where
   turn : Turn stage inside s
   turn = go (first_token s) refl
     where
-      addressed : (a rest : List ℕ) → first_token s ≡ address a rest → (r : Follow) → after_address stage inside ≡ r → Turn stage inside s
-      addressed a rest e (On next inner) p =
+      addressed : (a rest : List ℕ) → first_token s ≡ address a rest → (r : Option (Stage × Bool)) → after_address stage inside ≡ r → Turn stage inside s
+      addressed a rest e (Some (next, inner)) p =
           hands a rest next inner (stands s (address a rest) e).0 (stands s (address a rest) e).1 p
           (λ n. by_address n stage inside s a rest e next inner p)
-      addressed a rest e Wrong p = unread (λ n. by_address_wrong n stage inside s a rest e p)
+      addressed a rest e None p = unread (λ n. by_address_wrong n stage inside s a rest e p)
 
-      others : (sort : Sort) (rest : List ℕ) → first_token s ≡ other sort rest → (r : Follow) → after stage inside sort ≡ r → Turn stage inside s
-      others sort rest e (On next inner) p =
+      others : (sort : Sort) (rest : List ℕ) → first_token s ≡ other sort rest → (r : Option (Stage × Bool)) → after stage inside sort ≡ r → Turn stage inside s
+      others sort rest e (Some (next, inner)) p =
           goes rest next inner (stands s (other sort rest) e).0 (stands s (other sort rest) e).1 (λ n. by_other n stage inside s sort rest e next inner p)
-      others sort rest e Wrong p = unread (λ n. by_other_wrong n stage inside s sort rest e p)
+      others sort rest e None p = unread (λ n. by_other_wrong n stage inside s sort rest e p)
 
       go : (t : Token) → first_token s ≡ t → Turn stage inside s
       go (address a rest) e = addressed a rest e (after_address stage inside) refl
@@ -187,23 +185,23 @@ anew s rest next inner l = enough (length s) (suc (length rest)) next inner rest
 module _ (stage : Stage) (inside : Bool) (s : List ℕ) where
   module _ (a rest : List ℕ) (e : first_token s ≡ address a rest) where
     pub listed_address :
-        (next : Stage) (inner : Bool) → after_address stage inside ≡ On next inner → listed stage inside s ≡ in_front a (listed next inner rest)
+        (next : Stage) (inner : Bool) → after_address stage inside ≡ Some (next, inner) → listed stage inside s ≡ in_front a (listed next inner rest)
     unfolding listed
     listed_address next inner p =
         by_address (length s) stage inside s a rest e next inner p
         ∙ ap (in_front a) (anew s rest next inner (shorter s a rest (stands s (address a rest) e).0 (stands s (address a rest) e).1))
 
-    pub listed_address_wrong : after_address stage inside ≡ Wrong → listed stage inside s ≡ None
+    pub listed_address_wrong : after_address stage inside ≡ None → listed stage inside s ≡ None
     unfolding listed
     listed_address_wrong p = by_address_wrong (length s) stage inside s a rest e p
 
   module _ (sort : Sort) (rest : List ℕ) (e : first_token s ≡ other sort rest) where
-    pub listed_other : (next : Stage) (inner : Bool) → after stage inside sort ≡ On next inner → listed stage inside s ≡ listed next inner rest
+    pub listed_other : (next : Stage) (inner : Bool) → after stage inside sort ≡ Some (next, inner) → listed stage inside s ≡ listed next inner rest
     unfolding listed
     listed_other next inner p =
         by_other (length s) stage inside s sort rest e next inner p ∙ anew s rest next inner (stands s (other sort rest) e).1
 
-    pub listed_other_wrong : after stage inside sort ≡ Wrong → listed stage inside s ≡ None
+    pub listed_other_wrong : after stage inside sort ≡ None → listed stage inside s ≡ None
     unfolding listed
     listed_other_wrong p = by_other_wrong (length s) stage inside s sort rest e p
 
@@ -219,7 +217,7 @@ module _ (stage : Stage) (inside : Bool) (s : List ℕ) where
 module _ (P : Stage → List ℕ → Option (List (List ℕ)) → Type 0) (at_end : (stage : Stage) (s : List ℕ) → P stage s (Some []))
     (unreadably : (stage : Stage) (s : List ℕ) → P stage s None)
     (front :
-    (stage next : Stage) (inside inner : Bool) (s a rest : List ℕ) (o : Option (List (List ℕ))) → after_address stage inside ≡ On next inner
+    (stage next : Stage) (inside inner : Bool) (s a rest : List ℕ) (o : Option (List (List ℕ))) → after_address stage inside ≡ Some (next, inner)
     → Suffix (a ++ rest) s → plain a ≡ true → P next rest o → P stage s (in_front a o))
     (past : (stage next : Stage) (s rest : List ℕ) (o : Option (List (List ℕ))) → Suffix rest s → length rest < length s → P next rest o → P stage s o) where
   counted : (n : ℕ) (stage : Stage) (inside : Bool) (s : List ℕ) → P stage s (listed_by n stage inside s)

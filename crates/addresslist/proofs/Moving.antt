@@ -1,43 +1,44 @@
 -- Cursors: what one token brings, and what the loop knows that looks for the next address.
+--     Goes s c next                what a token brings that is no address
 --     move_hand .. move_unread     one token from a cursor on
 --     Nears s c here               the list gives the same from both cursors, and the second is not before the first
---     near_begin .. near_done      the loop's steps
+--     near_begin .. near_less      the loop's steps
 -- Assumes nothing.
 use Prim.Native.Nat.{ℕ, ◌-◌, ◌<◌, ◌≤◌}
 use mathlib.Core.Path.{◌≡◌, refl, sym, ap, ◌∙◌}
 use mathlib.Core.Bool.{Bool, true, false}
 use mathlib.Core.List.{List, []}
-use Rattle.std.specs.Prelude.{Some, None}
+use Rattle.std.specs.Prelude.{Option, Some, None}
 use native.Mathlib.Omega.{arith}
 use borrow.Author.Rules.{rules}
 use lib.ListN.{length, drop}
 use Rattle.grammar.specs.Grammar.{after_address, after, may_end}
 use Rattle.addresslist.specs.List.{address, other, first_token}
-use Rattle.addresslist.specs.Answers.{between, found_in, Inside, left, Gives, Hands, Goes, Moved}
+use Rattle.addresslist.specs.Answers.{between, found_in, Inside, left, Gives}
 use Rattle.grammar.specs.declared.Sort.{Sort}
 use Rattle.addresslist.specs.declared.token.TokenAt.{TokenAt}
 use Rattle.addresslist.specs.declared.token.TokenAt.TheVariants.{Address as AddressAt, Other as OtherAt, End as Over, Unreadable as Unfound}
 use Rattle.grammar.specs.declared.Stage.{Stage}
-use Rattle.grammar.specs.declared.Follow.{Follow}
-use Rattle.grammar.specs.declared.Follow.TheVariants.{On as Onto, Wrong}
 use Rattle.addresslist.specs.declared.ListCursor.{ListCursor}
-use Rattle.addresslist.specs.declared.NextAddress.{NextAddress}
-use Rattle.addresslist.specs.declared.NextAddress.TheVariants.{Address, End, Unreadable}
-use Rattle.addresslist.specs.declared.Move.{Move}
-use Rattle.addresslist.specs.declared.Move.TheVariants.{On, Done}
 use Rattle.addresslist.proofs.Listing.{stands, listed_address, listed_address_wrong, listed_other, listed_other_wrong, listed_end, listed_unread}
+
+-- The next cursor lies behind this one, and s gives the same from either.
+pub record Goes (s : List ℕ) (c next : ListCursor) : Type 0 where
+  pub gives : left s c ≡ left s next
+  pub behind : c.at < next.at
+  pub upto : next.at ≤ length s
 
 module _ (s : List ℕ) (c : ListCursor) (g : TokenAt) (e : found_in s g ≡ first_token (drop c.at s)) where
   found : (k : TokenAt) → g ≡ k → first_token (drop c.at s) ≡ found_in s k
   found k q = sym e ∙ ap (found_in s) q
 
-  module _ (from to : ℕ) (q : g ≡ AddressAt from to) (r : Follow) (p : r ≡ after_address c.stage c.inside) where
+  module _ (from to : ℕ) (q : g ≡ AddressAt from to) (r : Option (Stage × Bool)) (p : r ≡ after_address c.stage c.inside) where
     first : first_token (drop c.at s) ≡ address (between s from to) (drop to s)
     unfolding found_in
     first = found (AddressAt from to) q
 
     pub move_hand :
-        (next : Stage) (inner : Bool) → Inside s c.at g → r ≡ Onto next inner
+        (next : Stage) (inner : Bool) → Inside s c.at g → r ≡ Some (next, inner)
         → Gives s c from to (record { at = to; stage = next; inside = inner })
     unfolding left
     move_hand next inner i t =
@@ -51,17 +52,17 @@ module _ (s : List ℕ) (c : ListCursor) (g : TokenAt) (e : found_in s g ≡ fir
           goes_on = refl;
         }
 
-    pub move_hand_wrong : r ≡ Wrong → left s c ≡ None
+    pub move_hand_wrong : r ≡ None → left s c ≡ None
     unfolding left
     move_hand_wrong t = listed_address_wrong c.stage c.inside (drop c.at s) (between s from to) (drop to s) first (sym p ∙ t)
 
-  module _ (sort : Sort) (to : ℕ) (q : g ≡ OtherAt sort to) (r : Follow) (p : r ≡ after c.stage c.inside sort) where
+  module _ (sort : Sort) (to : ℕ) (q : g ≡ OtherAt sort to) (r : Option (Stage × Bool)) (p : r ≡ after c.stage c.inside sort) where
     second : first_token (drop c.at s) ≡ other sort (drop to s)
     unfolding found_in
     second = found (OtherAt sort to) q
 
     pub move_on :
-        (next : Stage) (inner : Bool) → Inside s c.at g → r ≡ Onto next inner
+        (next : Stage) (inner : Bool) → Inside s c.at g → r ≡ Some (next, inner)
         → Goes s c (record { at = to; stage = next; inside = inner })
     unfolding left
     move_on next inner i t =
@@ -72,7 +73,7 @@ module _ (s : List ℕ) (c : ListCursor) (g : TokenAt) (e : found_in s g ≡ fir
           upto = h.1;
         }
 
-    pub move_on_wrong : r ≡ Wrong → left s c ≡ None
+    pub move_on_wrong : r ≡ None → left s c ≡ None
     unfolding left
     move_on_wrong t = listed_other_wrong c.stage c.inside (drop c.at s) sort (drop to s) second (sym p ∙ t)
 
@@ -89,8 +90,6 @@ module _ (s : List ℕ) (c : ListCursor) (g : TokenAt) (e : found_in s g ≡ fir
   unfolding left found_in
   move_unread q = listed_unread c.stage c.inside (drop c.at s) (found Unfound q)
 
-pub ruleset moving = (move_hand, move_hand_wrong, move_on, move_on_wrong, move_end, move_cut, move_unread, rules)
-
 pub record Nears (s : List ℕ) (c here : ListCursor) : Type 0 where
   pub same : left s c ≡ left s here
   pub behind : c.at ≤ here.at
@@ -98,8 +97,9 @@ pub record Nears (s : List ℕ) (c here : ListCursor) : Type 0 where
 pub near_begin : (s : List ℕ) (c : ListCursor) → Nears s c c
 near_begin s c = record { same = refl; behind = omega arith }
 
-near_handed : (s : List ℕ) (c here : ListCursor) (k : NextAddress) → Nears s c here → Hands s here k → Hands s c k
-near_handed s c here (Address from to next) n h =
+pub near_gives :
+    (s : List ℕ) (c here : ListCursor) (from to : ℕ) (next : ListCursor) → Nears s c here → Gives s here from to next → Gives s c from to next
+near_gives s c here from to next n h =
     record {
       gives = n.same ∙ h.gives;
       whole = h.whole;
@@ -108,21 +108,12 @@ near_handed s c here (Address from to next) n h =
       upto = h.upto;
       goes_on = h.goes_on;
     }
-near_handed s c here End n h = n.same ∙ h
-near_handed s c here Unreadable n h = n.same ∙ h
 
-module _ (s : List ℕ) (here : ListCursor) (m : Move) (p : Moved s here m) where
-  module _ (next : ListCursor) (q : m ≡ On next) where
-    on : Goes s here next
-    on = rw q at p
+module _ (s : List ℕ) (here next : ListCursor) (on : Goes s here next) where
+  pub near_on : (c : ListCursor) → Nears s c here → Nears s c next
+  near_on c n = record { same = n.same ∙ on.gives; behind = omega (arith, on.behind) }
 
-    pub near_on : (c : ListCursor) → Nears s c here → Nears s c next
-    near_on c n = record { same = n.same ∙ on.gives; behind = omega (arith, on.behind) }
+  pub near_less : length s - next.at < length s - here.at
+  near_less = omega (arith, on.behind, on.upto)
 
-    pub near_less : length s - next.at < length s - here.at
-    near_less = omega (arith, on.behind, on.upto)
-
-  pub near_done : (c : ListCursor) (k : NextAddress) → Nears s c here → m ≡ Done k → Hands s c k
-  near_done c k n q = near_handed s c here k n (rw q at p)
-
-pub ruleset nearing = (near_begin, near_on, near_less, near_done, rules)
+pub ruleset nearing = (near_begin, near_on, near_less, move_hand_wrong, move_on, move_on_wrong, move_end, move_cut, move_unread, rules)

@@ -2,7 +2,7 @@
 --     total_room     all addresses of a readable list take at most one octet more than the list
 -- Assumes nothing.
 use Prim.Native.Nat.{ℕ, suc, ◌+◌, ◌≤◌, zero-le}
-use mathlib.Core.Path.{◌≡◌}
+use mathlib.Core.Path.{◌≡◌, ap}
 use mathlib.Core.Bool.{Bool}
 use mathlib.Core.List.{List}
 use Rattle.std.specs.Prelude.{Option, Some}
@@ -15,7 +15,6 @@ use Rattle.grammar.specs.Grammar.{after_address}
 use Rattle.addresslist.specs.List.{addresses}
 use Rattle.grammar.specs.declared.Stage.{Stage}
 use Rattle.grammar.specs.declared.Stage.TheVariants.{Place, Opened, Phrase, Angle, Closing, Behind}
-use Rattle.grammar.specs.declared.Follow.TheVariants.{On}
 use Rattle.addresslist.proofs.Listing.{by_tokens}
 
 -- Behind an address another octet must come before the next one: there its own octet is paid for already.
@@ -36,12 +35,12 @@ spare_most Closing = omega arith
 spare_most Behind = omega arith
 
 -- an address stands where there is one to spare, and leaves none
-spare_taken : (stage next : Stage) (inside inner : Bool) → after_address stage inside ≡ On next inner → spare stage ≡ suc (spare next)
+spare_taken : (stage next : Stage) (inside inner : Bool) → after_address stage inside ≡ Some (next, inner) → spare stage ≡ suc (spare next)
 unfolding after_address
-spare_taken Place next inside inner e = let n : Behind ≡ next = cc in rw (← n)
-spare_taken Opened next inside inner e = let n : Behind ≡ next = cc in rw (← n)
+spare_taken Place next inside inner e = let n : ◌≡◌ {A = Stage × Bool} (Behind, inside) (next, inner) = cc in rw (← ap (λ (p : Stage × Bool). p.0) n)
+spare_taken Opened next inside inner e = let n : ◌≡◌ {A = Stage × Bool} (Behind, inside) (next, inner) = cc in rw (← ap (λ (p : Stage × Bool). p.0) n)
 spare_taken Phrase next inside inner e = let z : ◌≡◌ {A = ℕ} 0 1 = cc in absurd (omega arith)
-spare_taken Angle next inside inner e = let n : Closing ≡ next = cc in rw (← n)
+spare_taken Angle next inside inner e = let n : ◌≡◌ {A = Stage × Bool} (Closing, inside) (next, inner) = cc in rw (← ap (λ (p : Stage × Bool). p.0) n)
 spare_taken Closing next inside inner e = let z : ◌≡◌ {A = ℕ} 0 1 = cc in absurd (omega arith)
 spare_taken Behind next inside inner e = let z : ◌≡◌ {A = ℕ} 0 1 = cc in absurd (omega arith)
 

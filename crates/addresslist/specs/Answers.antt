@@ -1,7 +1,7 @@
 -- From the definitions of List.antt to what the code answers: places in the list stand for the octets between them.
 --     found_in, Inside     a token that was found, and that it lies in the list
 --     beginning, left      the first cursor, and what the list still gives from a cursor on
---     Hands, Moved         what is handed out from a cursor, and what one token brings
+--     Gives, Hands         what is handed out from a cursor
 --     counted_of           how many addresses there are
 --     only_in, Within      the one address of a list that has no other, and that it lies in the list
 use Rattle.std.specs.Prelude.{ℕ, ◌-◌, ◌<◌, ◌≤◌, ◌≡◌, true, false, List, [], length, take, drop}
@@ -15,12 +15,9 @@ use Rattle.addresslist.specs.declared.token.TokenAt.TheVariants.{Address as Addr
 use Rattle.addresslist.specs.declared.ListCursor.{ListCursor}
 use Rattle.addresslist.specs.declared.NextAddress.{NextAddress}
 use Rattle.addresslist.specs.declared.NextAddress.TheVariants.{Address, End, Unreadable}
-use Rattle.addresslist.specs.declared.Move.{Move}
-use Rattle.addresslist.specs.declared.Move.TheVariants.{On, Done}
 use Rattle.addresslist.specs.declared.Counted.{Counted}
 use Rattle.addresslist.specs.declared.Counted.TheVariants.{Count, Unreadable as Uncounted}
-use Rattle.addresslist.specs.declared.OnlyAddress.{OnlyAddress}
-use Rattle.addresslist.specs.declared.OnlyAddress.TheVariants.{One, Other}
+use Rattle.addresslist.specs.declared.Bounds.{Bounds}
 
 -- the octets from one place of s up to another
 abbrev pub between : List ℕ → ℕ → ℕ → List ℕ
@@ -61,26 +58,16 @@ Hands s c (Address from to next) = Gives s c from to next
 Hands s c End = left s c ≡ Some []
 Hands s c Unreadable = left s c ≡ None
 
--- The next cursor lies behind this one, and s gives the same from either.
-pub record Goes (s : List ℕ) (c next : ListCursor) : Type 0 where
-  pub gives : left s c ≡ left s next
-  pub behind : c.at < next.at
-  pub upto : next.at ≤ length s
-
-abbrev pub Moved : List ℕ → ListCursor → Move → Type 0
-Moved s c (On next) = Goes s c next
-Moved s c (Done handed) = Hands s c handed
-
 -- L17: equal addresses count as often as they stand
 unfoldable pub counted_of : Option (List (List ℕ)) → Counted
 counted_of None = Uncounted
 counted_of (Some list) = Count (length list)
 
 -- the one address of a list that has no other, by its places
-unfoldable pub only_in : List ℕ → OnlyAddress → Option (List ℕ)
-only_in s (One from to) = Some (between s from to)
-only_in s Other = None
+unfoldable pub only_in : List ℕ → Option Bounds → Option (List ℕ)
+only_in s (Some one) = Some (between s one.from one.to)
+only_in s None = None
 
-abbrev pub Within : List ℕ → OnlyAddress → Type 0
-Within s (One from to) = (from < to) × (to ≤ length s)
-Within s Other = Unit
+abbrev pub Within : List ℕ → Option Bounds → Type 0
+Within s (Some one) = (one.from < one.to) × (one.to ≤ length s)
+Within s None = Unit

@@ -18,7 +18,6 @@ use Rattle.addresslist.specs.declared.token.Start.{Start}
 use Rattle.addresslist.specs.declared.token.Start.TheVariants.{Run, Quote, Sign, Nothing}
 use Rattle.grammar.specs.declared.Stage.{Stage}
 use Rattle.grammar.specs.declared.Stage.TheVariants.{Place}
-use Rattle.grammar.specs.declared.Follow.TheVariants.{On, Wrong}
 
 -- L9, L10: what an octet opens that is of no run: a quoted string, or a sign, which is a token by itself. L5, L15: an octet that
 -- opens nothing, as a control octet, a bracket or a backslash, makes the list unreadable.
@@ -77,10 +76,10 @@ listed_by zero stage inside s = None
 listed_by (suc n) stage inside s =
     elim (first_token s) [
       | address a rest ↦ elim (after_address stage inside) [
-        | On next inner ↦ in_front a (listed_by n next inner rest)
-        | Wrong ↦ None
+        | Some (next, inner) ↦ in_front a (listed_by n next inner rest)
+        | None ↦ None
       ]
-      | other sort rest ↦ elim (after stage inside sort) [ On next inner ↦ listed_by n next inner rest | Wrong ↦ None ]
+      | other sort rest ↦ elim (after stage inside sort) [ Some (next, inner) ↦ listed_by n next inner rest | None ↦ None ]
       | end ↦ elim (may_end stage inside) [ true ↦ Some [] | false ↦ None ]
       | unreadable ↦ None
     ]

@@ -7,9 +7,9 @@ pub mod token; // the tokens of a list
 ghost use Rattle.std.specs.Prelude.{◌≡◌, []};
 ghost use Rattle.octets.specs.Options.{only_one, or_else};
 ghost use Rattle.addresslist.specs.List.{addresses};
-ghost use Rattle.addresslist.specs.Answers.{beginning, Hands, Moved, counted_of, only_in, Within};
+ghost use Rattle.addresslist.specs.Answers.{beginning, Hands, counted_of, only_in, Within};
 
-use grammar::{Follow, Stage};
+use grammar::Stage;
 use token::TokenAt;
 
 #[derive(Clone, Copy)]
@@ -31,13 +31,6 @@ pub enum NextAddress {
     Unreadable,
 }
 
-// Behind one token: further on, or there is an answer.
-#[derive(Clone, Copy)]
-pub enum Move {
-    On(ListCursor),
-    Done(NextAddress),
-}
-
 // How many addresses there are.
 #[derive(Clone, Copy)]
 pub enum Counted {
@@ -45,11 +38,11 @@ pub enum Counted {
     Unreadable,
 }
 
-// The one address of a list that has no other.
+// Where an address stands in a list.
 #[derive(Clone, Copy)]
-pub enum OnlyAddress {
-    One { from: usize, to: usize },
-    Other,
+pub struct Bounds {
+    pub from: usize,
+    pub to: usize,
 }
 
 // The cursor before the first token.
@@ -63,58 +56,43 @@ pub fn start() -> ListCursor
     }
 }
 
-// Reads one token.
-fn advance(list: &[u8], here: ListCursor) -> Move
-    ensures { Moved list.now here result }
-{
-    let at = here.at;
-    let stage = here.stage;
-    let inside = here.inside;
-    match token::token(list, at) {
-        TokenAt::Address { from, to } => match grammar::after_address(stage, inside) {
-            Follow::On(stage, inside) => Move::Done(NextAddress::Address {
-                from,
-                to,
-                next: ListCursor {
-                    at: to,
-                    stage,
-                    inside,
-                },
-            }),
-            Follow::Wrong => Move::Done(NextAddress::Unreadable),
-        },
-        TokenAt::Other { sort, to } => match grammar::after(stage, inside, sort) {
-            Follow::On(stage, inside) => Move::On(ListCursor {
-                at: to,
-                stage,
-                inside,
-            }),
-            Follow::Wrong => Move::Done(NextAddress::Unreadable),
-        },
-        TokenAt::End => {
-            if grammar::may_end(stage, inside) {
-                return Move::Done(NextAddress::End);
-            }
-            Move::Done(NextAddress::Unreadable)
-        }
-        TokenAt::Unreadable => Move::Done(NextAddress::Unreadable),
-    }
-}
-
 // The next address from the cursor on. Of an unreadable list addresses may be handed out before the place where that shows.
+#[tactic(auto, using(crate::proofs::Moving::nearing))]
 pub fn next_address(list: &[u8], cursor: ListCursor) -> NextAddress
     ensures { Hands list.now cursor result }
 {
     let mut here = cursor;
     loop {
-        match advance(list, here) {
-            Move::On(next) => here = next,
-            Move::Done(handed) => return handed,
+        match token::token(list, here.at) {
+            TokenAt::Address { from, to } => {
+                let Some((stage, inside)) = grammar::after_address(here.stage, here.inside) else {
+                    return NextAddress::Unreadable;
+                };
+                let next = ListCursor {
+                    at: to,
+                    stage,
+                    inside,
+                };
+                return NextAddress::Address { from, to, next };
+            }
+            TokenAt::Other { sort, to } => {
+                let Some((stage, inside)) = grammar::after(here.stage, here.inside, sort) else {
+                    return NextAddress::Unreadable;
+                };
+                here = ListCursor {
+                    at: to,
+                    stage,
+                    inside,
+                };
+            }
+            TokenAt::End if grammar::may_end(here.stage, here.inside) => return NextAddress::End,
+            TokenAt::End | TokenAt::Unreadable => return NextAddress::Unreadable,
         }
     }
 }
 
 // How many addresses a list has, equal ones as often as they stand (L17).
+#[tactic(auto, using(crate::proofs::Counting::counting))]
 pub fn count(list: &[u8]) -> Counted
     ensures { result ≡ counted_of (addresses list.now) }
 {
@@ -122,11 +100,7 @@ pub fn count(list: &[u8]) -> Counted
     let mut here = start();
     loop {
         match next_address(list, here) {
-            NextAddress::Address {
-                from: _,
-                to: _,
-                next,
-            } => {
+            NextAddress::Address { next, .. } => {
                 n += 1;
                 here = next;
             }
@@ -137,21 +111,16 @@ pub fn count(list: &[u8]) -> Counted
 }
 
 // The one address of a list of exactly one.
-pub fn only_address(list: &[u8]) -> OnlyAddress
+#[tactic(auto, using(crate::proofs::Lone::alone))]
+pub fn only_address(list: &[u8]) -> Option<Bounds>
     ensures result_value { only_in list.now result ≡ only_one (or_else [] (addresses list.now)) }
     ensures within { Within list.now result }
 {
-    match next_address(list, start()) {
-        NextAddress::Address { from, to, next } => match next_address(list, next) {
-            NextAddress::Address {
-                from: _,
-                to: _,
-                next: _,
-            } => OnlyAddress::Other,
-            NextAddress::End => OnlyAddress::One { from, to },
-            NextAddress::Unreadable => OnlyAddress::Other,
-        },
-        NextAddress::End => OnlyAddress::Other,
-        NextAddress::Unreadable => OnlyAddress::Other,
+    let NextAddress::Address { from, to, next } = next_address(list, start()) else {
+        return None;
+    };
+    match next_address(list, next) {
+        NextAddress::End => Some(Bounds { from, to }),
+        NextAddress::Address { .. } | NextAddress::Unreadable => None,
     }
 }

@@ -1,8 +1,6 @@
 // The tokens of a list: the signs `,` `<` `>` `:` `;`, words and addresses (SCOPE, L9, L10, L12), with blanks and comments
 // between them (L11). A long run costs its length.
 ghost use Rattle.std.specs.Prelude.{◌<◌, ◌≡◌, true, length, get_or, drop};
-ghost use Rattle.octets.specs.Octets.{octet};
-ghost use Rattle.octets.specs.Finding.{holds};
 ghost use Rattle.address.specs.Address.{address_octet};
 ghost use Rattle.addresslist.specs.List.{opening_of, run_token, quoted_token, token_at, first_token};
 ghost use Rattle.addresslist.specs.Answers.{found_in, Inside};
@@ -29,20 +27,8 @@ pub enum TokenAt {
     Unreadable,
 }
 
-fn holds_at(text: &[u8]) -> bool
-    ensures { result ≡ holds (octet "@") text.now }
-{
-    let mut i = 0;
-    while i < text.len() {
-        if text[i] == b'@' {
-            return true;
-        }
-        i += 1;
-    }
-    false
-}
-
 // What the octet opens; a control octet, a bracket or a backslash opens nothing (L5, L15).
+#[tactic(auto, unfolding(crate::specs::List::opening_of))]
 pub fn opened_by(x: u8) -> Start
     ensures { result ≡ opening_of x }
 {
@@ -62,6 +48,7 @@ pub fn opened_by(x: u8) -> Start
 
 // The run that begins at the place `from`: an address as a whole, or words; with an `@` in it and no address it is
 // unreadable (L12).
+#[tactic(auto, using(crate::proofs::Finding::finding_run))]
 fn run(list: &[u8], from: usize) -> TokenAt
     requires { (from < length list.now) × (address_octet (get_or list.now from 0) ≡ true) }
     ensures result_value { found_in list.now result ≡ run_token (drop from list.now) }
@@ -72,7 +59,7 @@ fn run(list: &[u8], from: usize) -> TokenAt
     if address::is_plain(text) {
         return TokenAt::Address { from, to };
     }
-    if holds_at(text) {
+    if text.contains(&b'@') {
         return TokenAt::Unreadable;
     }
     TokenAt::Other {
@@ -82,6 +69,7 @@ fn run(list: &[u8], from: usize) -> TokenAt
 }
 
 // The quoted string whose opening quote stands at the place `from`: a word (L10).
+#[tactic(auto, using(crate::proofs::Finding::finding_quoted))]
 fn quoted(list: &[u8], from: usize) -> TokenAt
     requires { from < length list.now }
     ensures result_value { found_in list.now result ≡ quoted_token (drop from list.now) }
@@ -97,6 +85,7 @@ fn quoted(list: &[u8], from: usize) -> TokenAt
 }
 
 // The token whose first octet stands at the place `from`.
+#[tactic(auto, using(crate::proofs::Finding::finding_at))]
 fn token_at(list: &[u8], from: usize) -> TokenAt
     requires { from < length list.now }
     ensures result_value { found_in list.now result ≡ token_at (drop from list.now) }
@@ -111,6 +100,7 @@ fn token_at(list: &[u8], from: usize) -> TokenAt
 }
 
 // The first token from the place `at` on.
+#[tactic(auto, using(crate::proofs::Finding::finding))]
 pub fn token(list: &[u8], at: usize) -> TokenAt
     ensures result_value { found_in list.now result ≡ first_token (drop at list.now) }
     ensures inside { Inside list.now at result }

@@ -1,13 +1,27 @@
 -- A5: the advice for a whole list is the lowest of its recipients'.
+--     least_is, disable_told        by what the code derives for advices: the lower of two, and whether one is disable
 --     overall_one, overall_two      by `lower_of` over the list, from its front
 --     overall_last                  with one more at its end, as the loop of `recommend` goes
 -- Assumes nothing.
 use mathlib.Core.Path.{◌≡◌, refl, ◌∙◌}
 use mathlib.Core.List.{List, [], ◌∷◌, ◌++◌}
-use Rattle.advice.specs.Advice.{any_disable, all_encrypt, any_discourage, overall}
+use native.Mathlib.Omega.{arith}
+use Rattle.advice.specs.Advice.{any_disable, all_encrypt, any_discourage, overall, is_disable}
+use Rattle.std.specs.Ordering.{ord_min}
 use Rattle.advice.specs.Places.{lower_of}
+use Rattle.advice.specs.contracts.AdviceOrd.TheImpl as order
+use Rattle.advice.specs.contracts.AdvicePartialEq.TheImpl as equality
 use Rattle.advice.specs.declared.Advice.{Advice}
 use Rattle.advice.specs.declared.Advice.TheVariants.{Disable, Discourage, Available, Encrypt}
+
+-- A1: the lower of two by the order of the variants, which the code derives
+pub least_is : (a b : Advice) → ord_min (order.ghosts).cmp a b ≡ lower_of a b
+unfolding lower_of
+least_is a b = grind arith
+
+-- A13: so it tells disable
+pub disable_told : (a : Advice) → (equality.ghosts).eq a Disable ≡ is_disable a
+disable_told a = grind arith
 
 pub overall_one : (a : Advice) → overall (a ∷ []) ≡ a
 unfolding overall any_disable all_encrypt any_discourage

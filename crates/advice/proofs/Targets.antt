@@ -1,10 +1,10 @@
 -- Where the key to encrypt to lies, and that it is the entry's.
---     key_direct .. key_none        each way through `key_part`
+--     key_direct .. key_none        where the key of an entry lies, by its numbers
 --     target_nothing, target_there  each way through `target`
 --     handed_rest .. handed_unread      an address that is handed out of a readable list stands in front of the rest, which is readable
 --     Reaches t s place left here   what the loop of `target_at` knows
 --     reaches_begin .. reaches_unread     its steps
---     the rulesets                  keeping, for `key_part`; targeting, for `target`; reaching, for `target_at`
+--     the rulesets                  targeting, for `target`; reaching, for `target_at`
 -- Assumes nothing.
 use Prim.Native.Nat.{ℕ, suc, ◌+◌, ◌-◌}
 use mathlib.Core.Path.{◌≡◌, sym, ap, ◌∙◌}
@@ -42,8 +42,6 @@ module _ (n : Head) (direct gossip : ℕ) where
     pub key_none : n.gossip ≡ false → no_part ≡ key_part n direct gossip
     unfolding key_part
     key_none g = rw (key_part, d, g)
-
-pub ruleset keeping = (key_direct, key_gossip, key_none, rules)
 
 module _ (t a : List ℕ) (h : Held) (e : h ≡ held_of t (canonical a)) where
   pub target_nothing : h ≡ NoEntry → no_part ≡ target_part t a

@@ -9,8 +9,8 @@ ghost use Rattle.addresslist.specs.List.{addresses};
 ghost use Rattle.heads.specs.Head.{time_limit};
 ghost use Rattle.table.specs.Tagged.{Open};
 ghost use Rattle.lookup.specs.Held.{held_of};
-ghost use Rattle.advice.specs.Advice.{raised, is_disable, advice_in};
-ghost use Rattle.advice.specs.Places.{rated_as, lower_of, key_part, target_part, target_at};
+ghost use Rattle.advice.specs.Advice.{raised, advice_in};
+ghost use Rattle.advice.specs.Places.{rated_as, key_part, target_part, target_at};
 
 use addresslist::NextAddress;
 use heads::Head;
@@ -20,8 +20,8 @@ use slots::Slot;
 // A3: 35 days, in seconds. A key is advised against where last seen lies further than that above its timestamp.
 const PATIENCE: u64 = 3024000;
 
-// What is advised, from the lowest to the highest (A1).
-#[derive(Clone, Copy)]
+// What is advised, from the lowest to the highest (A1): a list gets the lowest of its recipients' advices (A5).
+#[derive(Clone, Copy, PartialEq, Eq, PartialOrd, Ord)]
 pub enum Advice {
     Disable,
     Discourage,
@@ -37,81 +37,47 @@ pub struct Part {
     pub length: usize,
 }
 
+impl Part {
+    pub const EMPTY: Self = Self {
+        start: 0,
+        length: 0,
+    };
+}
+
 // What the entry with these numbers gets before reply and preferences are looked at (A2).
+#[tactic(auto, unfolding(crate::specs::Places::rated_as, crate::specs::Advice::stale))]
 fn rate(entry: Head) -> Advice
     requires { entry.timestamp ≤ time_limit }
     ensures { result ≡ rated_as entry }
 {
     if entry.direct {
         if entry.timestamp + PATIENCE < entry.last_seen {
-            return Advice::Discourage;
+            Advice::Discourage
+        } else {
+            Advice::Available
         }
-        return Advice::Available;
+    } else if entry.gossip {
+        Advice::Discourage
+    } else {
+        Advice::Disable
     }
-    if entry.gossip {
-        return Advice::Discourage;
-    }
-    Advice::Disable
 }
 
 // What reply and preferences make of it (A4): with a reply discourage and available become encrypt, and with both
 // preferences available does.
+#[tactic(auto, unfolding(crate::specs::Advice::raised))]
 fn raise(advice: Advice, reply: bool, both: bool) -> Advice
     ensures { result ≡ raised reply both advice }
 {
     match advice {
-        Advice::Disable => Advice::Disable,
-        Advice::Discourage => {
-            if reply {
-                return Advice::Encrypt;
-            }
-            Advice::Discourage
-        }
-        Advice::Available => {
-            if reply | both {
-                return Advice::Encrypt;
-            }
-            Advice::Available
-        }
-        Advice::Encrypt => Advice::Encrypt,
-    }
-}
-
-// The lower of two: so a list gets the lowest of its recipients' advices (A5).
-pub fn lower(a: Advice, b: Advice) -> Advice
-    ensures { result ≡ lower_of a b }
-{
-    match a {
-        Advice::Disable => Advice::Disable,
-        Advice::Discourage => match b {
-            Advice::Disable => Advice::Disable,
-            Advice::Discourage => Advice::Discourage,
-            Advice::Available => Advice::Discourage,
-            Advice::Encrypt => Advice::Discourage,
-        },
-        Advice::Available => match b {
-            Advice::Disable => Advice::Disable,
-            Advice::Discourage => Advice::Discourage,
-            Advice::Available => Advice::Available,
-            Advice::Encrypt => Advice::Available,
-        },
-        Advice::Encrypt => b,
-    }
-}
-
-// Does this recipient have disable (A13)?
-pub fn is_disable(advice: Advice) -> bool
-    ensures { result ≡ is_disable advice }
-{
-    match advice {
-        Advice::Disable => true,
-        Advice::Discourage => false,
-        Advice::Available => false,
-        Advice::Encrypt => false,
+        Advice::Discourage if reply => Advice::Encrypt,
+        Advice::Available if reply || both => Advice::Encrypt,
+        _ => advice,
     }
 }
 
 // What the table has of an address: its canonical form is looked for (T15).
+#[tactic(auto, using(crate::proofs::Locating::locating))]
 fn locate(table: &[u8], tags: &[u32; Slot::MOST], address: &[u8]) -> Held
     requires { Open table.now tags.now × (plain address.now ≡ true) }
     ensures { result ≡ held_of table.now (canonical_of address.now) }
@@ -122,6 +88,7 @@ fn locate(table: &[u8], tags: &[u32; Slot::MOST], address: &[u8]) -> Held
 }
 
 // What is advised for one recipient (A2, A4).
+#[tactic(auto, using(crate::proofs::Advising::advising))]
 pub fn advise(
     table: &[u8],
     tags: &[u32; Slot::MOST],
@@ -146,28 +113,27 @@ pub fn advise(
 }
 
 // Where the key to encrypt to lies, of the entry with these numbers, whose keys begin there (A2).
+#[tactic(auto, unfolding(crate::specs::Places::key_part))]
 fn key_part(numbers: Head, direct: usize, gossip: usize) -> Part
     ensures { result ≡ key_part numbers direct gossip }
 {
     if numbers.direct {
-        return Part {
+        Part {
             start: direct,
             length: numbers.direct_length,
-        };
-    }
-    if numbers.gossip {
-        return Part {
+        }
+    } else if numbers.gossip {
+        Part {
             start: gossip,
             length: numbers.gossip_length,
-        };
-    }
-    Part {
-        start: 0,
-        length: 0,
+        }
+    } else {
+        Part::EMPTY
     }
 }
 
 // Where the key to encrypt to lies for one recipient (A6); an empty part where there is none (A7).
+#[tactic(auto, using(crate::proofs::Targets::targeting))]
 fn target(table: &[u8], tags: &[u32; Slot::MOST], address: &[u8]) -> Part
     requires { Open table.now tags.now × (plain address.now ≡ true) }
     ensures { result ≡ target_part table.now address.now }
@@ -178,15 +144,13 @@ fn target(table: &[u8], tags: &[u32; Slot::MOST], address: &[u8]) -> Part
             direct,
             gossip,
         } => key_part(numbers, direct, gossip),
-        Held::NoEntry => Part {
-            start: 0,
-            length: 0,
-        },
+        Held::NoEntry => Part::EMPTY,
     }
 }
 
 // Where the key to encrypt to lies for the recipient at a place of the list, the first being at 0 (A6, A10); past the list
 // the part is empty (A7).
+#[tactic(auto, using(crate::proofs::Targets::reaching))]
 pub fn target_at(table: &[u8], tags: &[u32; Slot::MOST], recipients: &[u8], place: usize) -> Part
     requires { Open table.now tags.now × (is_some (addresses recipients.now) ≡ true) }
     ensures { result ≡ target_at table.now (or_else [] (addresses recipients.now)) place }
@@ -202,18 +166,7 @@ pub fn target_at(table: &[u8], tags: &[u32; Slot::MOST], recipients: &[u8], plac
                 left -= 1;
                 here = next;
             }
-            NextAddress::End => {
-                return Part {
-                    start: 0,
-                    length: 0,
-                };
-            }
-            NextAddress::Unreadable => {
-                return Part {
-                    start: 0,
-                    length: 0,
-                };
-            }
+            NextAddress::End | NextAddress::Unreadable => return Part::EMPTY,
         }
     }
 }

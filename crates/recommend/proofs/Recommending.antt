@@ -1,5 +1,5 @@
 -- Recommending: what the code finds out, and what it answers by it.
---     list_none, list_counted           the list (R10), as the code counts its addresses
+--     list_none .. list_empty           the list (R10), as the code counts its addresses
 --     admits_not, admits_both           what `admit` answers, with the tags of the table
 --     admitted_sound .. admitted_list   where no row holds the table is sound, and the list is readable and has 1 to 100 addresses
 --     table_taken                       and open with its tags
@@ -17,7 +17,7 @@ use mathlib.Core.List.{List, [], ◌∷◌}
 use Rattle.std.specs.Prelude.{Option, Some, None}
 use native.Mathlib.Omega.{arith}
 use borrow.Author.Rules.{rules}
-use borrow.Author.Tests.{not-false}
+use borrow.Author.Tests.{not-false, le-leb, lt-leb}
 use lib.Dec.{leb}
 use lib.ListN.{length, take, drop}
 use mir.Syntax.{w64}
@@ -49,7 +49,6 @@ use Rattle.advice.specs.declared.Part.{Part}
 use Rattle.advice.proofs.Keys.{place_within, place_octets}
 use Rattle.recommend.specs.Recommending.{recipient_list, recommending_rows, refused_recommending, Admits, survey_of, recommended_of, looked_up_of, target_part_of, target_key_of}
 use Rattle.recommend.specs.declared.Surveyed.{Surveyed}
-use Rattle.recommend.specs.declared.Surveyed.TheVariants.{Fit, Unfit}
 use Rattle.recommend.specs.declared.Recommended.{Recommended}
 use Rattle.recommend.specs.declared.Recommended.TheVariants.{Done, Refused}
 
@@ -63,10 +62,17 @@ module _ (o : Option (List (List ℕ))) (k : Counted) (e : k ≡ counted_of o) w
   unfolding recipient_list
   list_none q = rw (counted_none o (sym q ∙ e))
 
-  pub list_counted : (n : ℕ) → k ≡ Count n → (leb 1 n && leb n 100) ≡ recipient_list o
-  list_counted n q = let c = counted_some o n (sym q ∙ e) in list_of o c.0 n c.1.0 c.1.1
+  module _ (n : ℕ) (q : k ≡ Count n) where
+    list_counted : (leb 1 n && leb n 100) ≡ recipient_list o
+    list_counted = let c = counted_some o n (sym q ∙ e) in list_of o c.0 n c.1.0 c.1.1
 
-pub ruleset counting = (list_none, list_counted, rules)
+    pub list_some : 1 ≤ n → leb n 100 ≡ recipient_list o
+    list_some l = rw (le-leb 1 n l) at list_counted
+
+    pub list_empty : n < 1 → leb 1 n ≡ recipient_list o
+    list_empty l = rw (lt-leb 1 n l) (rw (lt-leb 1 n l) at list_counted)
+
+pub ruleset counting = (list_none, list_some, list_empty, rules)
 
 -- what `admit` answers: k is the answer on the table
 module _ (t tags s : List ℕ) where
@@ -130,23 +136,20 @@ module _ (t s : List ℕ) (m reply : Bool) where
   abbrev all : List Advice
   all = advised t m reply (or_else [] (addresses s))
 
-  apart : (a : Advice) (n : ℕ) → Fit a n ≡ Unfit → ⊥
-  apart a n e = let z : ◌≡◌ {A = ℕ} 0 1 = cc in omega arith
-
-  module _ (z : Surveyed) (e : z ≡ survey_of t m reply (addresses s)) where
-    unfit_list : z ≡ Unfit → recipient_list (addresses s) ≡ false
+  module _ (z : Option Surveyed) (e : z ≡ survey_of t m reply (addresses s)) where
+    unfit_list : z ≡ None → recipient_list (addresses s) ≡ false
     unfolding survey_of
     unfit_list q =
         by_test (recipient_list (addresses s))
-        (λ y. let w : Unfit ≡ Fit (overall all) (first_disable all) = sym q ∙ e ∙ rw (survey_of, y) in absurd (apart _ _ (sym w)))
+        (λ y. let w : ◌≡◌ {A = Option Surveyed} None (Some (record { advice = overall all; looked_up = first_disable all })) = sym q ∙ e ∙ rw (survey_of, y) in cc)
         (λ n. n)
 
-    fit_list : (a : Advice) (n : ℕ) → z ≡ Fit a n → (recipient_list (addresses s) ≡ true) × ((a ≡ overall all) × (n ≡ first_disable all))
+    fit_list : (f : Surveyed) → z ≡ Some f → (recipient_list (addresses s) ≡ true) × (f ≡ record { advice = overall all; looked_up = first_disable all })
     unfolding survey_of
-    fit_list a n q =
+    fit_list f q =
         by_test (recipient_list (addresses s))
-        (λ y. let w : Fit a n ≡ Fit (overall all) (first_disable all) = sym q ∙ e ∙ rw (survey_of, y) in (y, (cc, cc)))
-        (λ y. let w : Fit a n ≡ Unfit = sym q ∙ e ∙ rw (survey_of, y) in absurd (apart a n w))
+        (λ y. let w : Some f ≡ Some (record { advice = overall all; looked_up = first_disable all }) = sym q ∙ e ∙ rw (survey_of, y) in (y, cc))
+        (λ y. let w : Some f ≡ None = sym q ∙ e ∙ rw (survey_of, y) in absurd (let n : ◌≡◌ {A = ℕ} 0 1 = cc in omega arith))
 
   module _ (tags : List ℕ) (k : Answer) (h : Opens t tags k) where
     module _ {A : Type 0} (f : Refusal → A) (d : A) where
@@ -177,8 +180,8 @@ module _ (t s : List ℕ) (m reply : Bool) where
       unfolding looked_up_of
       table_uncounted n w = w ∙ at_table (λ (x : Refusal). 0) (first_disable all) r q
 
-    module _ (q : k ≡ Admitted) (z : Surveyed) (e : z ≡ survey_of t m reply (addresses s)) where
-      module _ (u : z ≡ Unfit) where
+    module _ (q : k ≡ Admitted) (z : Option Surveyed) (e : z ≡ survey_of t m reply (addresses s)) where
+      module _ (u : z ≡ None) where
         pub list_refused : (x : Recommended) → x ≡ Refused Recipients → x ≡ recommended_of t s m reply
         unfolding recommended_of
         list_refused x w = w ∙ at_list Refused (Done (overall all)) q (unfit_list z e u)
@@ -187,14 +190,14 @@ module _ (t s : List ℕ) (m reply : Bool) where
         unfolding looked_up_of
         list_uncounted n w = w ∙ at_list (λ (x : Refusal). 0) (first_disable all) q (unfit_list z e u)
 
-      module _ (a : Advice) (n : ℕ) (u : z ≡ Fit a n) where
-        pub list_advised : Done a ≡ recommended_of t s m reply
+      module _ (f : Surveyed) (u : z ≡ Some f) where
+        pub list_advised : Done f.advice ≡ recommended_of t s m reply
         unfolding recommended_of
-        list_advised = let w = fit_list z e a n u in ap Done w.1.0 ∙ at_end Refused (Done (overall all)) q w.0
+        list_advised = let w = fit_list z e f u in ap (λ (x : Surveyed). Done x.advice) w.1 ∙ at_end Refused (Done (overall all)) q w.0
 
-        pub list_counted_up : n ≡ looked_up_of t s m reply
+        pub list_counted_up : f.looked_up ≡ looked_up_of t s m reply
         unfolding looked_up_of
-        list_counted_up = let w = fit_list z e a n u in w.1.1 ∙ at_end (λ (x : Refusal). 0) (first_disable all) q w.0
+        list_counted_up = let w = fit_list z e f u in ap (λ (x : Surveyed). x.looked_up) w.1 ∙ at_end (λ (x : Refusal). 0) (first_disable all) q w.0
 
 pub ruleset recommending = (table_open, table_refused, table_uncounted, list_refused, list_uncounted, list_advised, list_counted_up, rules)
 

@@ -6,13 +6,13 @@
 -- Assumes nothing.
 use Prim.Native.Nat.{ℕ, suc, ◌+◌, ◌≤◌}
 use mathlib.Core.Path.{◌≡◌, refl, sym, ap, ◌∙◌}
-use mathlib.Core.Bool.{Bool, true, false, false≢true, and-false}
+use mathlib.Core.Bool.{Bool, true, false, not, false≢true, and-false}
 use mathlib.Core.List.{List, [], ◌∷◌, ◌++◌, append-nil, append_assoc, map-append}
 use Rattle.std.specs.Prelude.{Option, Some, None}
 use native.Mathlib.Omega.{arith}
 use native.Mathlib.Numerals.{add-one}
 use borrow.Author.Rules.{rules}
-use borrow.Author.Tests.{lt-leb, le-leb}
+use borrow.Author.Tests.{lt-leb, le-leb, not-false}
 use lib.ListN.{length, length-append, length-map}
 use mir.Syntax.{w64}
 use mir.Val.{Fits}
@@ -24,14 +24,15 @@ use Rattle.addresslist.specs.declared.ListCursor.{ListCursor}
 use Rattle.addresslist.specs.declared.NextAddress.{NextAddress}
 use Rattle.addresslist.specs.declared.NextAddress.TheVariants.{Address, End, Unreadable}
 use Rattle.addresslist.proofs.Handing.{left_beginning, hand_gives, hand_plain, hand_from, hand_upto, hand_less, hand_end, hand_unread}
-use Rattle.advice.specs.Advice.{any_disable, all_encrypt, overall, is_disable, first_disable, advice_in, advised}
-use Rattle.advice.specs.Places.{lower_of}
+use Rattle.advice.specs.Advice.{any_disable, all_encrypt, overall, first_disable, advice_in, advised}
+use Rattle.advice.specs.contracts.AdviceOrd.TheImpl as order
+use Rattle.advice.specs.contracts.AdvicePartialEq.TheImpl as equality
+use Rattle.std.specs.Ordering.{ord_min}
 use Rattle.advice.specs.declared.Advice.{Advice}
 use Rattle.advice.specs.declared.Advice.TheVariants.{Disable, Encrypt}
 use Rattle.advice.proofs.First.{disable_is, overall_any, any_overall, still_disable, first_stays, first_grows}
-use Rattle.advice.proofs.Overall.{overall_last}
+use Rattle.advice.proofs.Overall.{overall_last, least_is, disable_told}
 use Rattle.recommend.specs.Recommending.{most_recipients, recipient_list, survey_of}
-use Rattle.recommend.specs.declared.Surveyed.TheVariants.{Fit, Unfit}
 
 -- addresses, and those behind them if these can be read
 unfoldable pub follows : List (List ℕ) → Option (List (List ℕ)) → Option (List (List ℕ))
@@ -65,11 +66,12 @@ pub record Surveying (t s : List ℕ) (m reply : Bool) (least : Advice) (count l
 
 module _ (t s : List ℕ) (m reply : Bool) where
   module _ (o : Option (List (List ℕ))) where
-    unfit : recipient_list o ≡ false → Unfit ≡ survey_of t m reply o
+    unfit : recipient_list o ≡ false → None ≡ survey_of t m reply o
     unfolding survey_of
     unfit e = rw (survey_of, e)
 
-    fit : recipient_list o ≡ true → Fit (overall (advised t m reply (or_else [] o))) (first_disable (advised t m reply (or_else [] o))) ≡ survey_of t m reply o
+    fit : recipient_list o ≡ true
+        → Some (record { advice = overall (advised t m reply (or_else [] o)); looked_up = first_disable (advised t m reply (or_else [] o)) }) ≡ survey_of t m reply o
     unfolding survey_of
     fit e = rw (survey_of, e)
 
@@ -100,7 +102,7 @@ module _ (t s : List ℕ) (m reply : Bool) where
       longer = simp length-append (omega (arith, h.many))
 
       -- R10: a 101st address
-      pub survey_many : count ≡ most_recipients → Unfit ≡ survey_of t m reply (addresses s)
+      pub survey_many : count ≡ most_recipients → None ≡ survey_of t m reply (addresses s)
       survey_many e = unfit (addresses s) (rw given (too_many one_more (left s next) (omega (arith, longer))))
 
       module _ (d : count ≡ most_recipients → ⊥) where
@@ -110,15 +112,15 @@ module _ (t s : List ℕ) (m reply : Bool) where
         pub survey_room : Fits w64 (count + 1)
         survey_room = record { fits = omega (arith, room) }
 
-        module _ (b : Bool) (f : b ≡ is_disable least) where
-          more : advised t m reply one_more ≡ found ++ advice_in t m reply (between s from to) ∷ []
-          unfolding advised
-          more = map-append (advice_in t m reply) h.front (between s from to ∷ [])
+        more : advised t m reply one_more ≡ found ++ advice_in t m reply (between s from to) ∷ []
+        unfolding advised
+        more = map-append (advice_in t m reply) h.front (between s from to ∷ [])
 
+        module _ (b : Bool) (f : b ≡ not ((equality.ghosts).eq least Disable)) where
           -- A12: behind the first disable an address is only read
-          pub survey_passed : b ≡ true → Surveying t s m reply least (count + 1) looked next
+          pub survey_passed : b ≡ false → Surveying t s m reply least (count + 1) looked next
           survey_passed y =
-              let disabled : least ≡ Disable = disable_is least (sym f ∙ y) in
+              let disabled : least ≡ Disable = disable_is least (rw disable_told at (not-false _ (sym f ∙ y))) in
               let low : overall found ≡ Disable = sym h.so_far ∙ disabled in
               record {
                 front = one_more;
@@ -130,7 +132,7 @@ module _ (t s : List ℕ) (m reply : Bool) where
               }
 
           pub survey_looked :
-              b ≡ false → (one low : Advice) → one ≡ advice_in t m reply (between s from to) → low ≡ lower_of least one
+              b ≡ true → (one low : Advice) → one ≡ advice_in t m reply (between s from to) → low ≡ ord_min (order.ghosts).cmp least one
               → Surveying t s m reply low (count + 1) (count + 1) next
           unfolding advised
           survey_looked n one low e g =
@@ -138,14 +140,14 @@ module _ (t s : List ℕ) (m reply : Bool) where
               ap (λ (n : ℕ). n + 1) (h.many ∙ sym (length-map h.front (advice_in t m reply))) ∙ add-one (length found) in
               let nobody : any_disable found ≡ false =
               by_test (any_disable found)
-              (λ y. absurd (false≢true (sym n ∙ f ∙ rw (h.so_far ∙ any_overall found y))))
+              (λ y. let d : least ≡ Disable = h.so_far ∙ any_overall found y in absurd (false≢true (rw d at (sym f ∙ n))))
               (λ z. z) in
               record {
                 front = one_more;
                 behind = given;
                 many = longer;
                 few = room;
-                so_far = g ∙ rw (e, h.so_far) (sym (ap overall more ∙ overall_last found _));
+                so_far = g ∙ least_is least one ∙ rw (e, h.so_far) (sym (ap overall more ∙ overall_last found _));
                 seen = longer_found ∙ sym (ap first_disable more ∙ first_grows found _ nobody);
               }
 
@@ -153,18 +155,18 @@ module _ (t s : List ℕ) (m reply : Bool) where
     unfolding follows
     ended q = h.behind ∙ rw (hand_end s here k p q, append-nil)
 
-    pub survey_none : k ≡ End → count ≡ 0 → Unfit ≡ survey_of t m reply (addresses s)
+    pub survey_none : k ≡ End → count ≡ 0 → None ≡ survey_of t m reply (addresses s)
     unfolding recipient_list
     survey_none q z = unfit (addresses s) (rw (ended q, sym h.many, z))
 
-    pub survey_all : k ≡ End → (count ≡ 0 → ⊥) → Fit least looked ≡ survey_of t m reply (addresses s)
+    pub survey_all : k ≡ End → (count ≡ 0 → ⊥) → Some (record { advice = least; looked_up = looked }) ≡ survey_of t m reply (addresses s)
     unfolding recipient_list or_else
     survey_all q d =
         let in_range : recipient_list (Some h.front) ≡ true =
         rw (le-leb 1 (length h.front) (omega (arith, h.many)), le-leb (length h.front) most_recipients (omega (arith, h.many, h.few))) in
         cc (h.so_far, h.seen) ∙ fit (Some h.front) in_range ∙ ap (survey_of t m reply) (sym (ended q))
 
-    pub survey_unread : k ≡ Unreadable → Unfit ≡ survey_of t m reply (addresses s)
+    pub survey_unread : k ≡ Unreadable → None ≡ survey_of t m reply (addresses s)
     unfolding recipient_list follows
     survey_unread q = unfit (addresses s) (rw (h.behind, hand_unread s here k p q))
 

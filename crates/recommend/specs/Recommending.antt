@@ -24,7 +24,6 @@ use Rattle.advice.specs.Places.{no_part, target_at}
 use Rattle.advice.specs.declared.Part.{Part}
 use Rattle.recommend.specs.declared.Quick.{Quick}
 use Rattle.recommend.specs.declared.Surveyed.{Surveyed}
-use Rattle.recommend.specs.declared.Surveyed.TheVariants.{Fit, Unfit}
 use Rattle.recommend.specs.declared.Recommended.{Recommended}
 use Rattle.recommend.specs.declared.Recommended.TheVariants.{Done, Refused}
 
@@ -51,10 +50,10 @@ pub record Admits (table tags recipients : List ℕ) (r : Answer) : Type 0 where
   pub opens : r ≡ Admitted → Open table tags
 
 -- R10, A5, A13: what a walk over the list finds: the advice for all, and how many recipients are looked up; or that it is no such list
-unfoldable pub survey_of : List ℕ → Bool → Bool → Option (List (List ℕ)) → Surveyed
+unfoldable pub survey_of : List ℕ → Bool → Bool → Option (List (List ℕ)) → Option Surveyed
 survey_of table is_mutual reply list =
     let all = advised table is_mutual reply (or_else [] list) in
-    elim (recipient_list list) [ true ↦ Fit (overall all) (first_disable all) | false ↦ Unfit ]
+    elim (recipient_list list) [ true ↦ Some (record { advice = overall all; looked_up = first_disable all }) | false ↦ None ]
 
 -- A1, A5: what `recommend` answers: a refusal, or the advice for the whole list
 unfoldable pub recommended_of : List ℕ → List ℕ → Bool → Bool → Recommended

@@ -29,29 +29,30 @@ pub struct Quick {
     pub looked_up: usize,
 }
 
-// What a walk over the list finds: the advice for all recipients and how many were looked up for it; or it is no list of
-// 1 to 100 addresses (R10).
+// What a walk over the list finds: the advice for all recipients and how many were looked up for it.
 #[derive(Clone, Copy)]
-enum Surveyed {
-    Fit { advice: Advice, looked_up: usize },
-    Unfit,
+struct Surveyed {
+    advice: Advice,
+    looked_up: usize,
 }
 
 // R10: at most so many addresses.
 const MOST_RECIPIENTS: usize = 100;
 
 // Is the list readable, and does it give 1 to 100 addresses (R10)?
+#[tactic(auto, using(crate::proofs::Recommending::counting))]
 fn is_recipient_list(list: &[u8]) -> bool
     ensures { result ≡ recipient_list (addresses list.now) }
 {
     match addresslist::count(list) {
-        Counted::Count(n) => (1 <= n) & (n <= MOST_RECIPIENTS),
+        Counted::Count(n) => 1 <= n && n <= MOST_RECIPIENTS,
         Counted::Unreadable => false,
     }
 }
 
 // Refusals 1, 2 and 10: are the table and the list such that a target key can be looked for? The tags of the table come
 // with the answer.
+#[tactic(auto, using(crate::proofs::Recommending::admitting), unfolding(crate::specs::Recommending::refused_recommending, crate::specs::Recommending::recommending_rows))]
 fn admit(table: &[u8], tags: &mut [u32; Slot::MOST], recipients: &[u8]) -> Answer
     requires { length tags.old ≡ most_slots }
     ensures { Admits table.now tags.new recipients.now result }
@@ -70,13 +71,14 @@ fn admit(table: &[u8], tags: &mut [u32; Slot::MOST], recipients: &[u8]) -> Answe
 // One walk over the list: is it one of 1 to 100 addresses (R10), and if so, what is advised for all of them (A5)?
 // Recipients are looked up until one has disable (A12). From there on, addresses are only read (A14): no advice is lower.
 // A 101st address settles it, so nobody behind the 100th is looked up.
+#[tactic(auto, using(crate::proofs::Surveying::surveying))]
 fn survey(
     table: &[u8],
     tags: &[u32; Slot::MOST],
     recipients: &[u8],
     mutual: bool,
     reply: bool,
-) -> Surveyed
+) -> Option<Surveyed>
     requires { Open table.now tags.now }
     ensures { result ≡ survey_of table.now «mutual» reply (addresses recipients.now) }
 {
@@ -88,26 +90,26 @@ fn survey(
         match addresslist::next_address(recipients, here) {
             NextAddress::Address { from, to, next } => {
                 if count == MOST_RECIPIENTS {
-                    return Surveyed::Unfit;
+                    return None;
                 }
                 count += 1;
-                if !advice::is_disable(least) {
+                if least != Advice::Disable {
                     let one = advice::advise(table, tags, &recipients[from..to], mutual, reply);
-                    least = advice::lower(least, one);
+                    least = least.min(one);
                     looked_up = count;
                 }
                 here = next;
             }
             NextAddress::End => {
                 if count == 0 {
-                    return Surveyed::Unfit;
+                    return None;
                 }
-                return Surveyed::Fit {
+                return Some(Surveyed {
                     advice: least,
                     looked_up,
-                };
+                });
             }
-            NextAddress::Unreadable => return Surveyed::Unfit,
+            NextAddress::Unreadable => return None,
         }
     }
 }
@@ -138,6 +140,7 @@ pub fn recommend(table: &[u8], recipients: &[u8], mutual: bool, reply: bool) -> 
 // The same answer for the same arguments, and how many recipients were looked up for it (A12). They are looked up in the
 // order of the list, the first with disable as the last. So the count is the place of that one, from 1, and the length of
 // the list where nobody has disable (A13); it is 0 with a refusal. The list is read to its end all the same (A14).
+#[tactic(auto, using(crate::proofs::Recommending::recommending))]
 pub fn recommend_quick(table: &[u8], recipients: &[u8], mutual: bool, reply: bool) -> Quick
     ensures answer_value { result.answer ≡ recommended_of table.now recipients.now «mutual» reply }
     ensures looked_up_value { result.looked_up ≡ looked_up_of table.now recipients.now «mutual» reply }
@@ -145,11 +148,11 @@ pub fn recommend_quick(table: &[u8], recipients: &[u8], mutual: bool, reply: boo
     let mut tags = [0u32; Slot::MOST];
     match inspect::open_table(table, &mut tags) {
         Answer::Done => match survey(table, &tags, recipients, mutual, reply) {
-            Surveyed::Fit { advice, looked_up } => Quick {
-                answer: Recommended::Done(advice),
-                looked_up,
+            Some(found) => Quick {
+                answer: Recommended::Done(found.advice),
+                looked_up: found.looked_up,
             },
-            Surveyed::Unfit => uncounted(Refusal::Recipients),
+            None => uncounted(Refusal::Recipients),
         },
         Answer::Refused(refusal) => uncounted(refusal),
     }
@@ -160,21 +163,20 @@ pub fn recommend_quick(table: &[u8], recipients: &[u8], mutual: bool, reply: boo
 // (A9), nor on what the whole list gets (A8). Places count addresses in order, those in groups where they stand (A10). The
 // part is empty, with start and length 0, where the recipient has no key, where the place is past the list, and where
 // `recommend` refuses (A7). It is no copy: it means what it meant until the next call that writes the table (A11).
+#[tactic(auto, using(crate::proofs::Recommending::parting))]
 pub fn target_part(table: &[u8], recipients: &[u8], mutual: bool, reply: bool, place: usize) -> Part
     ensures { result ≡ target_part_of table.now recipients.now place }
 {
     let mut tags = [0u32; Slot::MOST];
     match admit(table, &mut tags, recipients) {
         Answer::Done => advice::target_at(table, &tags, recipients, place),
-        Answer::Refused(_) => Part {
-            start: 0,
-            length: 0,
-        },
+        Answer::Refused(_) => Part::EMPTY,
     }
 }
 
 // The octets of that key, where they stand in the table (A6): those that `target_part` tells of with the same arguments,
 // and none where its part is empty.
+#[tactic(auto, using(crate::proofs::Recommending::handing))]
 pub fn target_key<'a>(
     table: &'a [u8],
     recipients: &[u8],

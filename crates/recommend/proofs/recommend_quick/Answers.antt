@@ -1,0 +1,8 @@
+use Rattle.recommend.proofs.Recommending.{recommending}
+use Rattle.recommend.proofs.recommend_quick.Goals as goal
+
+pub returns-in-Some-clause-answer_value : goal.returns-in-Some-clause-answer_value
+returns-in-Some-clause-answer_value c = search recommending
+
+pub returns-in-Refused-clause-answer_value : goal.returns-in-Refused-clause-answer_value
+returns-in-Refused-clause-answer_value c = search recommending
