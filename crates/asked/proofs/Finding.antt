@@ -4,19 +4,22 @@
 --     Seeking what s at place       no such piece stands from `at` up to `place`, and the last piece is the same from both on
 --     seek_begin .. seek_over       the steps of the loop that looks for the first one
 --     found_first .. found_none     what a caller asks of the answer
---     last_over .. last_none        whether there is none behind a piece
+--     last_over, last_found         whether there is none behind a piece
 --     saying_all                    all pieces are those from the beginning on
---     occurs_some, occurs_none      whether there is one at all
+--     occurs_found                  whether there is one at all
 --     the rulesets                  seeking for `find`, ending for `is_last_such`, occurring for `occurs`
 -- Assumes nothing.
 use Prim.Native.Nat.{ℕ, ◌+◌, ◌<◌, ◌≤◌}
 use mathlib.Core.Path.{◌≡◌, refl, sym, ap, ◌∙◌}
 use mathlib.Core.Logic.{⊎_elim}
-use mathlib.Core.Bool.{Bool, true, false}
+use mathlib.Core.Bool.{Bool, true, false, not}
 use mathlib.Core.List.{List, [], ◌∷◌}
+use Rattle.std.specs.Prelude.{Option, Some, None}
+use Rattle.std.specs.Option.{is_some}
+use Rattle.octets.proofs.Options.{by_option}
 use native.Mathlib.Omega.{arith}
 use borrow.Author.Rules.{rules}
-use borrow.Author.Tests.{lt-ltb, le-ltb}
+use borrow.Author.Tests.{lt-ltb, le-ltb, not-true, not-false}
 use lib.ListN.{length}
 use Rattle.octets.proofs.Lists.{lt_or_le}
 use Rattle.pieces.specs.Pieces.{pieces}
@@ -29,7 +32,6 @@ use Rattle.asked.specs.Asked.{is_empty, is_called, value_of, values_called, sayi
 use Rattle.asked.specs.Answers.{ValueAs, saying_from, rest_from, last_from, last_behind, FoundAt, FoundAs}
 use Rattle.asked.specs.declared.Called.{Called}
 use Rattle.asked.specs.declared.Found.{Found}
-use Rattle.asked.specs.declared.Found.TheVariants.{At, Nothing}
 
 -- a piece, and those behind it
 module _ (what : Called) (p : List ℕ) (rest : List (List ℕ)) where
@@ -114,7 +116,7 @@ module _ (what : Called) (s : List ℕ) (at place : ℕ) (h : Seeking what s at 
         unfolding last_of
         found_last l = last_by [] (alone l) ∙ sym c ∙ y ∙ sym (last_alone what s end l)
 
-        pub seek_found : FoundAs what s at (At v.from v.to end)
+        pub seek_found : FoundAs what s at (Some (record { value = v; end = end }))
         unfolding FoundAs
         seek_found =
             ⊎_elim
@@ -128,35 +130,35 @@ module _ (what : Called) (s : List ℕ) (at place : ℕ) (h : Seeking what s at 
         seek_next l =
             record { same = saying_by _ (more l) ∙ values_out what _ _ (sym c ∙ n); last = last_more l; upto = omega arith }
 
-        pub seek_over : length s ≤ end → FoundAs what s at Nothing
+        pub seek_over : length s ≤ end → FoundAs what s at None
         unfolding FoundAs values_called
         seek_over l = saying_by [] (alone l) ∙ values_out what (part s place end) [] (sym c ∙ n)
 
 pub ruleset seeking = (seek_begin, seek_left, seek_within, seek_found, seek_next, seek_over, rules)
 
 -- `find`'s answer, read
-module _ (what : Called) (s : List ℕ) (at : ℕ) (k : Found) (p : FoundAs what s at k) where
-  module _ (from to end : ℕ) (q : k ≡ At from to end) where
-    found : FoundAt what s at from to end
+module _ (what : Called) (s : List ℕ) (at : ℕ) (k : Option Found) (p : FoundAs what s at k) where
+  module _ (f : Found) (q : k ≡ Some f) where
+    found : FoundAt what s at f.value.from f.value.to f.end
     unfolding FoundAs
     found = rw q at p
 
-    pub found_first : saying_from what s at ≡ part s from to ∷ rest_from what s end
+    pub found_first : saying_from what s at ≡ part s f.value.from f.value.to ∷ rest_from what s f.end
     found_first = found.first
 
-    pub found_behind : last_from what s at ≡ last_behind what s end
+    pub found_behind : last_from what s at ≡ last_behind what s f.end
     found_behind = found.last
 
-    pub found_order : from ≤ to
+    pub found_order : f.value.from ≤ f.value.to
     found_order = found.within.order
 
-    pub found_upto : to ≤ length s
+    pub found_upto : f.value.to ≤ length s
     found_upto = found.within.upto
 
-    pub found_end : end ≤ length s
+    pub found_end : f.end ≤ length s
     found_end = found.upto
 
-  pub found_none : k ≡ Nothing → saying_from what s at ≡ []
+  pub found_none : k ≡ None → saying_from what s at ≡ []
   unfolding FoundAs
   found_none q = rw q at p
 
@@ -165,16 +167,15 @@ pub last_over : (what : Called) (s : List ℕ) (end : ℕ) → length s ≤ end 
 unfolding is_empty
 last_over what s end l = rw (rest_over what s end l)
 
-module _ (what : Called) (s : List ℕ) (end : ℕ) (k : Found) (p : FoundAs what s (end + 1) k) (l : end < length s) where
-  pub last_some : (a b c : ℕ) → k ≡ At a b c → false ≡ is_empty (rest_from what s end)
+module _ (what : Called) (s : List ℕ) (end : ℕ) (k : Option Found) (p : FoundAs what s (end + 1) k) (l : end < length s) where
+  pub last_found : (b : Bool) → is_some k ≡ not b → b ≡ is_empty (rest_from what s end)
   unfolding is_empty
-  last_some a b c q = rw (rest_on what s end l, found_first what s (end + 1) k p a b c q)
+  last_found b e =
+      by_option k
+      (λ q. rw (rest_on what s end l, found_none what s (end + 1) k p q) (not-false b (sym (rw q at e))))
+      (λ f q. rw (rest_on what s end l, found_first what s (end + 1) k p f q) (not-true b (sym (rw q at e))))
 
-  pub last_none : k ≡ Nothing → true ≡ is_empty (rest_from what s end)
-  unfolding is_empty
-  last_none q = rw (rest_on what s end l, found_none what s (end + 1) k p q)
-
-pub ruleset ending = (last_over, last_some, last_none, rules)
+pub ruleset ending = (last_over, last_found, rules)
 
 -- all pieces are those from the beginning on
 pub saying_all : (what : Called) (s : List ℕ) → saying what s ≡ saying_from what s 0
@@ -182,13 +183,12 @@ unfolding saying saying_from
 saying_all what s = rw (part_rest s 0)
 
 -- `occurs`
-module _ (what : Called) (s : List ℕ) (k : Found) (p : FoundAs what s 0 k) where
-  pub occurs_some : (a b c : ℕ) → k ≡ At a b c → true ≡ occurs what s
+module _ (what : Called) (s : List ℕ) (k : Option Found) (p : FoundAs what s 0 k) where
+  pub occurs_found : (b : Bool) → b ≡ is_some k → b ≡ occurs what s
   unfolding occurs is_empty
-  occurs_some a b c q = rw (saying_all what s, found_first what s 0 k p a b c q)
+  occurs_found b e =
+      by_option k
+      (λ q. rw (saying_all what s, found_none what s 0 k p q) (rw q at e))
+      (λ f q. rw (saying_all what s, found_first what s 0 k p f q) (rw q at e))
 
-  pub occurs_none : k ≡ Nothing → false ≡ occurs what s
-  unfolding occurs is_empty
-  occurs_none q = rw (saying_all what s, found_none what s 0 k p q)
-
-pub ruleset occurring = (occurs_some, occurs_none, rules)
+pub ruleset occurring = (occurs_found, rules)

@@ -8,7 +8,7 @@ use Prim.Native.Nat.{ℕ, ◌+◌, ◌-◌, ◌<◌, ◌≤◌}
 use mathlib.Core.Path.{◌≡◌, sym, ◌∙◌}
 use mathlib.Core.Bool.{Bool, true, false, ◌&&◌, false≢true, and-false}
 use mathlib.Core.List.{List, [], ◌∷◌}
-use Rattle.std.specs.Prelude.{None}
+use Rattle.std.specs.Prelude.{Option, Some, None}
 use borrow.Author.Rules.{rules}
 use lib.ListN.{length, take, drop}
 use Rattle.octets.specs.Octets.{without_blanks}
@@ -23,7 +23,6 @@ use Rattle.asked.specs.Answers.{saying_from, rest_from, last_from, last_behind, 
 use Rattle.asked.specs.declared.Called.{Called}
 use Rattle.asked.specs.declared.Called.TheVariants.{Keydata}
 use Rattle.asked.specs.declared.Found.{Found}
-use Rattle.asked.specs.declared.Found.TheVariants.{At, Nothing}
 use Rattle.asked.proofs.Finding.{values_in, values_out, rest_on, last_on, last_alone, found_behind, found_order, found_upto, last_over}
 use Rattle.asked.proofs.Single.{only_none, only_more, only_one_lem}
 
@@ -51,29 +50,29 @@ not_one : (s : List ℕ) → only_one (saying Keydata s) ≡ None → false ≡ 
 unfolding is_base64
 not_one s e = sym (key_last s ∙ rw e (and-false (last_from Keydata s 0)))
 
-module _ (s : List ℕ) (k : Found) (p : FoundAs Keydata s 0 k) where
-  pub data_none : k ≡ Nothing → false ≡ has_key_data s
+module _ (s : List ℕ) (k : Option Found) (p : FoundAs Keydata s 0 k) where
+  pub data_none : k ≡ None → false ≡ has_key_data s
   data_none q = not_one s (only_none Keydata s k p q)
 
-  module _ (from to end : ℕ) (q : k ≡ At from to end) where
-    last_is : last_from Keydata s 0 ≡ last_behind Keydata s end
-    last_is = found_behind Keydata s 0 k p from to end q
+  module _ (f : Found) (q : k ≡ Some f) where
+    last_is : last_from Keydata s 0 ≡ last_behind Keydata s f.end
+    last_is = found_behind Keydata s 0 k p f q
 
     -- among the pieces behind it is another `keydata`, or their last is none
-    module _ (l : end < length s) where
-      last_other : is_empty (rest_from Keydata s end) ≡ true → last_from Keydata s 0 ≡ false
-      last_other y = last_is ∙ last_on Keydata s end l ∙ last_without Keydata s (end + 1) (rw (rest_on Keydata s end l) at y)
+    module _ (l : f.end < length s) where
+      last_other : is_empty (rest_from Keydata s f.end) ≡ true → last_from Keydata s 0 ≡ false
+      last_other y = last_is ∙ last_on Keydata s f.end l ∙ last_without Keydata s (f.end + 1) (rw (rest_on Keydata s f.end l) at y)
 
       pub data_early : false ≡ has_key_data s
       data_early =
-          by_test (is_empty (rest_from Keydata s end))
+          by_test (is_empty (rest_from Keydata s f.end))
           (λ y. sym (key_last s ∙ rw (last_other y)))
-          (λ n. not_one s (only_more Keydata s k p from to end q n))
+          (λ n. not_one s (only_more Keydata s k p f q n))
 
-    pub data_told : length s ≤ end → (b : Bool) → b ≡ is_some (decode (without_blanks (take (to - from) (drop from s)))) → b ≡ has_key_data s
+    pub data_told : length s ≤ f.end → (b : Bool) → b ≡ is_some (decode (without_blanks (take (f.value.to - f.value.from) (drop f.value.from s)))) → b ≡ has_key_data s
     unfolding is_base64 part
     data_told l b u =
-        let one = only_one_lem Keydata s k p from to end q (sym (last_over Keydata s end l)) in
-        u ∙ sym (key_last s ∙ rw (last_is, last_alone Keydata s end l, one))
+        let one = only_one_lem Keydata s k p f q (sym (last_over Keydata s f.end l)) in
+        u ∙ sym (key_last s ∙ rw (last_is, last_alone Keydata s f.end l, one))
 
 pub ruleset telling = (data_none, data_early, data_told, found_order, found_upto, rules)

@@ -1,5 +1,5 @@
 -- The name and the value of a piece. (`=` is 61.)
---     known_empty, known_as          whether a name is unknown
+--     known_empty .. known_other     whether a name is unknown
 --     called_none .. called_so       whether a piece has such a name
 --     value_none, value_some         where its value stands
 --     name_order, name_upto          and its name
@@ -7,10 +7,12 @@
 -- Assumes nothing.
 use Prim.Native.Nat.{ℕ, ◌+◌, ◌-◌, ◌<◌, ◌≤◌}
 use mathlib.Core.Path.{◌≡◌, refl, sym, ap, ◌∙◌}
-use mathlib.Core.Bool.{Bool, false}
+use mathlib.Core.Bool.{Bool, true, false, not, ◌&&◌}
 use mathlib.Core.List.{List, [], ◌∷◌}
 use native.Mathlib.Omega.{arith}
 use borrow.Author.Rules.{rules}
+use borrow.Author.Tests.{not-false, eqb-true}
+use lib.Dec.{eqb}
 use lib.ListN.{length, take, drop}
 use Rattle.octets.proofs.Lists.{drop_done}
 use Rattle.pieces.specs.Pieces.{before, behind}
@@ -19,6 +21,7 @@ use Rattle.attributes.specs.Attribute.{trimmed_front, trimmed_back, trimmed, nam
 use Rattle.attributes.specs.Answers.{part, Within, FirstAt, Trimmed}
 use Rattle.attributes.specs.declared.Bounds.{Bounds}
 use Rattle.attributes.specs.declared.Name.{Name}
+use Rattle.attributes.specs.declared.Name.TheVariants as Names
 use Rattle.attributes.proofs.Parts.{part_none, part_length}
 use Rattle.attributes.proofs.Cutting.{cut_before, cut_behind, cut_holds, cut_without}
 use Rattle.attributes.proofs.Naming.{name_within, value_within}
@@ -26,18 +29,37 @@ use Rattle.asked.specs.Asked.{is_empty, is_other, is_unknown, is_name, is_called
 use Rattle.asked.specs.Answers.{ValueAs}
 use Rattle.asked.specs.declared.Called.{Called}
 
-pub known_empty : (s : List ℕ) → length s ≡ 0 → false ≡ is_unknown s
+pub known_empty : (s : List ℕ) (b : Bool) → b ≡ eqb (length s) 0 → not b ≡ false → not b ≡ is_unknown s
 unfolding is_unknown is_empty
-known_empty [] e = refl
-known_empty (x ∷ s) e = absurd (omega arith)
+known_empty [] b e n = n
+known_empty (x ∷ s) b e n = let z : length (x ∷ s) ≡ 0 = eqb-true (length (x ∷ s)) 0 (sym e ∙ not-false b n) in absurd (omega arith)
 
 -- a name that is not empty is what F5 says
-pub known_as : (s : List ℕ) (b : Bool) (g k : Name) → (length s ≡ 0 → ⊥) → g ≡ name_of s → g ≡ k → b ≡ is_other k → b ≡ is_unknown s
-unfolding is_unknown is_empty
-known_as [] b g k h q e r = absurd (h refl)
-known_as (x ∷ s) b g k h q e r = r ∙ ap is_other (sym e ∙ q)
+module _ (s : List ℕ) (g : Name) (e : g ≡ name_of s) (h : 0 < length s) where
+  pub known_as : is_other g ≡ is_unknown s
+  unfolding is_unknown is_empty
+  known_as = go s h (ap is_other e)
+    where
+      go : (t : List ℕ) → 0 < length t → is_other g ≡ is_other (name_of t) → is_other g ≡ (not (is_empty t) && is_other (name_of t))
+      go [] l q = absurd (omega arith)
+      go (x ∷ t) l q = q
 
-pub ruleset knowing = (known_empty, known_as, rules)
+  pub known_unknown : g ≡ Names.Unknown → true ≡ is_unknown s
+  unfolding is_other
+  known_unknown q = rw q at known_as
+
+  pub known_other : (g ≡ Names.Unknown → ⊥) → false ≡ is_unknown s
+  unfolding is_other
+  known_other n = go g n known_as
+    where
+      go : (k : Name) → (k ≡ Names.Unknown → ⊥) → is_other k ≡ is_unknown s → false ≡ is_unknown s
+      go Names.Addr m q = q
+      go Names.PreferEncrypt m q = q
+      go Names.Keydata m q = q
+      go Names.Ignored m q = q
+      go Names.Unknown m q = absurd (m refl)
+
+pub ruleset knowing = (known_empty, known_unknown, known_other, rules)
 
 module _ (s : List ℕ) (from to cut : ℕ) (w : Within s from to) (f : FirstAt s from to 61 cut) where
   pub called_none : (what : Called) → to ≤ cut → false ≡ is_called what (part s from to)

@@ -5,19 +5,16 @@
 --     FoundAt, FoundAs        the first of these pieces
 --     NamedAt, NamedAs        where the one address stands
 use Rattle.std.specs.Prelude.{ℕ, ◌+◌, ◌≤◌, ◌≡◌, Bool, true, cond, List, [], ◌∷◌, ltb, length}
-use Rattle.std.specs.Prelude.{Some, None}
+use Rattle.std.specs.Prelude.{Option, Some, None}
 use Rattle.octets.specs.Octets.{octet}
 use Rattle.pieces.specs.Pieces.{pieces}
 use Rattle.address.specs.Address.{canonical}
 use Rattle.attributes.specs.Answers.{part, Within}
 use Rattle.attributes.specs.Steps.{PlainAt}
 use Rattle.attributes.specs.declared.Bounds.{Bounds}
-use Rattle.attributes.specs.declared.AddressAt.{AddressAt}
-use Rattle.attributes.specs.declared.AddressAt.TheVariants.{Unseen, At as Standing}
 use Rattle.asked.specs.Asked.{is_called, value_of, values_called, last_of, named}
 use Rattle.asked.specs.declared.Called.{Called}
 use Rattle.asked.specs.declared.Found.{Found}
-use Rattle.asked.specs.declared.Found.TheVariants.{At, Nothing}
 
 -- F2: between the places stands the value of the piece that stands between the others
 pub record ValueAs (s : List ℕ) (from to : ℕ) (r : Bounds) : Type 0 where
@@ -47,15 +44,15 @@ pub record FoundAt (what : Called) (s : List ℕ) (at from to end : ℕ) : Type 
   pub within : Within s from to
   pub upto : end ≤ length s
 
-unfoldable pub FoundAs : Called → List ℕ → ℕ → Found → Type 0
-FoundAs what s at (At from to end) = FoundAt what s at from to end
-FoundAs what s at Nothing = saying_from what s at ≡ []
+unfoldable pub FoundAs : Called → List ℕ → ℕ → Option Found → Type 0
+FoundAs what s at (Some f) = FoundAt what s at f.value.from f.value.to f.end
+FoundAs what s at None = saying_from what s at ≡ []
 
 -- O6: the address that the value names stands between two places, as it was given.
 pub record NamedAt (s : List ℕ) (from to : ℕ) : Type 0 where
   pub is : named s ≡ Some (canonical (part s from to))
   pub stands : PlainAt s from to
 
-unfoldable pub NamedAs : List ℕ → AddressAt → Type 0
-NamedAs s (Standing from to) = NamedAt s from to
-NamedAs s Unseen = named s ≡ None
+unfoldable pub NamedAs : List ℕ → Option Bounds → Type 0
+NamedAs s (Some at) = NamedAt s at.from at.to
+NamedAs s None = named s ≡ None

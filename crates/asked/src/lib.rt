@@ -8,7 +8,7 @@ ghost use Rattle.attributes.specs.Answers.{part, Within};
 ghost use Rattle.asked.specs.Asked.{is_empty, is_unknown, is_name, is_called, occurs as occurs_in, has_key_data};
 ghost use Rattle.asked.specs.Answers.{ValueAs, FoundAs, rest_from, NamedAs};
 
-use attributes::{AddressAt, Bounds, Name};
+use attributes::{Bounds, Name};
 
 // What the pieces are that are asked for: those of a name that fields have, and those of an unknown one (O7).
 #[derive(Clone, Copy)]
@@ -19,27 +19,19 @@ pub enum Called {
     Unknown,
 }
 
-// A piece: where its value stands, without the blanks around it, and where the piece ends; or there is none.
+// A piece: where its value stands, without the blanks around it, and where the piece ends.
 #[derive(Clone, Copy)]
-enum Found {
-    At { from: usize, to: usize, end: usize },
-    Nothing,
+struct Found {
+    value: Bounds,
+    end: usize,
 }
 
 // Is the name unknown? One that opens with `_` is ignored, and an empty one is no name (O7).
+#[tactic(auto, using(crate::proofs::Naming::knowing))]
 fn is_unknown(name: &[u8]) -> bool
     ensures { result ≡ is_unknown name.now }
 {
-    if name.len() == 0 {
-        return false;
-    }
-    match attributes::name_of(name) {
-        Name::Addr => false,
-        Name::PreferEncrypt => false,
-        Name::Keydata => false,
-        Name::Ignored => false,
-        Name::Unknown => true,
-    }
+    !name.is_empty() && matches!(attributes::name_of(name), Name::Unknown)
 }
 
 // Is it a name of those that are asked for? Names are compared octet by octet (F4).
@@ -56,6 +48,7 @@ fn is_name(name: &[u8], what: Called) -> bool
 }
 
 // Has the piece from `from` up to `to` such a name? Without `=` it has none (O7).
+#[tactic(auto, using(crate::proofs::Naming::calling))]
 fn is_called(s: &[u8], from: usize, to: usize, what: Called) -> bool
     requires { Within s.now from to }
     ensures { result ≡ is_called what (part s.now from to) }
@@ -65,12 +58,11 @@ fn is_called(s: &[u8], from: usize, to: usize, what: Called) -> bool
         return false;
     }
     let name = attributes::trim(s, from, cut);
-    let start = name.from;
-    let end = name.to;
-    is_name(&s[start..end], what)
+    is_name(&s[name.from..name.to], what)
 }
 
 // Where the value of the piece from `from` up to `to` stands, without the blanks around it. Without `=` it is empty.
+#[tactic(auto, using(crate::proofs::Naming::valuing))]
 fn value_at(s: &[u8], from: usize, to: usize) -> Bounds
     requires { Within s.now from to }
     ensures { ValueAs s.now from to result }
@@ -83,7 +75,8 @@ fn value_at(s: &[u8], from: usize, to: usize) -> Bounds
 }
 
 // The first such piece from the place `at` on, where a piece begins.
-fn find(s: &[u8], at: usize, what: Called) -> Found
+#[tactic(auto, using(crate::proofs::Finding::seeking))]
+fn find(s: &[u8], at: usize, what: Called) -> Option<Found>
     requires { at ≤ length s.now }
     ensures { FoundAs what s.now at result }
 {
@@ -92,20 +85,17 @@ fn find(s: &[u8], at: usize, what: Called) -> Found
         let end = attributes::find(s, place, s.len(), b';');
         if is_called(s, place, end, what) {
             let value = value_at(s, place, end);
-            return Found::At {
-                from: value.from,
-                to: value.to,
-                end,
-            };
+            return Some(Found { value, end });
         }
         if s.len() <= end {
-            return Found::Nothing;
+            return None;
         }
         place = end + 1;
     }
 }
 
 // Is there no such piece behind the one that ends at `end`?
+#[tactic(auto, using(crate::proofs::Finding::ending))]
 fn is_last_such(s: &[u8], end: usize, what: Called) -> bool
     requires { end ≤ length s.now }
     ensures { result ≡ is_empty (rest_from what s.now end) }
@@ -113,60 +103,40 @@ fn is_last_such(s: &[u8], end: usize, what: Called) -> bool
     if s.len() <= end {
         return true;
     }
-    match find(s, end + 1, what) {
-        Found::At {
-            from: _,
-            to: _,
-            end: _,
-        } => false,
-        Found::Nothing => true,
-    }
+    find(s, end + 1, what).is_none()
 }
 
 // Is there such a piece (O7, O9)?
+#[tactic(auto, using(crate::proofs::Finding::occurring))]
 pub fn occurs(s: &[u8], what: Called) -> bool
     ensures { result ≡ occurs_in what s.now }
 {
-    match find(s, 0, what) {
-        Found::At {
-            from: _,
-            to: _,
-            end: _,
-        } => true,
-        Found::Nothing => false,
-    }
+    find(s, 0, what).is_some()
 }
 
 // Where the address stands that the value names: that of its one `addr`, where this is plain (O6).
-pub fn named_at(s: &[u8]) -> AddressAt
+#[tactic(auto, using(crate::proofs::Addressed::addressing))]
+pub fn named_at(s: &[u8]) -> Option<Bounds>
     ensures { NamedAs s.now result }
 {
-    match find(s, 0, Called::Addr) {
-        Found::At { from, to, end } => {
-            if !is_last_such(s, end, Called::Addr) {
-                return AddressAt::Unseen;
-            }
-            if address::is_plain(&s[from..to]) {
-                return AddressAt::At(from, to);
-            }
-            AddressAt::Unseen
-        }
-        Found::Nothing => AddressAt::Unseen,
+    let Found { value, end } = find(s, 0, Called::Addr)?;
+    if is_last_such(s, end, Called::Addr) && address::is_plain(&s[value.from..value.to]) {
+        return Some(value);
     }
+    None
 }
 
 // Is the key data as it should be: one `keydata`, the last piece, and Base64 (O8)? If the first is the last piece there is no
 // other.
+#[tactic(auto, using(crate::proofs::KeyData::telling))]
 pub fn has_key_data(s: &[u8]) -> bool
     ensures { result ≡ has_key_data s.now }
 {
-    match find(s, 0, Called::Keydata) {
-        Found::At { from, to, end } => {
-            if end < s.len() {
-                return false;
-            }
-            keydata::is_base64(&s[from..to])
-        }
-        Found::Nothing => false,
+    let Some(Found { value, end }) = find(s, 0, Called::Keydata) else {
+        return false;
+    };
+    if end < s.len() {
+        return false;
     }
+    keydata::is_base64(&s[value.from..value.to])
 }

@@ -83,15 +83,15 @@ module _ (s : List ℕ) (from to cut : ℕ) (w : Within s from to) (f : FirstAt 
               ← e,
             )
 
-        pub told_addr : g ≡ NAddr → Tells s (Addr v.from v.to) (attribute_of (part s from to))
+        pub told_addr : g ≡ NAddr → Tells s (Addr v) (attribute_of (part s from to))
         unfolding attribute attribute_at ValueWithin
         told_addr k = record { is = sym (named ∙ rw k); within = value_there }
 
-        pub told_prefer : g ≡ NPrefer → Tells s (PreferEncrypt v.from v.to) (attribute_of (part s from to))
+        pub told_prefer : g ≡ NPrefer → Tells s (PreferEncrypt v) (attribute_of (part s from to))
         unfolding attribute attribute_at ValueWithin
         told_prefer k = record { is = sym (named ∙ rw k); within = value_there }
 
-        pub told_keydata : g ≡ NKeydata → Tells s (Keydata v.from v.to) (attribute_of (part s from to))
+        pub told_keydata : g ≡ NKeydata → Tells s (Keydata v) (attribute_of (part s from to))
         unfolding attribute attribute_at ValueWithin
         told_keydata k = record { is = sym (named ∙ rw k); within = value_there }
 

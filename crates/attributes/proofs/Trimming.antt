@@ -84,9 +84,6 @@ module _ (s : List ℕ) (from to : ℕ) where
   back_begin h = record { low = h.order; upto = omega arith; inside = h.upto; so_far = refl }
 
   module _ (i : ℕ) (h : Back s from to i) where
-    pub back_read : from < i → i - 1 < length s
-    back_read l = omega arith
-
     pub back_end : i ≤ from → TrimmedTo s from to i
     unfolding trimmed_back trimmed_front
     back_end l =
@@ -114,7 +111,7 @@ module _ (s : List ℕ) (from to : ℕ) where
             high = h.upto;
           }
 
-pub ruleset trimming_back = (back_begin, back_read, back_next, back_stop, back_end, rules)
+pub ruleset trimming_back = (back_begin, back_next, back_stop, back_end, rules)
 
 -- both ends together, as `trim` has them
 pub trim_both : (s : List ℕ) (from to start end : ℕ) → TrimmedFrom s from to start → TrimmedTo s start to end → Trimmed s from to (record { from = start; to = end })

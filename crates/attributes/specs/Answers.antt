@@ -47,16 +47,16 @@ pub record Trimmed (s : List ℕ) (from to : ℕ) (r : Bounds) : Type 0 where
   pub is : part s r.from r.to ≡ trimmed (part s from to)
 
 unfoldable pub attribute_at : List ℕ → Told → Attribute
-attribute_at s (Addr from to) = addr (part s from to)
-attribute_at s (PreferEncrypt from to) = prefer_encrypt (part s from to)
-attribute_at s (Keydata from to) = keydata (part s from to)
+attribute_at s (Addr v) = addr (part s v.from v.to)
+attribute_at s (PreferEncrypt v) = prefer_encrypt (part s v.from v.to)
+attribute_at s (Keydata v) = keydata (part s v.from v.to)
 attribute_at s Ignored = ignored
 attribute_at s Spoiling = spoiling
 
 unfoldable pub ValueWithin : List ℕ → Told → Type 0
-ValueWithin s (Addr from to) = Within s from to
-ValueWithin s (PreferEncrypt from to) = Within s from to
-ValueWithin s (Keydata from to) = Within s from to
+ValueWithin s (Addr v) = Within s v.from v.to
+ValueWithin s (PreferEncrypt v) = Within s v.from v.to
+ValueWithin s (Keydata v) = Within s v.from v.to
 ValueWithin s Ignored = Unit
 ValueWithin s Spoiling = Unit
 

@@ -7,16 +7,15 @@ use Rattle.std.specs.Prelude.{Option, Some, None}
 use Rattle.address.specs.Address.{plain}
 use Rattle.attributes.specs.Step.{Step, on, last, spoils}
 use Rattle.attributes.specs.Answers.{part, Within}
-use Rattle.attributes.specs.declared.AddressAt.{AddressAt}
-use Rattle.attributes.specs.declared.AddressAt.TheVariants.{Unseen, At}
+use Rattle.attributes.specs.declared.Bounds.{Bounds}
 use Rattle.attributes.specs.declared.Preference.{Preference}
 use Rattle.attributes.specs.declared.Preference.TheVariants.{Unstated, Stated}
 use Rattle.attributes.specs.declared.NextPiece.{NextPiece}
 use Rattle.attributes.specs.declared.NextPiece.TheVariants.{On, Last, Spoils}
 
-unfoldable pub address_at : List ℕ → AddressAt → Option (List ℕ)
-address_at s Unseen = None
-address_at s (At from to) = Some (part s from to)
+unfoldable pub address_at : List ℕ → Option Bounds → Option (List ℕ)
+address_at s None = None
+address_at s (Some at) = Some (part s at.from at.to)
 
 -- F6: a plain address stands there
 pub record PlainAt (s : List ℕ) (from to : ℕ) : Type 0 where
@@ -24,9 +23,9 @@ pub record PlainAt (s : List ℕ) (from to : ℕ) : Type 0 where
   pub upto : to ≤ length s
   pub plainly : plain (part s from to) ≡ true
 
-unfoldable pub Stands : List ℕ → AddressAt → Type 0
-Stands s Unseen = Unit
-Stands s (At from to) = PlainAt s from to
+unfoldable pub Stands : List ℕ → Option Bounds → Type 0
+Stands s None = Unit
+Stands s (Some at) = PlainAt s at.from at.to
 
 unfoldable pub stated : Preference → Option Bool
 stated Unstated = None
@@ -34,12 +33,12 @@ stated (Stated m) = Some m
 
 unfoldable pub step_at : List ℕ → NextPiece → Step
 step_at s (On place preference) = on (address_at s place) (stated preference)
-step_at s (Last from to) = last (part s from to)
+step_at s (Last v) = last (part s v.from v.to)
 step_at s Spoils = spoils
 
 unfoldable pub NextWithin : List ℕ → NextPiece → Type 0
 NextWithin s (On place preference) = Stands s place
-NextWithin s (Last from to) = Within s from to
+NextWithin s (Last v) = Within s v.from v.to
 NextWithin s Spoils = Unit
 
 -- an answer shows this step

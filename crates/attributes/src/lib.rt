@@ -31,18 +31,11 @@ pub enum Name {
 // What a piece says, with the place of its value.
 #[derive(Clone, Copy)]
 enum Attribute {
-    Addr(usize, usize),
-    PreferEncrypt(usize, usize),
-    Keydata(usize, usize),
+    Addr(Bounds),
+    PreferEncrypt(Bounds),
+    Keydata(Bounds),
     Ignored,
     Spoiling,
-}
-
-// The address seen so far.
-#[derive(Clone, Copy)]
-pub enum AddressAt {
-    Unseen,
-    At(usize, usize),
 }
 
 // The preference seen so far: whether it was `mutual`, where one was stated.
@@ -52,15 +45,17 @@ pub enum Preference {
     Stated(bool),
 }
 
-// What a piece comes to: the reading goes on, it is at the key data (F8), or the field is spoiled.
+// What a piece comes to: the reading goes on with the address and the preference seen so far, it is at the key data (F8), or
+// the field is spoiled.
 #[derive(Clone, Copy)]
 pub enum NextPiece {
-    On(AddressAt, Preference),
-    Last(usize, usize),
+    On(Option<Bounds>, Preference),
+    Last(Bounds),
     Spoils,
 }
 
 // The first place from `from` on where an `x` stands; `to` where none stands before that.
+#[tactic(auto, using(crate::proofs::Finding::finding))]
 pub fn find(s: &[u8], from: usize, to: usize, x: u8) -> usize
     requires { Within s.now from to }
     ensures { FirstAt s.now from to x result }
@@ -70,6 +65,7 @@ pub fn find(s: &[u8], from: usize, to: usize, x: u8) -> usize
 }
 
 // The first place from `from` on where no blank stands.
+#[tactic(auto, using(crate::proofs::Trimming::trimming_front))]
 fn skip_blanks(s: &[u8], from: usize, to: usize) -> usize
     requires { Within s.now from to }
     ensures { TrimmedFrom s.now from to result }
@@ -79,31 +75,28 @@ fn skip_blanks(s: &[u8], from: usize, to: usize) -> usize
 }
 
 // The place behind the last octet before `to` that is no blank.
+#[tactic(auto, using(crate::proofs::Trimming::trimming_back))]
 fn leave_blanks(s: &[u8], from: usize, to: usize) -> usize
     requires { Within s.now from to }
     ensures { TrimmedTo s.now from to result }
 {
-    let mut i = to;
-    while from < i {
-        if !octets::is_blank(s[i - 1]) {
-            return i;
+    for i in (from..to).rev() {
+        if !octets::is_blank(s[i]) {
+            return i + 1;
         }
-        i -= 1;
     }
-    i
+    from
 }
 
 // The places that are left when the blanks at both ends are taken off (F2).
+#[tactic(auto, using(crate::proofs::Trimming::trimming))]
 pub fn trim(s: &[u8], from: usize, to: usize) -> Bounds
     requires { Within s.now from to }
     ensures { Trimmed s.now from to result }
 {
-    let start = skip_blanks(s, from, to);
-    let end = leave_blanks(s, start, to);
-    Bounds {
-        from: start,
-        to: end,
-    }
+    let from = skip_blanks(s, from, to);
+    let to = leave_blanks(s, from, to);
+    Bounds { from, to }
 }
 
 // Which name it is. Names are compared octet by octet (F4).
@@ -127,6 +120,7 @@ pub fn name_of(name: &[u8]) -> Name
 }
 
 // What the piece from `from` up to `to` says. Without `=` it spoils the field (F3).
+#[tactic(auto, using(crate::proofs::Naming::telling))]
 fn attribute_at(s: &[u8], from: usize, to: usize) -> Attribute
     requires { Within s.now from to }
     ensures { Tells s.now result (attribute_of (part s.now from to)) }
@@ -137,54 +131,47 @@ fn attribute_at(s: &[u8], from: usize, to: usize) -> Attribute
     }
     let name = trim(s, from, cut);
     let value = trim(s, cut + 1, to);
-    let start = name.from;
-    let end = name.to;
-    match name_of(&s[start..end]) {
-        Name::Addr => Attribute::Addr(value.from, value.to),
-        Name::PreferEncrypt => Attribute::PreferEncrypt(value.from, value.to),
-        Name::Keydata => Attribute::Keydata(value.from, value.to),
+    match name_of(&s[name.from..name.to]) {
+        Name::Addr => Attribute::Addr(value),
+        Name::PreferEncrypt => Attribute::PreferEncrypt(value),
+        Name::Keydata => Attribute::Keydata(value),
         Name::Ignored => Attribute::Ignored,
         Name::Unknown => Attribute::Spoiling,
     }
 }
 
 // The address: once, and a plain one (F6).
-fn with_address(
-    s: &[u8],
-    from: usize,
-    to: usize,
-    address: AddressAt,
-    preference: Preference,
-) -> NextPiece
-    requires { Within s.now from to }
-    ensures { Steps s.now result (with_address (address_at s.now address) (stated preference) (part s.now from to)) }
+#[tactic(auto, using(crate::proofs::Stepping::addressing))]
+fn with_address(s: &[u8], at: Bounds, address: Option<Bounds>, preference: Preference) -> NextPiece
+    requires { Within s.now at.from at.to }
+    ensures { Steps s.now result
+        (with_address (address_at s.now address) (stated preference) (part s.now at.from at.to)) }
 {
-    match address {
-        AddressAt::Unseen => {
-            if address::is_plain(&s[from..to]) {
-                NextPiece::On(AddressAt::At(from, to), preference)
-            } else {
-                NextPiece::Spoils
-            }
-        }
-        AddressAt::At(_, _) => NextPiece::Spoils,
+    if address.is_some() {
+        return NextPiece::Spoils;
+    }
+    if address::is_plain(&s[at.from..at.to]) {
+        NextPiece::On(Some(at), preference)
+    } else {
+        NextPiece::Spoils
     }
 }
 
 // The preference: once at most, and any value but `mutual` says that there is none (F7).
+#[tactic(auto, using(crate::proofs::Stepping::preferring))]
 fn with_preference(
     s: &[u8],
-    from: usize,
-    to: usize,
-    address: AddressAt,
+    at: Bounds,
+    address: Option<Bounds>,
     preference: Preference,
 ) -> NextPiece
-    requires { Within s.now from to × Stands s.now address }
-    ensures { Steps s.now result (with_preference (address_at s.now address) (stated preference) (part s.now from to)) }
+    requires { Within s.now at.from at.to × Stands s.now address }
+    ensures { Steps s.now result
+        (with_preference (address_at s.now address) (stated preference) (part s.now at.from at.to)) }
 {
     match preference {
         Preference::Unstated => {
-            let mutual = octets::same(&s[from..to], b"mutual");
+            let mutual = octets::same(&s[at.from..at.to], b"mutual");
             NextPiece::On(address, Preference::Stated(mutual))
         }
         Preference::Stated(_) => NextPiece::Spoils,
@@ -192,11 +179,12 @@ fn with_preference(
 }
 
 // What the piece from `from` up to `to` comes to, behind the address and the preference seen so far.
+#[tactic(auto, using(crate::proofs::Stepping::stepping))]
 pub fn step_at(
     s: &[u8],
     from: usize,
     to: usize,
-    address: AddressAt,
+    address: Option<Bounds>,
     preference: Preference,
 ) -> NextPiece
     requires { Within s.now from to × Stands s.now address }
@@ -204,9 +192,9 @@ pub fn step_at(
         (step (address_at s.now address) (stated preference) (attribute_of (part s.now from to))) }
 {
     match attribute_at(s, from, to) {
-        Attribute::Addr(start, end) => with_address(s, start, end, address, preference),
-        Attribute::PreferEncrypt(start, end) => with_preference(s, start, end, address, preference),
-        Attribute::Keydata(start, end) => NextPiece::Last(start, end),
+        Attribute::Addr(value) => with_address(s, value, address, preference),
+        Attribute::PreferEncrypt(value) => with_preference(s, value, address, preference),
+        Attribute::Keydata(value) => NextPiece::Last(value),
         Attribute::Ignored => NextPiece::On(address, preference),
         Attribute::Spoiling => NextPiece::Spoils,
     }

@@ -3,7 +3,7 @@
 --     effective-..        a branch of the code, and what the definition says
 --     effective_upto      it is not above the receipt time (D2)
 -- Assumes nothing.
-use Prim.Native.Nat.{ℕ, ◌≤◌, ◌<◌}
+use Prim.Native.Nat.{ℕ, ◌≤◌, min}
 use mathlib.Core.Path.{◌≡◌, refl}
 use Rattle.std.specs.Prelude.{Option, Some, None}
 use native.Mathlib.Omega.{arith}
@@ -23,16 +23,11 @@ module _ (date : Dated) (receipt : ℕ) where
   unfolding effective_date option_of
   effective_none q = rw q
 
-  module _ (n : ℕ) (q : date ≡ Available n) where
-    pub effective_date_lem : n < receipt → n ≡ effective_date (option_of date) receipt
-    unfolding effective_date option_of
-    effective_date_lem h = rw q (omega arith)
+  pub effective_some : (n : ℕ) → date ≡ Available n → min n receipt ≡ effective_date (option_of date) receipt
+  unfolding effective_date option_of
+  effective_some n q = rw q
 
-    pub effective_receipt : receipt ≤ n → receipt ≡ effective_date (option_of date) receipt
-    unfolding effective_date option_of
-    effective_receipt h = rw q (omega arith)
-
-pub ruleset effects = (effective_none, effective_date_lem, effective_receipt, rules)
+pub ruleset effects = (effective_none, effective_some, rules)
 
 pub effective_upto : (o : Option ℕ) (receipt : ℕ) → effective_date o receipt ≤ receipt
 unfolding effective_date

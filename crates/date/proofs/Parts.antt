@@ -8,7 +8,7 @@
 use Prim.Native.Nat.{ℕ, ◌+◌, ◌-◌, ◌≤◌, ◌<◌}
 use mathlib.Core.Path.{◌≡◌, refl}
 use mathlib.Core.List.{List}
-use Rattle.std.specs.Prelude.{Option}
+use Rattle.std.specs.Prelude.{Option, Some, None}
 use borrow.Author.Rules.{rules}
 use borrow.Author.Tests.{le-leb, lt-leb}
 use lib.ListN.{drop}
@@ -22,8 +22,7 @@ use Rattle.datewords.specs.declared.token.WordAt.TheVariants.{Between, End, Unre
 use Rattle.datewords.specs.declared.meaning.Place.TheVariants.{East, West}
 use Rattle.datewords.specs.declared.meaning.Meaning.{Meaning}
 use Rattle.datewords.specs.declared.meaning.Meaning.TheVariants.{Value, Nothing}
-use Rattle.date.specs.declared.PartRead.{PartRead}
-use Rattle.date.specs.declared.PartRead.TheVariants.{Got, Missing}
+use Rattle.date.specs.declared.Part.{Part}
 use Rattle.date.specs.declared.Dated.{Dated}
 use Rattle.date.specs.declared.Dated.TheVariants.{Available, Unavailable}
 use Rattle.datewords.proofs.Digits.{value_is, nothing_is}
@@ -47,31 +46,31 @@ module _ (year month day : ℕ) where
 pub ruleset existence = (exists_none, exists_past, exists_day, rules)
 
 module _ (s : List ℕ) (to : ℕ) (o : Option ℕ) (m : Meaning) (e : m ≡ meaning o) where
-  pub value_read : (n : ℕ) → m ≡ Value n → read_in s (Got n to) ≡ read_of o (drop to s)
+  pub value_read : (n : ℕ) → m ≡ Value n → read_in s (Some (record { value = n; to = to })) ≡ read_of o (drop to s)
   unfolding read_in read_of
   value_read n q = rw (value_is o m n e q)
 
-  pub nothing_read : m ≡ Nothing → read_in s Missing ≡ read_of o (drop to s)
+  pub nothing_read : m ≡ Nothing → read_in s None ≡ read_of o (drop to s)
   unfolding read_in read_of
   nothing_read q = rw (nothing_is o m e q)
 
-pub got_read : (s : List ℕ) (to n m : ℕ) → n ≡ m → read_in s (Got n to) ≡ got m (drop to s)
+pub got_read : (s : List ℕ) (to n m : ℕ) → n ≡ m → read_in s (Some (record { value = n; to = to })) ≡ got m (drop to s)
 unfolding read_in
 got_read s to n m e = rw e
 
 pub ruleset parts = (then_got, then_missing, value_read, nothing_read, got_read, ranges, rules)
 
-module _ (s u : List ℕ) (local : ℕ) (g : PartRead) (e : read_in s g ≡ next East u) where
-  pub zone_east : (o to n : ℕ) → g ≡ Got o to → n ≡ local - o → read_in s (Got n to) ≡ zoned local u
+module _ (s u : List ℕ) (local : ℕ) (g : Option Part) (e : read_in s g ≡ next East u) where
+  pub zone_east : (o : Part) (n to : ℕ) → g ≡ Some o → n ≡ local - o.value → to ≡ o.to → read_in s (Some (record { value = n; to = to })) ≡ zoned local u
   unfolding zoned read_in
-  zone_east o to n q p = rw (zoned, read_got s g (next East u) e o to q, p)
+  zone_east o n to q p r = rw (zoned, read_got s g (next East u) e o q, p, r)
 
-  module _ (q : g ≡ Missing) (h : PartRead) (p : read_in s h ≡ next West u) where
-    pub zone_west : (o to : ℕ) → h ≡ Got o to → read_in s (Got (local + o) to) ≡ zoned local u
+  module _ (q : g ≡ None) (h : Option Part) (p : read_in s h ≡ next West u) where
+    pub zone_west : (o : Part) (n to : ℕ) → h ≡ Some o → n ≡ local + o.value → to ≡ o.to → read_in s (Some (record { value = n; to = to })) ≡ zoned local u
     unfolding zoned and_then read_in
-    zone_west o to r = rw (zoned, read_missing s g (next East u) e q, read_got s h (next West u) p o to r)
+    zone_west o n to r v w = rw (zoned, read_missing s g (next East u) e q, read_got s h (next West u) p o r, v, w)
 
-    pub zone_missing : h ≡ Missing → read_in s Missing ≡ zoned local u
+    pub zone_missing : h ≡ None → read_in s None ≡ zoned local u
     unfolding zoned and_then read_in
     zone_missing r = rw (zoned, read_missing s g (next East u) e q, read_missing s h (next West u) p r)
 
@@ -97,20 +96,20 @@ module _ (s u : List ℕ) (n : ℕ) (g : WordAt) (e : token_in s g ≡ first_tok
 pub ruleset endings = (end_here, end_more, end_unreadable, rules)
 
 -- the Date, where the reader's answer g is u
-module _ (s : List ℕ) (g : PartRead) (u : Read) (e : read_in s g ≡ u) where
-  pub date_last : (n to : ℕ) (r : Dated) → g ≡ Got n to → r ≡ dated_of (ended (got n (drop to s))) → r ≡ dated_of (ended u)
-  date_last n to r q h = rw (read_got s g u e n to q) h
+module _ (s : List ℕ) (g : Option Part) (u : Read) (e : read_in s g ≡ u) where
+  pub date_last : (p : Part) (r : Dated) → g ≡ Some p → r ≡ dated_of (ended (got p.value (drop p.to s))) → r ≡ dated_of (ended u)
+  date_last p r q h = rw (read_got s g u e p q) h
 
-  pub date_missing : g ≡ Missing → Unavailable ≡ dated_of (ended u)
+  pub date_missing : g ≡ None → Unavailable ≡ dated_of (ended u)
   unfolding ended dated_of
   date_missing q = rw (read_missing s g u e q)
 
   module _ (f : ℕ → List ℕ → Read) where
-    pub date_then : (n to : ℕ) (r : Dated) → g ≡ Got n to → r ≡ dated_of (ended (f n (drop to s))) → r ≡ dated_of (ended (and_then u f))
+    pub date_then : (p : Part) (r : Dated) → g ≡ Some p → r ≡ dated_of (ended (f p.value (drop p.to s))) → r ≡ dated_of (ended (and_then u f))
     unfolding and_then
-    date_then n to r q h = rw (read_got s g u e n to q) h
+    date_then p r q h = rw (read_got s g u e p q) h
 
-    pub date_then_missing : g ≡ Missing → Unavailable ≡ dated_of (ended (and_then u f))
+    pub date_then_missing : g ≡ None → Unavailable ≡ dated_of (ended (and_then u f))
     unfolding and_then ended dated_of
     date_then_missing q = rw (read_missing s g u e q)
 

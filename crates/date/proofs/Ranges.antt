@@ -18,8 +18,7 @@ use Rattle.date.specs.Date.{Read, got, missing, read_of, and_then, next, optiona
 use Rattle.date.specs.Answers.{read_in}
 use Rattle.datewords.specs.declared.meaning.Place.{Place}
 use Rattle.datewords.specs.declared.meaning.Place.TheVariants.{Day, Month, Year, UpTo, Colon, West}
-use Rattle.date.specs.declared.PartRead.{PartRead}
-use Rattle.date.specs.declared.PartRead.TheVariants.{Got}
+use Rattle.date.specs.declared.Part.{Part}
 use Rattle.calendar.proofs.Counting.{month_length_small, day_bound}
 use Rattle.datewords.proofs.Digits.{only_if_true, only_if_some, both_right}
 use Rattle.datewords.proofs.Large.{two_most, month_some, year_some, west_some}
@@ -117,38 +116,38 @@ module _ (u v : List ℕ) (n : ℕ) where
       omega (arith, days_in u a days pd, time_in a b seconds ps)))
 
 -- what a reader's answer g is, at most
-module _ (s u : List ℕ) (g : PartRead) (n to : ℕ) (q : g ≡ Got n to) where
-  pub range_upto : (most : ℕ) → read_in s g ≡ next (UpTo most) u → n ≤ most
-  range_upto most e = upto_most u (drop to s) n most (read_got s g _ e n to q)
+module _ (s u : List ℕ) (g : Option Part) (p : Part) (q : g ≡ Some p) where
+  pub range_upto : (most : ℕ) → read_in s g ≡ next (UpTo most) u → p.value ≤ most
+  range_upto most e = upto_most u (drop p.to s) p.value most (read_got s g _ e p q)
 
-  pub range_optional : (opening : Place) (most : ℕ) → read_in s g ≡ optional opening (UpTo most) u → n ≤ most
-  range_optional opening most e = optional_most opening most u (drop to s) n (read_got s g _ e n to q)
+  pub range_optional : (opening : Place) (most : ℕ) → read_in s g ≡ optional opening (UpTo most) u → p.value ≤ most
+  range_optional opening most e = optional_most opening most u (drop p.to s) p.value (read_got s g _ e p q)
 
   module _ (e : read_in s g ≡ next Month u) where
-    pub range_first_month : 1 ≤ n
-    range_first_month = (month_in u (drop to s) n (read_got s g _ e n to q)).0
+    pub range_first_month : 1 ≤ p.value
+    range_first_month = (month_in u (drop p.to s) p.value (read_got s g _ e p q)).0
 
-    pub range_last_month : n ≤ 12
-    range_last_month = (month_in u (drop to s) n (read_got s g _ e n to q)).1
+    pub range_last_month : p.value ≤ 12
+    range_last_month = (month_in u (drop p.to s) p.value (read_got s g _ e p q)).1
 
   module _ (e : read_in s g ≡ next Year u) where
-    pub range_first_year : 1900 ≤ n
-    range_first_year = (year_in u (drop to s) n (read_got s g _ e n to q)).0
+    pub range_first_year : 1900 ≤ p.value
+    range_first_year = (year_in u (drop p.to s) p.value (read_got s g _ e p q)).0
 
-    pub range_last_year : n ≤ 9999
-    range_last_year = (year_in u (drop to s) n (read_got s g _ e n to q)).1
+    pub range_last_year : p.value ≤ 9999
+    range_last_year = (year_in u (drop p.to s) p.value (read_got s g _ e p q)).1
 
-  pub range_days : read_in s g ≡ calendar_day u → n ≤ 3_000_000
-  range_days e = days_in u (drop to s) n (read_got s g _ e n to q)
+  pub range_days : read_in s g ≡ calendar_day u → p.value ≤ 3_000_000
+  range_days e = days_in u (drop p.to s) p.value (read_got s g _ e p q)
 
-  pub range_time : read_in s g ≡ time_of_day u → n ≤ 86_400
-  range_time e = time_in u (drop to s) n (read_got s g _ e n to q)
+  pub range_time : read_in s g ≡ time_of_day u → p.value ≤ 86_400
+  range_time e = time_in u (drop p.to s) p.value (read_got s g _ e p q)
 
-  pub range_local : read_in s g ≡ local_time u → n ≤ 300_000_000_000
-  range_local e = local_in u (drop to s) n (read_got s g _ e n to q)
+  pub range_local : read_in s g ≡ local_time u → p.value ≤ 300_000_000_000
+  range_local e = local_in u (drop p.to s) p.value (read_got s g _ e p q)
 
-  pub range_west : (local : ℕ) → local ≤ 300_000_000_000 → read_in s g ≡ next West u → Fits w64 (local + n)
-  range_west local h e = record { fits = omega (arith, west_in u (drop to s) n (read_got s g _ e n to q)) }
+  pub range_west : (local : ℕ) → local ≤ 300_000_000_000 → read_in s g ≡ next West u → Fits w64 (local + p.value)
+  range_west local h e = record { fits = omega (arith, west_in u (drop p.to s) p.value (read_got s g _ e p q)) }
 
 pub ruleset ranges =
     (range_upto, range_optional, range_first_month, range_last_month, range_first_year, range_last_year, range_days, range_time, range_local, range_west)

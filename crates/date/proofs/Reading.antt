@@ -8,6 +8,7 @@
 use Prim.Native.Nat.{ℕ, ◌-◌, ◌≤◌}
 use mathlib.Core.Path.{◌≡◌, sym, ◌∙◌}
 use mathlib.Core.List.{List}
+use Rattle.std.specs.Prelude.{Option, Some, None}
 use borrow.Author.Rules.{rules}
 use lib.ListN.{length, take, drop}
 use Rattle.datewords.specs.Words.{token, end, unreadable, first_token, meant}
@@ -19,8 +20,7 @@ use Rattle.datewords.specs.declared.token.WordAt.TheVariants.{Between, End, Unre
 use Rattle.datewords.specs.declared.meaning.Place.{Place}
 use Rattle.datewords.specs.declared.meaning.Meaning.{Meaning}
 use Rattle.datewords.specs.declared.meaning.Meaning.TheVariants.{Value, Nothing}
-use Rattle.date.specs.declared.PartRead.{PartRead}
-use Rattle.date.specs.declared.PartRead.TheVariants.{Got, Missing}
+use Rattle.date.specs.declared.Part.{Part}
 use Rattle.datewords.proofs.Digits.{value_is, nothing_is}
 
 -- what an answer of `token` says of the text u that is left
@@ -38,20 +38,20 @@ module _ (s u : List ℕ) (g : WordAt) (e : token_in s g ≡ first_token u) wher
   first_unreadable q = sym e ∙ rw q
 
   module _ (what : Place) where
-    pub next_end : g ≡ End → read_in s Missing ≡ next what u
+    pub next_end : g ≡ End → read_in s None ≡ next what u
     unfolding next read_in
     next_end q = rw (next, first_end q)
 
-    pub next_unreadable : g ≡ Unreadable → read_in s Missing ≡ next what u
+    pub next_unreadable : g ≡ Unreadable → read_in s None ≡ next what u
     unfolding next read_in
     next_unreadable q = rw (next, first_unreadable q)
 
     module _ (from to : ℕ) (q : g ≡ Between from to) (m : Meaning) (h : m ≡ meaning (meant what (take (to - from) (drop from s)))) where
-      pub next_got : (n : ℕ) → m ≡ Value n → read_in s (Got n to) ≡ next what u
+      pub next_got : (n : ℕ) → m ≡ Value n → read_in s (Some (record { value = n; to = to })) ≡ next what u
       unfolding next read_in read_of
       next_got n p = rw (next, first_between from to q, value_is (meant what (take (to - from) (drop from s))) m n h p)
 
-      pub next_missing : m ≡ Nothing → read_in s Missing ≡ next what u
+      pub next_missing : m ≡ Nothing → read_in s None ≡ next what u
       unfolding next read_in read_of
       next_missing p = rw (next, first_between from to q, nothing_is (meant what (take (to - from) (drop from s))) m h p)
 
@@ -68,32 +68,32 @@ module _ (s : List ℕ) (g : WordAt) (h : Inside s g) (from to : ℕ) (q : g ≡
 pub ruleset nexts = (next_end, next_unreadable, next_got, next_missing, inside_order, inside_upto, rules)
 
 -- what an answer of a reader says of what was to be read
-module _ (s : List ℕ) (g : PartRead) (u : Read) (e : read_in s g ≡ u) where
-  pub read_got : (n to : ℕ) → g ≡ Got n to → u ≡ got n (drop to s)
+module _ (s : List ℕ) (g : Option Part) (u : Read) (e : read_in s g ≡ u) where
+  pub read_got : (p : Part) → g ≡ Some p → u ≡ got p.value (drop p.to s)
   unfolding read_in
-  read_got n to q = sym e ∙ rw q
+  read_got p q = sym e ∙ rw q
 
-  pub read_missing : g ≡ Missing → u ≡ missing
+  pub read_missing : g ≡ None → u ≡ missing
   unfolding read_in
   read_missing q = sym e ∙ rw q
 
   module _ (f : ℕ → List ℕ → Read) where
-    pub then_got : (n to : ℕ) (r : PartRead) → g ≡ Got n to → read_in s r ≡ f n (drop to s) → read_in s r ≡ and_then u f
+    pub then_got : (p : Part) (r : Option Part) → g ≡ Some p → read_in s r ≡ f p.value (drop p.to s) → read_in s r ≡ and_then u f
     unfolding and_then
-    then_got n to r q h = rw (read_got n to q) h
+    then_got p r q h = rw (read_got p q) h
 
-    pub then_missing : g ≡ Missing → read_in s Missing ≡ and_then u f
+    pub then_missing : (r : Option Part) → r ≡ None → g ≡ None → read_in s r ≡ and_then u f
     unfolding and_then read_in
-    then_missing q = rw (read_missing q)
+    then_missing r p q = rw (p, read_missing q)
 
-module _ (s t : List ℕ) (g : PartRead) (opening closing : Place) (e : read_in s g ≡ next opening t) where
-  pub optional_got : (n to : ℕ) (r : PartRead) → g ≡ Got n to → read_in s r ≡ next closing (drop to s) → read_in s r ≡ optional opening closing t
+module _ (s t : List ℕ) (g : Option Part) (opening closing : Place) (e : read_in s g ≡ next opening t) where
+  pub optional_got : (p : Part) (r : Option Part) → g ≡ Some p → read_in s r ≡ next closing (drop p.to s) → read_in s r ≡ optional opening closing t
   unfolding optional
-  optional_got n to r q h = rw (optional, read_got s g (next opening t) e n to q) h
+  optional_got p r q h = rw (optional, read_got s g (next opening t) e p q) h
 
 pub optional_missing :
-    (s : List ℕ) (at : ℕ) (g : PartRead) (opening closing : Place) → read_in s g ≡ next opening (drop at s) → g ≡ Missing
-    → read_in s (Got 0 at) ≡ optional opening closing (drop at s)
+    (s : List ℕ) (at : ℕ) (g : Option Part) (opening closing : Place) → read_in s g ≡ next opening (drop at s) → g ≡ None
+    → read_in s (Some (record { value = 0; to = at })) ≡ optional opening closing (drop at s)
 unfolding optional read_in
 optional_missing s at g opening closing e q = rw (optional, read_missing s g (next opening (drop at s)) e q)
 

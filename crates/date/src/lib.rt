@@ -2,7 +2,7 @@
 // month, year, hour, minute, second and zone; and the effective date (D2).
 #![tactic(auto)]
 
-ghost use Rattle.std.specs.Prelude.{◌+◌, ◌-◌, ◌*◌, ◌≤◌, ◌≡◌, drop};
+ghost use Rattle.std.specs.Prelude.{◌≤◌, ◌≡◌, drop};
 ghost use Rattle.date.specs.Date.{next as next_of, optional as optional_of, existing as existing_of, calendar_day, time_of_day, local_time, zoned as zoned_of, ended as ended_of, date_of, effective_date, got};
 ghost use Rattle.datewords.specs.Answers.{meaning as meaning_of};
 ghost use Rattle.date.specs.Answers.{dated_of, option_of, read_in};
@@ -14,11 +14,11 @@ use datewords::{meaning, token};
 // The seconds from 1900 to 1970, where times begin (T6).
 const EPOCH: u64 = 2_208_988_800;
 
-// A number, and the place behind what was read; or what was looked for is missing.
+// A number that was read, and the place behind it.
 #[derive(Clone, Copy)]
-pub enum PartRead {
-    Got { value: u64, to: usize },
-    Missing,
+struct Part {
+    value: u64,
+    to: usize,
 }
 
 // The Date, in seconds since 1970.
@@ -29,30 +29,32 @@ pub enum Dated {
 }
 
 // The token that is to stand at a place of a date, from the place `at` of the text on.
-fn next(s: &[u8], at: usize, what: Place) -> PartRead
+#[tactic(auto, using(crate::proofs::Reading::nexts))]
+fn next(s: &[u8], at: usize, what: Place) -> Option<Part>
     ensures { read_in s.now result ≡ next_of what (drop at s.now) }
 {
     match token::token(s, at) {
         WordAt::Between { from, to } => match meaning::meant(what, &s[from..to]) {
-            Meaning::Value(value) => PartRead::Got { value, to },
-            Meaning::Nothing => PartRead::Missing,
+            Meaning::Value(value) => Some(Part { value, to }),
+            Meaning::Nothing => None,
         },
-        WordAt::End => PartRead::Missing,
-        WordAt::Unreadable => PartRead::Missing,
+        WordAt::End | WordAt::Unreadable => None,
     }
 }
 
 // A part of two tokens that may both be missing (D3), and count as 0 then (D10).
-fn optional(s: &[u8], at: usize, opening: Place, closing: Place) -> PartRead
+#[tactic(auto, using(crate::proofs::Reading::optionals))]
+fn optional(s: &[u8], at: usize, opening: Place, closing: Place) -> Option<Part>
     ensures { read_in s.now result ≡ optional_of opening closing (drop at s.now) }
 {
     match next(s, at, opening) {
-        PartRead::Got { value: _, to } => next(s, to, closing),
-        PartRead::Missing => PartRead::Got { value: 0, to: at },
+        Some(first) => next(s, first.to, closing),
+        None => Some(Part { value: 0, to: at }),
     }
 }
 
 // The days from 1900 to the day, which must exist in its month (D8).
+#[tactic(auto, using(crate::proofs::Parts::existence))]
 fn existing(year: u64, month: u64, day: u64) -> Meaning
     requires le_year { (1900 ≤ year) × (year ≤ 9999) }
     requires le_month { (1 ≤ month) × (month ≤ 12) }
@@ -68,143 +70,103 @@ fn existing(year: u64, month: u64, day: u64) -> Meaning
 }
 
 // Day, month and year (D3): the days since 1900.
-fn calendar_day(s: &[u8], at: usize) -> PartRead
+#[tactic(auto, using(crate::proofs::Parts::parts), unfolding(crate::specs::Date::calendar_day))]
+fn calendar_day(s: &[u8], at: usize) -> Option<Part>
     ensures { read_in s.now result ≡ calendar_day (drop at s.now) }
 {
-    let PartRead::Got { value: day, to } = next(s, at, Place::Day) else {
-        return PartRead::Missing;
-    };
-    let PartRead::Got { value: month, to } = next(s, to, Place::Month) else {
-        return PartRead::Missing;
-    };
-    let PartRead::Got { value: year, to } = next(s, to, Place::Year) else {
-        return PartRead::Missing;
-    };
-    match existing(year, month, day) {
-        Meaning::Value(value) => PartRead::Got { value, to },
-        Meaning::Nothing => PartRead::Missing,
+    let day = next(s, at, Place::Day)?;
+    let month = next(s, day.to, Place::Month)?;
+    let year = next(s, month.to, Place::Year)?;
+    match existing(year.value, month.value, day.value) {
+        Meaning::Value(value) => Some(Part { value, ..year }),
+        Meaning::Nothing => None,
     }
 }
 
-// The seconds since midnight; 86,400 of them where the last second of a day is 60 (D10).
-fn clock(hours: u64, minutes: u64, seconds: u64) -> u64
-    requires { (hours ≤ 23) × (minutes ≤ 59) × (seconds ≤ 60) }
-    ensures { result ≡ 3600 * hours + 60 * minutes + seconds }
-{
-    3600 * hours + 60 * minutes + seconds
-}
-
-// Hour, colon, minute, and a colon with the second, which may be missing (D3): the seconds since midnight.
-fn time_of_day(s: &[u8], at: usize) -> PartRead
+// Hour, colon, minute, and a colon with the second, which may be missing (D3): the seconds since midnight, 86,400
+// of them where the last second of a day is 60 (D10).
+#[tactic(auto, using(crate::proofs::Parts::parts), unfolding(crate::specs::Date::time_of_day))]
+fn time_of_day(s: &[u8], at: usize) -> Option<Part>
     ensures { read_in s.now result ≡ time_of_day (drop at s.now) }
 {
-    let PartRead::Got { value: hours, to } = next(s, at, Place::UpTo(23)) else {
-        return PartRead::Missing;
-    };
-    let PartRead::Got { value: _, to } = next(s, to, Place::Colon) else {
-        return PartRead::Missing;
-    };
-    let PartRead::Got { value: minutes, to } = next(s, to, Place::UpTo(59)) else {
-        return PartRead::Missing;
-    };
-    let PartRead::Got { value: seconds, to } = optional(s, to, Place::Colon, Place::UpTo(60)) else {
-        return PartRead::Missing;
-    };
-    PartRead::Got {
-        value: clock(hours, minutes, seconds),
-        to,
-    }
+    let hours = next(s, at, Place::UpTo(23))?;
+    let colon = next(s, hours.to, Place::Colon)?;
+    let minutes = next(s, colon.to, Place::UpTo(59))?;
+    let seconds = optional(s, minutes.to, Place::Colon, Place::UpTo(60))?;
+    Some(Part {
+        value: 3600 * hours.value + 60 * minutes.value + seconds.value,
+        ..seconds
+    })
 }
 
-// The seconds since 1900. No day that can be written (D9) lies 3,000,000 days after 1900.
-fn seconds_of(days: u64, seconds: u64) -> u64
-    requires { (days ≤ 3_000_000) × (seconds ≤ 86_400) }
-    ensures { result ≡ 86400 * days + seconds }
-{
-    86400 * days + seconds
-}
-
-// Day and time of day: the seconds since 1900, as the zone's own clock has them.
-fn local_time(s: &[u8], at: usize) -> PartRead
+// Day and time of day: the seconds since 1900, as the zone's own clock has them. No day that can be written (D9)
+// lies 3,000,000 days after 1900.
+#[tactic(auto, using(crate::proofs::Parts::parts), unfolding(crate::specs::Date::local_time))]
+fn local_time(s: &[u8], at: usize) -> Option<Part>
     ensures { read_in s.now result ≡ local_time (drop at s.now) }
 {
-    let PartRead::Got { value: days, to } = calendar_day(s, at) else {
-        return PartRead::Missing;
-    };
-    let PartRead::Got { value: seconds, to } = time_of_day(s, to) else {
-        return PartRead::Missing;
-    };
-    PartRead::Got {
-        value: seconds_of(days, seconds),
-        to,
-    }
-}
-
-// How much a is above b, 0 where it is not.
-fn above(a: u64, b: u64) -> u64
-    ensures { result ≡ a - b }
-{
-    if a < b { 0 } else { a - b }
+    let days = calendar_day(s, at)?;
+    let seconds = time_of_day(s, days.to)?;
+    Some(Part {
+        value: 86_400 * days.value + seconds.value,
+        ..seconds
+    })
 }
 
 // The zone: the seconds since 1900 in UTC, which are the local ones less an east offset, or with a west one added on (D13).
-fn zoned(s: &[u8], at: usize, local: u64) -> PartRead
+#[tactic(auto, using(crate::proofs::Parts::zoning))]
+fn zoned(s: &[u8], at: usize, local: u64) -> Option<Part>
     requires { local ≤ 300_000_000_000 }
     ensures { read_in s.now result ≡ zoned_of local (drop at s.now) }
 {
-    match next(s, at, Place::East) {
-        PartRead::Got { value, to } => PartRead::Got {
-            value: above(local, value),
-            to,
-        },
-        PartRead::Missing => match next(s, at, Place::West) {
-            PartRead::Got { value, to } => PartRead::Got {
-                value: local + value,
-                to,
-            },
-            PartRead::Missing => PartRead::Missing,
-        },
+    if let Some(east) = next(s, at, Place::East) {
+        return Some(Part {
+            value: local.saturating_sub(east.value),
+            ..east
+        });
     }
+    let west = next(s, at, Place::West)?;
+    Some(Part {
+        value: local + west.value,
+        ..west
+    })
 }
 
 // Nothing may stand behind the zone (D3). What lies before 1970 counts as 0 (D13).
+#[tactic(auto, using(crate::proofs::Parts::endings))]
 fn ended(s: &[u8], at: usize, value: u64) -> Dated
     ensures { result ≡ dated_of (ended_of (got value (drop at s.now))) }
 {
     match token::token(s, at) {
-        WordAt::End => Dated::Available(above(value, EPOCH)),
-        WordAt::Between { from: _, to: _ } => Dated::Unavailable,
-        WordAt::Unreadable => Dated::Unavailable,
+        WordAt::End => Dated::Available(value.saturating_sub(EPOCH)),
+        WordAt::Between { .. } | WordAt::Unreadable => Dated::Unavailable,
     }
 }
 
 // The Date that the value of a Date field stands for.
+#[tactic(auto, using(crate::proofs::Parts::dating), unfolding(crate::specs::Date::date_of))]
 pub fn date(value: &[u8]) -> Dated
     ensures { result ≡ dated_of (date_of value.now) }
 {
-    let PartRead::Got { value: _, to } = optional(value, 0, Place::DayName, Place::Comma) else {
+    let Some(day_name) = optional(value, 0, Place::DayName, Place::Comma) else {
         return Dated::Unavailable;
     };
-    let PartRead::Got { value: local, to } = local_time(value, to) else {
+    let Some(local) = local_time(value, day_name.to) else {
         return Dated::Unavailable;
     };
-    let PartRead::Got { value: instant, to } = zoned(value, to, local) else {
+    let Some(instant) = zoned(value, local.to, local.value) else {
         return Dated::Unavailable;
     };
-    ended(value, to, instant)
+    ended(value, instant.to, instant.value)
 }
 
 // The receipt time, or a Date that is smaller (D2).
+#[tactic(auto, using(crate::proofs::Effective::effects))]
 pub fn effective_date(date: Dated, receipt: u64) -> u64
     ensures { result ≡ effective_date (option_of date) receipt }
 {
     match date {
-        Dated::Available(n) => {
-            if n < receipt {
-                return n;
-            }
-            receipt
-        }
+        Dated::Available(n) => n.min(receipt),
         Dated::Unavailable => receipt,
     }
 }

@@ -64,10 +64,10 @@ unfolding belongs
 digit_range x e = (leb-true 48 x (both_left _ _ e), leb-true x 57 (both_right (leb 48 x) _ e))
 
 module _ (x : ℕ) (b : Bool) (e : b ≡ belongs Digit x) where
-  pub digit_above : (w : ℕ) → w ≡ x → b ≡ true → 48 ≤ w
-  digit_above w p q = omega (arith, digit_range x (sym e ∙ q))
+  pub digit_above : b ≡ true → 48 ≤ x
+  digit_above q = omega (arith, digit_range x (sym e ∙ q))
 
-  pub digit_is : (w : ℕ) → w ≡ x → b ≡ true → Value (w - 48) ≡ meaning (digit_of x)
+  pub digit_is : (w : ℕ) → w ≡ x - 48 → b ≡ true → Value w ≡ meaning (digit_of x)
   unfolding digit_of only_if meaning
   digit_is w p q = rw (sym e ∙ q, p)
 

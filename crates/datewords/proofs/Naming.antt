@@ -1,79 +1,79 @@
--- Names of three letters, one after the other, and what `which` knows in its loop.
---     Looked          the loop's invariant: the names passed are others, so the search is that in the names left
+-- Names of three letters, one after the other, and what `which` answers.
+--     place_counts    the place of a name counts the names in front of it
+--     which_..        an answer of `position`, and what the definition says
 --     place_below     the place that is found is one of the table
 -- Assumes nothing.
-use Prim.Native.Nat.{ℕ, ◌+◌, ◌-◌, ◌*◌, ◌≤◌, ◌<◌}
-use mathlib.Core.Path.{◌≡◌, refl, sym, ◌∙◌}
-use mathlib.Core.Bool.{Bool, true, false}
+use Prim.Native.Nat.{ℕ, suc, ◌+◌, ◌*◌, ◌/◌, ◌<◌}
+use mathlib.Core.Path.{◌≡◌, refl, ap, ◌∙◌}
+use mathlib.Core.Bool.{Bool, true, false, cond}
 use mathlib.Core.List.{List, [], ◌∷◌}
 use Rattle.std.proofs.lemmas.Option.{none-some}
-use Rattle.std.specs.Prelude.{Some, None}
+use Rattle.std.specs.Prelude.{Option, Some, None, option_map, nat_lt}
+use Rattle.std.specs.List.{position, position_or_len}
+use Rattle.std.specs.Simd.{first_chunks}
+use native.Mathlib.Nat.{add-div_left, zero-add}
+use native.Mathlib.Numerals.{add-one, one-add}
 use native.Mathlib.Omega.{arith}
-use borrow.Author.Rules.{rules}
-use lib.ListN.{length, take, drop, length-drop}
-use lib.Seq.{drop-drop}
+use Prim.Native.Nat.compare.{suc-suc}
+use borrow.Author.Tests.{lt-ltb}
+use lib.ListN.{length}
 use Rattle.octets.specs.Octets.{same_name}
-use Rattle.datewords.specs.Words.{place_from, here_or}
+use Rattle.datewords.specs.Words.{place_from, place_in, here_or}
 use Rattle.datewords.specs.Answers.{meaning}
 use Rattle.datewords.specs.declared.meaning.Meaning.TheVariants.{Value, Nothing}
 
+-- the names, each as a list of its own
+abbrev pub cut : List ℕ → List (List ℕ)
+cut names = first_chunks 3 (length names / 3) names
+
+module _ {X : Type 0} (p : X → Bool) (x : X) (xs : List X) where
+  first_here : p x ≡ true → position p (x ∷ xs) ≡ Some 0
+  first_here e = rw (e, lt-ltb 0 (suc (length xs)) (omega arith))
+
+  first_later : p x ≡ false → position p (x ∷ xs) ≡ option_map suc (position p xs)
+  first_later e = rw (e, one-add, suc-suc) (go (nat_lt (position_or_len p xs) (length xs)))
+    where
+      go : (b : Bool) → cond b (Some (suc (position_or_len p xs))) None ≡ option_map suc (cond b (Some (position_or_len p xs)) None)
+      go true = refl
+      go false = refl
+
 module _ (t : List ℕ) where
-  place_none : (k : ℕ) (names : List ℕ) → length names < 3 → place_from k t names ≡ None
+  later : (k : ℕ) (o : Option ℕ) → option_map (λ i. k + 1 + i) o ≡ option_map (λ i. k + i) (option_map suc o)
+  later k None = refl
+  later k (Some i) = ap Some (omega arith)
+
+  -- the place of a name counts the names in front of it
+  place_counts : (k : ℕ) (names : List ℕ) → place_from k t names ≡ option_map (λ i. k + i) (position (same_name t) (cut names))
   unfolding place_from here_or
-  place_none k [] h = refl
-  place_none k (a ∷ []) h = refl
-  place_none k (a ∷ b ∷ []) h = refl
-  place_none k (a ∷ b ∷ c ∷ names) h = absurd (omega arith)
+  place_counts k [] = refl
+  place_counts k (a ∷ []) = refl
+  place_counts k (a ∷ b ∷ []) = refl
+  place_counts k (a ∷ b ∷ c ∷ names) =
+      rw cut_more (go (same_name t (a ∷ b ∷ c ∷ [])) refl (place_counts (k + 1) names))
+    where
+      cut_more : cut (a ∷ b ∷ c ∷ names) ≡ (a ∷ b ∷ c ∷ []) ∷ cut names
+      cut_more =
+          let w : length (a ∷ b ∷ c ∷ names) / 3 ≡ suc (length names / 3) =
+          (let p : suc (suc (suc (length names))) ≡ 3 + length names = omega arith in
+          rw p (add-div_left (length names) (omega arith) ∙ add-one _)) in
+          ap (λ m. first_chunks 3 m (a ∷ b ∷ c ∷ names)) w
 
-  place_here : (k : ℕ) (names : List ℕ) → 3 ≤ length names → same_name t (take 3 names) ≡ true → place_from k t names ≡ Some k
-  unfolding place_from here_or
-  place_here k [] h e = absurd (omega arith)
-  place_here k (a ∷ []) h e = absurd (omega arith)
-  place_here k (a ∷ b ∷ []) h e = absurd (omega arith)
-  place_here k (a ∷ b ∷ c ∷ names) h e = rw e
+      go :
+          (s : Bool) → same_name t (a ∷ b ∷ c ∷ []) ≡ s
+          → place_from (k + 1) t names ≡ option_map (λ i. k + 1 + i) (position (same_name t) (cut names))
+          → here_or (same_name t (a ∷ b ∷ c ∷ [])) k (place_from (k + 1) t names)
+          ≡ option_map (λ i. k + i) (position (same_name t) ((a ∷ b ∷ c ∷ []) ∷ cut names))
+      go true e ih = rw (first_here (same_name t) _ (cut names) e, e) (ap Some (omega arith))
+      go false e ih = rw (first_later (same_name t) _ (cut names) e, e) (ih ∙ later k _)
 
-  place_next :
-      (k : ℕ) (names : List ℕ) → 3 ≤ length names → same_name t (take 3 names) ≡ false
-      → place_from k t names ≡ place_from (k + 1) t (drop 3 names)
-  unfolding place_from here_or
-  place_next k [] h e = absurd (omega arith)
-  place_next k (a ∷ []) h e = absurd (omega arith)
-  place_next k (a ∷ b ∷ []) h e = absurd (omega arith)
-  place_next k (a ∷ b ∷ c ∷ names) h e = rw e
-
--- the first k names, i octets, are others than t
-pub record Looked (t names : List ℕ) (k i : ℕ) : Type 0 where
-  pub upto : i ≤ length names
-  pub few : k ≤ i
-  pub so_far : place_from 0 t names ≡ place_from k t (drop i names)
-
-pub look_begin : (t names : List ℕ) → Looked t names 0 0
-look_begin t names = record { upto = omega arith; few = omega arith; so_far = refl }
-
-module _ (t names : List ℕ) (k i : ℕ) (h : Looked t names k i) where
-  pub look_end : length names - i < 3 → Nothing ≡ meaning (place_from 0 t names)
+module _ (t names : List ℕ) (r : Option ℕ) (e : r ≡ position (same_name t) (cut names)) where
+  pub which_is : (k : ℕ) → r ≡ Some k → Value k ≡ meaning (place_in t names)
   unfolding meaning
-  look_end l = rw (h.so_far, place_none t k (drop i names) (rw length-drop l))
+  which_is k q = rw (place_counts t 0 names, ← e, q, zero-add) refl
 
-  module _ (l : 3 ≤ length names - i) (b : Bool) (e : b ≡ same_name t (take (i + 3 - i) (drop i names))) where
-    three : 3 ≤ length (drop i names)
-    three = rw length-drop l
-
-    same_as : (c : Bool) → b ≡ c → same_name t (take 3 (drop i names)) ≡ c
-    same_as c q = let p : i + 3 - i ≡ 3 = omega arith in (rw p at (sym e)) ∙ q
-
-    pub look_found : b ≡ true → Value k ≡ meaning (place_from 0 t names)
-    unfolding meaning
-    look_found q = rw (h.so_far, place_here t k (drop i names) three (same_as true q))
-
-    pub look_on : b ≡ false → Looked t names (k + 1) (i + 3)
-    look_on q = record {
-      upto = omega arith;
-      few = omega arith;
-      so_far = h.so_far ∙ place_next t k (drop i names) three (same_as false q) ∙ rw drop-drop;
-    }
-
-pub ruleset looking = (look_begin, look_end, look_found, look_on, rules)
+  pub which_none : r ≡ None → Nothing ≡ meaning (place_in t names)
+  unfolding meaning
+  which_none q = rw (place_counts t 0 names, ← e, q)
 
 pub place_below : (t names : List ℕ) (j k : ℕ) → place_from j t names ≡ Some k → 3 * k < 3 * j + length names
 unfolding place_from here_or

@@ -1,6 +1,6 @@
 // What a token means at each place of a date: numbers of few digits, names of three letters, marks and zones (SCOPE, D7 to
 // D12).
-ghost use Rattle.std.specs.Prelude.{◌≤◌, ◌<◌, ◌≡◌};
+ghost use Rattle.std.specs.Prelude.{◌≤◌, ◌≡◌};
 ghost use Rattle.datewords.specs.Words.{digit_of, number_of, place_in, mark_of, day_of, month_of, year_by, year_of, two_digits, offset_by, offset_of, hours_west, opens_with, east_by, west_by, meant as meant_of};
 ghost use Rattle.datewords.specs.Answers.{meaning as meaning_of};
 
@@ -32,23 +32,19 @@ pub enum Meaning {
     Nothing,
 }
 
-fn wide(x: u8) -> u64
-    ensures { (result ≡ x) × (result < 256) }
-{
-    x as u64
-}
-
 // The number that one digit stands for.
+#[tactic(auto, using(crate::proofs::Digits::one_digit))]
 fn digit(x: u8) -> Meaning
     ensures { result ≡ meaning_of (digit_of x) }
 {
     if runs::within(Class::Digit, x) {
-        return Meaning::Value(wide(x) - 48);
+        return Meaning::Value(u64::from(x - b'0'));
     }
     Meaning::Nothing
 }
 
 // The number that a run of digits stands for. No place of a date takes more than four (D8 to D11).
+#[tactic(auto, using(crate::proofs::Digits::valuing))]
 fn number(run: &[u8]) -> Meaning
     ensures { result ≡ meaning_of (number_of run.now) }
 {
@@ -56,13 +52,9 @@ fn number(run: &[u8]) -> Meaning
         return Meaning::Nothing;
     }
     let mut n: u64 = 0;
-    let mut i = 0;
-    while i < run.len() {
-        match digit(run[i]) {
-            Meaning::Value(d) => {
-                n = 10 * n + d;
-                i += 1;
-            }
+    for &x in run {
+        match digit(x) {
+            Meaning::Value(d) => n = 10 * n + d,
             Meaning::Nothing => return Meaning::Nothing,
         }
     }
@@ -73,19 +65,15 @@ fn number(run: &[u8]) -> Meaning
 fn which(run: &[u8], names: &[u8]) -> Meaning
     ensures { result ≡ meaning_of (place_in run.now names.now) }
 {
-    let mut k: u64 = 0;
-    let mut i = 0;
-    while 3 <= names.len() - i {
-        if octets::same_name(run, &names[i..i + 3]) {
-            return Meaning::Value(k);
-        }
-        k += 1;
-        i += 3;
+    let (names, _) = names.as_chunks::<3>();
+    match names.iter().position(|name| octets::same_name(run, name)) {
+        Some(k) => Meaning::Value(k as u64),
+        None => Meaning::Nothing,
     }
-    Meaning::Nothing
 }
 
 // A comma or a colon, which stands for nothing.
+#[tactic(auto, using(crate::proofs::Meant::marks))]
 fn mark(run: &[u8], text: &[u8]) -> Meaning
     ensures { result ≡ meaning_of (mark_of run.now text.now) }
 {
@@ -96,6 +84,7 @@ fn mark(run: &[u8], text: &[u8]) -> Meaning
 }
 
 // The day, of one digit or two (D8).
+#[tactic(auto, using(crate::proofs::Meant::days))]
 fn day(run: &[u8]) -> Meaning
     ensures { result ≡ meaning_of (day_of run.now) }
 {
@@ -117,6 +106,7 @@ fn month(run: &[u8]) -> Meaning
 }
 
 // The year that so many digits stand for (D9).
+#[tactic(auto, using(crate::proofs::Meant::years))]
 fn year_by(width: usize, n: u64) -> Meaning
     requires { n ≤ 9999 }
     ensures { result ≡ meaning_of (year_by width n) }
@@ -140,6 +130,7 @@ fn year_by(width: usize, n: u64) -> Meaning
 }
 
 // The year, of two, three or four digits (D9).
+#[tactic(auto, using(crate::proofs::Meant::years))]
 fn year(run: &[u8]) -> Meaning
     ensures { result ≡ meaning_of (year_of run.now) }
 {
@@ -150,6 +141,7 @@ fn year(run: &[u8]) -> Meaning
 }
 
 // Two digits that stand for `most` at most (D10).
+#[tactic(auto, using(crate::proofs::Meant::twos))]
 fn two_digits(run: &[u8], most: u64) -> Meaning
     ensures { result ≡ meaning_of (two_digits most run.now) }
 {
@@ -168,6 +160,7 @@ fn two_digits(run: &[u8], most: u64) -> Meaning
 }
 
 // The seconds that the four digits of a zone stand for (D11).
+#[tactic(auto, using(crate::proofs::Meant::offsets))]
 fn offset_by(n: u64) -> Meaning
     requires { n ≤ 9999 }
     ensures { result ≡ meaning_of (offset_by n) }
@@ -180,6 +173,7 @@ fn offset_by(n: u64) -> Meaning
 }
 
 // The digits behind the sign of a zone: exactly four (D11).
+#[tactic(auto, using(crate::proofs::Meant::offsets))]
 fn offset(run: &[u8]) -> Meaning
     ensures { result ≡ meaning_of (offset_of run.now) }
 {
@@ -207,34 +201,31 @@ fn hours_west(run: &[u8]) -> u64
 }
 
 // The seconds that a zone lies east.
+#[tactic(auto, using(crate::proofs::Meant::zones), unfolding(crate::specs::Words::east_by, crate::specs::Answers::meaning))]
 fn east(run: &[u8]) -> Meaning
     ensures { result ≡ meaning_of (east_by (opens_with run.now) run.now) }
 {
-    if run.len() == 0 {
+    if run.is_empty() {
         return Meaning::Nothing;
     }
     match token::opened_by(run[0]) {
         Opening::Plus => offset(&run[1..]),
-        Opening::Number => Meaning::Nothing,
-        Opening::Word => Meaning::Nothing,
-        Opening::Minus => Meaning::Nothing,
-        Opening::Mark => Meaning::Nothing,
+        Opening::Number | Opening::Word | Opening::Minus | Opening::Mark => Meaning::Nothing,
     }
 }
 
 // The seconds that a zone lies west.
+#[tactic(auto, using(crate::proofs::Meant::zones), unfolding(crate::specs::Words::west_by, crate::specs::Answers::meaning))]
 fn west(run: &[u8]) -> Meaning
     ensures { result ≡ meaning_of (west_by (opens_with run.now) run.now) }
 {
-    if run.len() == 0 {
+    if run.is_empty() {
         return Meaning::Nothing;
     }
     match token::opened_by(run[0]) {
         Opening::Minus => offset(&run[1..]),
         Opening::Word => Meaning::Value(3600 * hours_west(run)),
-        Opening::Number => Meaning::Nothing,
-        Opening::Plus => Meaning::Nothing,
-        Opening::Mark => Meaning::Nothing,
+        Opening::Number | Opening::Plus | Opening::Mark => Meaning::Nothing,
     }
 }
 

@@ -26,6 +26,7 @@ pub enum WordAt {
 }
 
 // What the octet opens. Commas and colons are marks, and so is an octet that opens no token of a date: no place takes it (D4).
+#[tactic(auto, using(crate::proofs::Opened::opening))]
 pub fn opened_by(x: u8) -> Opening
     ensures { result ≡ opening_of x }
 {
@@ -45,20 +46,20 @@ pub fn opened_by(x: u8) -> Opening
 }
 
 // The end of the token that begins at the place `at`.
+#[tactic(auto, using(crate::proofs::Opened::ending))]
 fn token_end(s: &[u8], at: usize) -> usize
     requires { at < length s.now }
     ensures { result ≡ (at + 1) + further (opening_of (get_or s.now at 0)) (drop (at + 1) s.now) }
 {
     match opened_by(s[at]) {
-        Opening::Number => runs::run_end(s, at + 1, Class::Digit),
+        Opening::Number | Opening::Plus | Opening::Minus => runs::run_end(s, at + 1, Class::Digit),
         Opening::Word => runs::run_end(s, at + 1, Class::Letter),
-        Opening::Plus => runs::run_end(s, at + 1, Class::Digit),
-        Opening::Minus => runs::run_end(s, at + 1, Class::Digit),
         Opening::Mark => at + 1,
     }
 }
 
 // The first token from the place `at` on.
+#[tactic(auto, using(crate::proofs::Finding::finding))]
 pub fn token(s: &[u8], at: usize) -> WordAt
     ensures result_value { token_in s.now result ≡ first_token (drop at s.now) }
     ensures inside { Inside s.now result }

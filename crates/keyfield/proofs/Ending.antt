@@ -2,18 +2,17 @@
 --     mutual_not, mutual_is       the preference
 --     whole_none, whole_all       the address and the preference together
 -- Assumes nothing.
-use Prim.Native.Nat.{ℕ}
 use mathlib.Core.Path.{◌≡◌}
 use mathlib.Core.Bool.{Bool, false}
+use Rattle.std.specs.Prelude.{Option, Some, None}
 use borrow.Author.Rules.{rules}
 use Rattle.attributes.specs.Steps.{stated}
-use Rattle.attributes.specs.declared.AddressAt.{AddressAt}
-use Rattle.attributes.specs.declared.AddressAt.TheVariants.{Unseen, At}
+use Rattle.attributes.specs.declared.Bounds.{Bounds}
 use Rattle.attributes.specs.declared.Preference.{Preference}
 use Rattle.attributes.specs.declared.Preference.TheVariants.{Unstated, Stated}
 use Rattle.keyfield.specs.Field.{mutual_by}
 use Rattle.keyfield.specs.Answers.{whole_of}
-use Rattle.keyfield.specs.declared.Scanned.TheVariants.{Whole, Broken}
+use Rattle.keyfield.specs.declared.Scanned.{Scanned}
 
 module _ (preference : Preference) where
   pub mutual_not : preference ≡ Unstated → false ≡ mutual_by (stated preference)
@@ -24,13 +23,15 @@ module _ (preference : Preference) where
   unfolding stated
   mutual_is m u = rw u
 
-  module _ (address : AddressAt) (start end : ℕ) where
-    pub whole_none : address ≡ Unseen → Broken ≡ whole_of address preference start end
+  module _ (address : Option Bounds) (v : Bounds) where
+    pub whole_none : (r : Option Scanned) → r ≡ None → address ≡ None → r ≡ whole_of address preference v
     unfolding whole_of
-    whole_none u = rw u
+    whole_none r e u = rw (u, e)
 
-    pub whole_all : (from to : ℕ) (b : Bool) → address ≡ At from to → b ≡ mutual_by (stated preference) → Whole from to b start end ≡ whole_of address preference start end
+    pub whole_all :
+        (at : Bounds) (b : Bool) → address ≡ Some at → b ≡ mutual_by (stated preference)
+        → Some (record { address = at; «mutual» = b; key_data = v }) ≡ whole_of address preference v
     unfolding whole_of
-    whole_all from to b u e = rw (u, e)
+    whole_all at b u e = rw (u, e)
 
 pub ruleset ending = (mutual_not, mutual_is, whole_none, whole_all, rules)

@@ -24,7 +24,6 @@ use Rattle.keydata.specs.declared.Decoded.{Decoded}
 use Rattle.keydata.specs.declared.Decoded.TheVariants.{Octets, Refused}
 use Rattle.keyfield.specs.Field.{limited, key_of}
 use Rattle.keyfield.specs.Answers.{KeyAs}
-use Rattle.keyfield.specs.declared.Key.TheVariants.{Length, NoKey}
 use Rattle.keyfield.proofs.Fields.{key_made}
 
 -- the octets of a text that stands for some
@@ -47,7 +46,7 @@ module _ (text : List ℕ) (limit : ℕ) (d : List ℕ) (l : limit ≤ length d)
     told : g ≡ decoded_of (decode (without_blanks text)) limit
     told = e ∙ ap (decoded_of (decode (without_blanks text))) room_is
 
-    pub key_refused : g ≡ Refused → (key : List ℕ) → KeyAs limit text key NoKey
+    pub key_refused : g ≡ Refused → (key : List ℕ) → KeyAs limit text key None
     unfolding KeyAs key_of
     key_refused k key = limited_none limit _ (refused_answered (decode (without_blanks text)) limit (sym k ∙ told))
 
@@ -55,7 +54,7 @@ module _ (text : List ℕ) (limit : ℕ) (d : List ℕ) (l : limit ≤ length d)
       answered : (decode (without_blanks text) ≡ Some (octets text)) × (length (octets text) ≡ n) × (n ≤ limit)
       answered = octets_answered (decode (without_blanks text)) limit n (sym k ∙ told)
 
-      pub key_empty : n ≡ 0 → (key : List ℕ) → KeyAs limit text key NoKey
+      pub key_empty : n ≡ 0 → (key : List ℕ) → KeyAs limit text key None
       unfolding KeyAs key_of limited
       key_empty z key = rw (answered.0, answered.1, z)
 
@@ -76,7 +75,7 @@ module _ (text : List ℕ) (limit : ℕ) (d : List ℕ) (l : limit ≤ length d)
         unfolding onto
         long rest = rw (octets_held _ room out g n p k) (simp length-append (omega (arith, answered.1)))
 
-        pub key_found : KeyAs limit text (take 0 d ++ (out ++ drop (limit - 0) (drop 0 d))) (Length n)
+        pub key_found : KeyAs limit text (take 0 d ++ (out ++ drop (limit - 0) (drop 0 d))) (Some n)
         unfolding KeyAs
         key_found =
             record {

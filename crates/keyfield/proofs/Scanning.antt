@@ -6,6 +6,7 @@ use Prim.Native.Nat.{ℕ, ◌+◌, ◌<◌, ◌≤◌}
 use mathlib.Core.Path.{◌≡◌, refl, sym, ap, ◌∙◌}
 use mathlib.Core.Logic.{⊎_elim}
 use mathlib.Core.List.{List, [], ◌∷◌}
+use Rattle.std.specs.Prelude.{Option, Some, None}
 use native.Mathlib.Omega.{arith}
 use borrow.Author.Rules.{rules}
 use lib.ListN.{length}
@@ -16,8 +17,7 @@ use Rattle.attributes.specs.Attribute.{attribute_of}
 use Rattle.attributes.specs.Step.{step}
 use Rattle.attributes.specs.Answers.{part, Within, FirstAt}
 use Rattle.attributes.specs.Steps.{address_at, Stands, stated, step_at, NextWithin, Steps}
-use Rattle.attributes.specs.declared.AddressAt.{AddressAt}
-use Rattle.attributes.specs.declared.AddressAt.TheVariants.{Unseen, At}
+use Rattle.attributes.specs.declared.Bounds.{Bounds}
 use Rattle.attributes.specs.declared.Preference.{Preference}
 use Rattle.attributes.specs.declared.Preference.TheVariants.{Unstated}
 use Rattle.attributes.specs.declared.NextPiece.{NextPiece}
@@ -27,31 +27,30 @@ use Rattle.attributes.proofs.Cutting.{cut_pieces, cut_last}
 use Rattle.keyfield.specs.Field.{said_from, said_of, said_with, if_last}
 use Rattle.keyfield.specs.Answers.{whole_of, said_at, WholeWithin, Scans}
 use Rattle.keyfield.specs.declared.Scanned.{Scanned}
-use Rattle.keyfield.specs.declared.Scanned.TheVariants.{Broken}
 
-pub record Scanning (s : List ℕ) (at : ℕ) (address : AddressAt) (preference : Preference) : Type 0 where
+pub record Scanning (s : List ℕ) (at : ℕ) (address : Option Bounds) (preference : Preference) : Type 0 where
   pub upto : at ≤ length s
   pub stands : Stands s address
   pub so_far : said_of s ≡ said_from (address_at s address) (stated preference) (pieces 59 (part s at (length s)))
 
-pub scan_begin : (s : List ℕ) → Scanning s 0 Unseen Unstated
+pub scan_begin : (s : List ℕ) → Scanning s 0 None Unstated
 unfolding said_of address_at stated Stands
 scan_begin s = record { upto = omega arith; stands = tt; so_far = rw (part_rest s 0) }
 
 -- what has been read at the end is there
-whole_said : (s : List ℕ) (address : AddressAt) (preference : Preference) (start end : ℕ)
-    → said_at s (whole_of address preference start end) ≡ said_with (address_at s address) (stated preference) (part s start end)
+whole_said : (s : List ℕ) (address : Option Bounds) (preference : Preference) (v : Bounds)
+    → said_at s (whole_of address preference v) ≡ said_with (address_at s address) (stated preference) (part s v.from v.to)
 unfolding said_at whole_of said_with address_at
-whole_said s Unseen preference start end = refl
-whole_said s (At from to) preference start end = refl
+whole_said s None preference v = refl
+whole_said s (Some at) preference v = refl
 
-whole_there : (s : List ℕ) (address : AddressAt) (preference : Preference) (start end : ℕ)
-    → Stands s address → Within s start end → WholeWithin s (whole_of address preference start end)
+whole_there : (s : List ℕ) (address : Option Bounds) (preference : Preference) (v : Bounds)
+    → Stands s address → Within s v.from v.to → WholeWithin s (whole_of address preference v)
 unfolding WholeWithin whole_of Stands
-whole_there s Unseen preference start end h w = tt
-whole_there s (At from to) preference start end h w = (h, w)
+whole_there s None preference v h w = tt
+whole_there s (Some at) preference v h w = (h, w)
 
-module _ (s : List ℕ) (at : ℕ) (address : AddressAt) (preference : Preference) (h : Scanning s at address preference) where
+module _ (s : List ℕ) (at : ℕ) (address : Option Bounds) (preference : Preference) (h : Scanning s at address preference) where
   pub scan_left : Within s at (length s)
   scan_left = record { order = h.upto; upto = omega arith }
 
@@ -67,7 +66,7 @@ module _ (s : List ℕ) (at : ℕ) (address : AddressAt) (preference : Preferenc
       comes x e = sym t.is ∙ ap (step_at s) e
 
       -- a piece that spoils the field does so whatever follows
-      spoilt : (rest : List (List ℕ)) → said_of s ≡ said_from (address_at s address) (stated preference) (part s at end ∷ rest) → n ≡ Spoils → Scans s Broken
+      spoilt : (rest : List (List ℕ)) → said_of s ≡ said_from (address_at s address) (stated preference) (part s at end ∷ rest) → n ≡ Spoils → Scans s None
       unfolding said_from step_at said_at WholeWithin
       spoilt rest q e =
           record { is = sym (q ∙ rw (said_from, comes Spoils e)); within = tt }
@@ -77,35 +76,35 @@ module _ (s : List ℕ) (at : ℕ) (address : AddressAt) (preference : Preferenc
         more : said_of s ≡ said_from (address_at s address) (stated preference) (part s at end ∷ pieces 59 (part s (end + 1) (length s)))
         more = h.so_far ∙ rw (cut_pieces s at (length s) 59 end scan_left f l)
 
-        pub scan_next : (a : AddressAt) (p : Preference) → n ≡ On a p → Scanning s (end + 1) a p
+        pub scan_next : (a : Option Bounds) (p : Preference) → n ≡ On a p → Scanning s (end + 1) a p
         unfolding said_from step_at NextWithin
         scan_next a p e =
             record { upto = omega arith; stands = rw e at t.within; so_far = more ∙ rw (said_from, comes (On a p) e) }
 
-        pub scan_early : (a e : ℕ) → n ≡ Last a e → Scans s Broken
+        pub scan_early : (v : Bounds) → n ≡ Last v → Scans s None
         unfolding said_from step_at said_at WholeWithin if_last
-        scan_early a b e =
-            record { is = sym (more ∙ rw (said_from, comes (Last a b) e, pieces_first 59 (part s (end + 1) (length s)))); within = tt }
+        scan_early v e =
+            record { is = sym (more ∙ rw (said_from, comes (Last v) e, pieces_first 59 (part s (end + 1) (length s)))); within = tt }
 
       module _ (l : length s ≤ end) where
         -- the last piece
         alone : said_of s ≡ said_from (address_at s address) (stated preference) (part s at end ∷ [])
         alone = h.so_far ∙ rw (cut_last s at (length s) 59 end scan_left f l)
 
-        pub scan_keyless : (a : AddressAt) (p : Preference) → n ≡ On a p → Scans s Broken
+        pub scan_keyless : (a : Option Bounds) (p : Preference) → n ≡ On a p → Scans s None
         unfolding said_from step_at said_at WholeWithin
         scan_keyless a p e =
             record { is = sym (alone ∙ rw (said_from, comes (On a p) e)); within = tt }
 
-        pub scan_last : (a b : ℕ) (r : Scanned) → n ≡ Last a b → r ≡ whole_of address preference a b → Scans s r
+        pub scan_last : (v : Bounds) (r : Option Scanned) → n ≡ Last v → r ≡ whole_of address preference v → Scans s r
         unfolding said_from step_at if_last NextWithin
-        scan_last a b r e q =
+        scan_last v r e q =
             record {
-              is = ap (said_at s) q ∙ whole_said s address preference a b ∙ sym (alone ∙ rw (said_from, comes (Last a b) e));
-              within = rw q (whole_there s address preference a b h.stands (rw e at t.within));
+              is = ap (said_at s) q ∙ whole_said s address preference v ∙ sym (alone ∙ rw (said_from, comes (Last v) e));
+              within = rw q (whole_there s address preference v h.stands (rw e at t.within));
             }
 
-      pub scan_spoils : n ≡ Spoils → Scans s Broken
+      pub scan_spoils : n ≡ Spoils → Scans s None
       scan_spoils e =
           ⊎_elim
           (λ (l : end < length s). spoilt (pieces 59 (part s (end + 1) (length s))) (more l) e)

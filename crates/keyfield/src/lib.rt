@@ -7,43 +7,27 @@ ghost use Rattle.attributes.specs.Steps.{stated};
 ghost use Rattle.keyfield.specs.Field.{mutual_by};
 ghost use Rattle.keyfield.specs.Answers.{whole_of, Scans, KeyAs, ReadAs};
 
-use attributes::{AddressAt, NextPiece, Preference};
+use attributes::{Bounds, NextPiece, Preference};
 use keydata::Decoded;
 
-// What the value says, its key data still a text.
+// What the value says, its key data still a text: where the address stands, the preference, and where the key data stands.
 #[derive(Clone, Copy)]
-enum Scanned {
-    Whole {
-        from: usize,
-        to: usize,
-        mutual: bool,
-        start: usize,
-        end: usize,
-    },
-    Broken,
+struct Scanned {
+    address: Bounds,
+    mutual: bool,
+    key_data: Bounds,
 }
 
-// The length of a key that was written; or there is none.
+// What a field says: the place of its address in the value, as it stands there, its preference, and the length of its key.
 #[derive(Clone, Copy)]
-enum Key {
-    Length(usize),
-    NoKey,
-}
-
-// What a field says: the place of its address in the value, as it stands there, its preference, and the
-// length of its key; or it is spoiled.
-#[derive(Clone, Copy)]
-pub enum Read {
-    Valid {
-        from: usize,
-        to: usize,
-        mutual: bool,
-        key: usize,
-    },
-    Spoiled,
+pub struct Read {
+    pub address: Bounds,
+    pub mutual: bool,
+    pub key: usize,
 }
 
 // F7: no `prefer-encrypt` is no preference.
+#[tactic(auto, using(crate::proofs::Ending::ending))]
 fn is_mutual(preference: Preference) -> bool
     ensures { result ≡ mutual_by (stated preference) }
 {
@@ -54,89 +38,74 @@ fn is_mutual(preference: Preference) -> bool
 }
 
 // What has been read where the key data stands last: the address must have come before (F6).
-fn whole(address: AddressAt, preference: Preference, start: usize, end: usize) -> Scanned
-    ensures { result ≡ whole_of address preference start end }
+#[tactic(auto, using(crate::proofs::Ending::ending))]
+fn whole(address: Option<Bounds>, preference: Preference, key_data: Bounds) -> Option<Scanned>
+    ensures { result ≡ whole_of address preference key_data }
 {
-    match address {
-        AddressAt::Unseen => Scanned::Broken,
-        AddressAt::At(from, to) => Scanned::Whole {
-            from,
-            to,
-            mutual: is_mutual(preference),
-            start,
-            end,
-        },
-    }
+    let address = address?;
+    Some(Scanned {
+        address,
+        mutual: is_mutual(preference),
+        key_data,
+    })
 }
 
 // Reads the pieces in order (F1). The key data stands in the last one, and only there (F8).
-fn scan(s: &[u8]) -> Scanned
+#[tactic(auto, using(crate::proofs::Scanning::scanning))]
+fn scan(s: &[u8]) -> Option<Scanned>
     ensures { Scans s.now result }
 {
     let mut at = 0;
-    let mut address = AddressAt::Unseen;
+    let mut address = None;
     let mut preference = Preference::Unstated;
     loop {
         let end = attributes::find(s, at, s.len(), b';');
         match attributes::step_at(s, at, end, address, preference) {
             NextPiece::On(seen, stated) => {
                 if s.len() <= end {
-                    return Scanned::Broken;
+                    return None;
                 }
                 address = seen;
                 preference = stated;
                 at = end + 1;
             }
-            NextPiece::Last(start, stop) => {
+            NextPiece::Last(key_data) => {
                 if end < s.len() {
-                    return Scanned::Broken;
+                    return None;
                 }
-                return whole(address, preference, start, stop);
+                return whole(address, preference, key_data);
             }
-            NextPiece::Spoils => return Scanned::Broken,
+            NextPiece::Spoils => return None,
         }
     }
 }
 
 // Writes the key that key data stands for, of 1 to `limit` octets (F9, F10), to the front of `key`. Where there is none,
 // what `key` holds means nothing.
-fn read_key(text: &[u8], limit: usize, key: &mut [u8]) -> Key
+#[tactic(auto, using(crate::proofs::Keying::keying))]
+fn read_key(text: &[u8], limit: usize, key: &mut [u8]) -> Option<usize>
     requires { limit ≤ length key.old }
     ensures { KeyAs limit text.now key.new result }
 {
     match keydata::decode(text, &mut key[0..limit]) {
-        Decoded::Octets(n) => {
-            if n == 0 {
-                return Key::NoKey;
-            }
-            Key::Length(n)
-        }
-        Decoded::Refused => Key::NoKey,
+        Decoded::Octets(n) if 0 < n => Some(n),
+        Decoded::Octets(_) | Decoded::Refused => None,
     }
 }
 
 // Reads a field's value, and writes its key, of 1 to `limit` octets, to the front of `key`. Where the field is spoiled,
 // what `key` holds means nothing.
-pub fn read_field(value: &[u8], limit: usize, key: &mut [u8]) -> Read
+#[tactic(auto, using(crate::proofs::Reading::reading))]
+pub fn read_field(value: &[u8], limit: usize, key: &mut [u8]) -> Option<Read>
     requires { limit ≤ length key.old }
     ensures { ReadAs limit value.now key.new result }
 {
-    match scan(value) {
-        Scanned::Whole {
-            from,
-            to,
-            mutual,
-            start,
-            end,
-        } => match read_key(&value[start..end], limit, key) {
-            Key::Length(n) => Read::Valid {
-                from,
-                to,
-                mutual,
-                key: n,
-            },
-            Key::NoKey => Read::Spoiled,
-        },
-        Scanned::Broken => Read::Spoiled,
-    }
+    let said = scan(value)?;
+    let text = &value[said.key_data.from..said.key_data.to];
+    let key = read_key(text, limit, key)?;
+    Some(Read {
+        address: said.address,
+        mutual: said.mutual,
+        key,
+    })
 }

@@ -27,13 +27,11 @@ use Rattle.attributes.specs.Answers.{part}
 use Rattle.keyfield.specs.Field.{Field}
 use Rattle.keyfield.specs.Answers.{ReadAt, ReadAs}
 use Rattle.keyfield.specs.declared.Read.{Read}
-use Rattle.keyfield.specs.declared.Read.TheVariants.{Valid, Spoiled}
 use Rattle.keyfield.proofs.Told.{told_from, told_upto, told_field, told_spoiled}
 use Rattle.update.specs.Message.{Gossiped}
 use Rattle.keyowner.specs.Owners.{accepted_by, accepted_for}
 use Rattle.keyowner.specs.Answers.{AcceptedAt, AcceptedAs}
 use Rattle.keyowner.specs.declared.Accepted.{Accepted}
-use Rattle.keyowner.specs.declared.Accepted.TheVariants.{Gossip, NotAccepted}
 
 module _ (recipients : List (List ℕ)) where
   pub by_none : accepted_by recipients None ≡ None
@@ -50,33 +48,36 @@ module _ (recipients : List (List ℕ)) where
     by_other e = rw (accepted_by, e)
 
 -- The address of a valid field, in canonical form, in lent memory.
-pub record Named (limit : ℕ) (s address key : List ℕ) (from to : ℕ) (m : Bool) (n l : ℕ) : Type 0 where
-  pub field : ReadAt limit s key from to m l
-  pub there : take n address ≡ canonical (take (to - from) (drop from s))
+pub record Named (limit : ℕ) (s address key : List ℕ) (f : Read) (n : ℕ) : Type 0 where
+  pub field : ReadAt limit s key f
+  pub there : take n address ≡ canonical (take (f.address.to - f.address.from) (drop f.address.from s))
   pub within : n ≤ length address
 
-module _ (limit : ℕ) (s key : List ℕ) (r : Read) (a : ReadAs limit s key r) where
-  pub accept_spoiled : (recipients : List (List ℕ)) (address : List ℕ) → r ≡ Spoiled → AcceptedAs limit (accepted_for limit recipients s) address key NotAccepted
+module _ (limit : ℕ) (s key : List ℕ) (r : Option Read) (a : ReadAs limit s key r) where
+  pub accept_spoiled :
+      (recipients : List (List ℕ)) (address : List ℕ) (o : Option Accepted) → o ≡ None → r ≡ None
+      → AcceptedAs limit (accepted_for limit recipients s) address key o
   unfolding AcceptedAs accepted_for
-  accept_spoiled recipients address q = ap (accepted_by recipients) (told_spoiled limit s key r a q) ∙ by_none recipients
+  accept_spoiled recipients address o e q =
+      rw e (ap (accepted_by recipients) (told_spoiled limit s key r a q) ∙ by_none recipients)
 
-  module _ (from to : ℕ) (m : Bool) (l : ℕ) (q : r ≡ Valid from to m l) where
+  module _ (f : Read) (q : r ≡ Some f) where
     abbrev named : List ℕ
-    named = canonical (take (to - from) (drop from s))
+    named = canonical (take (f.address.to - f.address.from) (drop f.address.from s))
 
-    pub accept_plain : plain (take (to - from) (drop from s)) ≡ true
+    pub accept_plain : plain (take (f.address.to - f.address.from) (drop f.address.from s)) ≡ true
     unfolding part
-    accept_plain = (told_field limit s key r a from to m l q).stands.plainly
+    accept_plain = (told_field limit s key r a f q).stands.plainly
 
     fits : (room : ℕ) → address_room ≤ room → length named ≤ room
-    fits room h = omega (arith, canonical_most (take (to - from) (drop from s)) accept_plain)
+    fits room h = omega (arith, canonical_most (take (f.address.to - f.address.from) (drop f.address.from s)) accept_plain)
 
-    module _ (room : List ℕ) (h : address_room ≤ length room) (w : Fitted) (u : w ≡ written_of (canonical (take (to - from) (drop from s))) (length room)) where
+    module _ (room : List ℕ) (h : address_room ≤ length room) (w : Fitted) (u : w ≡ written_of (canonical (take (f.address.to - f.address.from) (drop f.address.from s))) (length room)) where
       -- there is room
-      pub accept_no_room : (recipients : List (List ℕ)) (address : List ℕ) → w ≡ NoRoom → AcceptedAs limit (accepted_for limit recipients s) address key NotAccepted
+      pub accept_no_room : (recipients : List (List ℕ)) (address : List ℕ) → w ≡ NoRoom → AcceptedAs limit (accepted_for limit recipients s) address key None
       accept_no_room recipients address y = absurd (omega (arith, written_no_room named (length room) (sym y ∙ u), fits (length room) h))
 
-      module _ (n : ℕ) (y : w ≡ Length n) (address : List ℕ) (z : address ≡ onto_if_fits (canonical (take (to - from) (drop from s))) room) where
+      module _ (n : ℕ) (y : w ≡ Length n) (address : List ℕ) (z : address ≡ onto_if_fits (canonical (take (f.address.to - f.address.from) (drop f.address.from s))) room) where
         long : n ≡ length named
         long = (written_length named (length room) n (sym y ∙ u)).0
 
@@ -86,23 +87,23 @@ module _ (limit : ℕ) (s key : List ℕ) (r : Read) (a : ReadAs limit s key r) 
         pub accept_within : n ≤ length address
         accept_within = value_within named room address n long written
 
-        pub accept_named : Named limit s address key from to m n l
+        pub accept_named : Named limit s address key f n
         accept_named =
             record {
-              field = told_field limit s key r a from to m l q;
+              field = told_field limit s key r a f q;
               there = value_there named room address n long written;
               within = accept_within;
             }
 
         -- as it is looked for among the recipients
         pub accept_canonical : is_canonical (take (n - 0) (drop 0 address)) ≡ true
-        accept_canonical = rw (sub-zero, accept_named.there) (plain_is_canonical (take (to - from) (drop from s)) accept_plain)
+        accept_canonical = rw (sub-zero, accept_named.there) (plain_is_canonical (take (f.address.to - f.address.from) (drop f.address.from s)) accept_plain)
 
 -- by the test first, then by the places of the address
 module _ (limit : ℕ) (recipients : List (List ℕ)) (s address key : List ℕ) (n : ℕ) (b : Bool) where
-  module _ (from to : ℕ) (m : Bool) (l : ℕ) (o : Named limit s address key from to m n l) (e : b ≡ among (take (n - 0) (drop 0 address)) recipients) where
+  module _ (f : Read) (o : Named limit s address key f n) (e : b ≡ among (take (n - 0) (drop 0 address)) recipients) where
     abbrev field : Field
-    field = record { address = canonical (take (to - from) (drop from s)); is_mutual = m; key = take l key }
+    field = record { address = canonical (take (f.address.to - f.address.from) (drop f.address.from s)); is_mutual = f.«mutual»; key = take f.key key }
 
     tested : b ≡ among field.address recipients
     tested = e ∙ ap (λ (x : List ℕ). among x recipients) (rw sub-zero o.there)
@@ -113,23 +114,23 @@ module _ (limit : ℕ) (recipients : List (List ℕ)) (s address key : List ℕ)
 
   pub accept_not :
       b ≡ false → b ≡ among (take (n - 0) (drop 0 address)) recipients
-      → (r : Read) (from to : ℕ) (m : Bool) (l : ℕ) → r ≡ Valid from to m l → Named limit s address key from to m n l
-      → AcceptedAs limit (accepted_for limit recipients s) address key NotAccepted
+      → (r : Option Read) (f : Read) → r ≡ Some f → Named limit s address key f n
+      → AcceptedAs limit (accepted_for limit recipients s) address key None
   unfolding AcceptedAs
-  accept_not t e r from to m l q o = by_field from to m l o e ∙ by_other recipients (field from to m l o e) (sym (tested from to m l o e) ∙ t)
+  accept_not t e r f q o = by_field f o e ∙ by_other recipients (field f o e) (sym (tested f o e) ∙ t)
 
   pub accept_listed :
       b ≡ true → b ≡ among (take (n - 0) (drop 0 address)) recipients
-      → (r : Read) (from to : ℕ) (m : Bool) (l : ℕ) → r ≡ Valid from to m l → Named limit s address key from to m n l
-      → AcceptedAs limit (accepted_for limit recipients s) address key (Gossip n l)
+      → (r : Option Read) (f : Read) → r ≡ Some f → Named limit s address key f n
+      → AcceptedAs limit (accepted_for limit recipients s) address key (Some (record { address = n; key = f.key }))
   unfolding AcceptedAs part
-  accept_listed t e r from to m l q o =
+  accept_listed t e r f q o =
       record {
         is =
-            by_field from to m l o e
-            ∙ by_listed recipients (field from to m l o e) (sym (tested from to m l o e) ∙ t)
-            ∙ ap Some (λ i. record { address = sym o.there i; key = take l key });
-        canonical = rw o.there (plain_is_canonical (take (to - from) (drop from s)) o.field.stands.plainly);
+            by_field f o e
+            ∙ by_listed recipients (field f o e) (sym (tested f o e) ∙ t)
+            ∙ ap Some (λ i. record { address = sym o.there i; key = take f.key key });
+        canonical = rw o.there (plain_is_canonical (take (f.address.to - f.address.from) (drop f.address.from s)) o.field.stands.plainly);
         address_within = o.within;
         opens = o.field.opens;
       }
@@ -138,11 +139,11 @@ pub ruleset accepting =
     (accept_spoiled, accept_plain, accept_no_room, accept_within, accept_named, accept_canonical, accept_not, accept_listed, told_from, told_upto, rules)
 
 -- as a caller asks it of an answer r
-module _ (limit : ℕ) (o : Option Gossiped) (address key : List ℕ) (r : Accepted) (p : AcceptedAs limit o address key r) where
-  pub accepted_at : (n k : ℕ) → r ≡ Gossip n k → AcceptedAt limit o address key n k
+module _ (limit : ℕ) (o : Option Gossiped) (address key : List ℕ) (r : Option Accepted) (p : AcceptedAs limit o address key r) where
+  pub accepted_at : (g : Accepted) → r ≡ Some g → AcceptedAt limit o address key g
   unfolding AcceptedAs
-  accepted_at n k q = rw q at p
+  accepted_at g q = rw q at p
 
-  pub accepted_nothing : r ≡ NotAccepted → o ≡ None
+  pub accepted_nothing : r ≡ None → o ≡ None
   unfolding AcceptedAs
   accepted_nothing q = rw q at p

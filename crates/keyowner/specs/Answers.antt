@@ -2,7 +2,7 @@
 --     OwnAt, OwnAs                a field of the sender, its key in lent memory
 --     Accepts                     a gossip field that may be accepted: what the roll of the recipients and lent memory have to be
 --     AcceptedAt, AcceptedAs      one that is accepted, its address and its key in lent memory
-use Rattle.std.specs.Prelude.{ℕ, ◌≤◌, ◌≡◌, Bool, true, List, length, take}
+use Rattle.std.specs.Prelude.{ℕ, ◌≤◌, ◌≡◌, true, List, length, take}
 use Rattle.std.specs.Prelude.{Option, Some, None}
 use Rattle.address.specs.Address.{is_canonical}
 use Rattle.slots.specs.Slot.{address_room}
@@ -10,20 +10,18 @@ use Rattle.keyfield.specs.Field.{Field}
 use Rattle.keyfield.specs.Answers.{Opens}
 use Rattle.roll.specs.Index.{Indexed}
 use Rattle.update.specs.Message.{Gossiped}
-use Rattle.keyowner.specs.declared.Own.{Own}
-use Rattle.keyowner.specs.declared.Own.TheVariants.{Key, NoKey}
+use Rattle.keyowner.specs.declared.OwnKey.{OwnKey}
 use Rattle.keyowner.specs.declared.Accepted.{Accepted}
-use Rattle.keyowner.specs.declared.Accepted.TheVariants.{Gossip, NotAccepted}
 
 -- The field has this preference, and its key opens the lent memory.
-pub record OwnAt (limit : ℕ) (sender : List ℕ) (field : Option Field) (key : List ℕ) (m : Bool) (n : ℕ) : Type 0 where
-  pub is : field ≡ Some (record { address = sender; is_mutual = m; key = take n key })
-  pub opens : Opens limit key n
+pub record OwnAt (limit : ℕ) (sender : List ℕ) (field : Option Field) (key : List ℕ) (r : OwnKey) : Type 0 where
+  pub is : field ≡ Some (record { address = sender; is_mutual = r.«mutual»; key = take r.length key })
+  pub opens : Opens limit key r.length
 
 -- the answer on a field of the sender: its preference and its key, or that it is none
-unfoldable pub OwnAs : ℕ → List ℕ → Option Field → List ℕ → Own → Type 0
-OwnAs limit sender field key (Key m n) = OwnAt limit sender field key m n
-OwnAs limit sender field key NoKey = field ≡ None
+unfoldable pub OwnAs : ℕ → List ℕ → Option Field → List ℕ → Option OwnKey → Type 0
+OwnAs limit sender field key (Some r) = OwnAt limit sender field key r
+OwnAs limit sender field key None = field ≡ None
 
 -- The roll of the recipients has its index, and the two lent memories have room.
 pub record Accepts (limit : ℕ) (recipients tags places address key : List ℕ) : Type 0 where
@@ -32,13 +30,13 @@ pub record Accepts (limit : ℕ) (recipients tags places address key : List ℕ)
   pub key_room : limit ≤ length key
 
 -- The gossip has this address, in canonical form, and this key, which open the two lent memories.
-pub record AcceptedAt (limit : ℕ) (gossip : Option Gossiped) (address key : List ℕ) (n k : ℕ) : Type 0 where
-  pub is : gossip ≡ Some (record { address = take n address; key = take k key })
-  pub canonical : is_canonical (take n address) ≡ true
-  pub address_within : n ≤ length address
-  pub opens : Opens limit key k
+pub record AcceptedAt (limit : ℕ) (gossip : Option Gossiped) (address key : List ℕ) (r : Accepted) : Type 0 where
+  pub is : gossip ≡ Some (record { address = take r.address address; key = take r.key key })
+  pub canonical : is_canonical (take r.address address) ≡ true
+  pub address_within : r.address ≤ length address
+  pub opens : Opens limit key r.key
 
 -- the answer on a gossip field: its address and its key, or that it is not accepted
-unfoldable pub AcceptedAs : ℕ → Option Gossiped → List ℕ → List ℕ → Accepted → Type 0
-AcceptedAs limit gossip address key (Gossip n k) = AcceptedAt limit gossip address key n k
-AcceptedAs limit gossip address key NotAccepted = gossip ≡ None
+unfoldable pub AcceptedAs : ℕ → Option Gossiped → List ℕ → List ℕ → Option Accepted → Type 0
+AcceptedAs limit gossip address key (Some r) = AcceptedAt limit gossip address key r
+AcceptedAs limit gossip address key None = gossip ≡ None

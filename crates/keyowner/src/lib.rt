@@ -11,46 +11,43 @@ ghost use Rattle.roll.specs.Roll.{unrolled};
 ghost use Rattle.keyowner.specs.Owners.{accepted_for};
 ghost use Rattle.keyowner.specs.Answers.{OwnAs, Accepts, AcceptedAs};
 
-use keyfield::Read;
+use address::Fitted;
 
-// The preference and the length of the key of a field of the sender; or there is none.
+// What a field of the sender brings: its preference, and the length of its key.
 #[derive(Clone, Copy)]
-pub enum Own {
-    Key { mutual: bool, length: usize },
-    NoKey,
+pub struct OwnKey {
+    pub mutual: bool,
+    pub length: usize,
 }
 
-// The lengths of the address and the key of a gossip field that is accepted; or it is not.
+// What a gossip field brings that is accepted: the lengths of its address and of its key.
 #[derive(Clone, Copy)]
-pub enum Accepted {
-    Gossip { address: usize, key: usize },
-    NotAccepted,
+pub struct Accepted {
+    pub address: usize,
+    pub key: usize,
 }
 
 // Is the Autocrypt field with this value valid for the sender (F12)? Its key, of 1 to `limit` octets, is then written to
 // the front of `key`.
-pub fn valid_for(value: &[u8], limit: usize, sender: &[u8], key: &mut [u8]) -> Own
+#[tactic(auto, using(crate::proofs::OwnField::owning))]
+pub fn valid_for(value: &[u8], limit: usize, sender: &[u8], key: &mut [u8]) -> Option<OwnKey>
     requires { (is_canonical sender.now ≡ true) × (limit ≤ length key.old) }
     ensures { OwnAs limit sender.now (valid_for limit sender.now value.now) key.new result }
 {
-    match keyfield::read_field(value, limit, key) {
-        Read::Valid {
-            from,
-            to,
-            mutual,
-            key: length,
-        } => {
-            if address::has_form(&value[from..to], sender) {
-                return Own::Key { mutual, length };
-            }
-            Own::NoKey
-        }
-        Read::Spoiled => Own::NoKey,
+    let said = keyfield::read_field(value, limit, key)?;
+    let at = said.address;
+    if address::has_form(&value[at.from..at.to], sender) {
+        return Some(OwnKey {
+            mutual: said.mutual,
+            length: said.key,
+        });
     }
+    None
 }
 
 // Is the gossip field with this value accepted (G5)? Its address and its key, of 1 to `limit` octets, are then written to
 // the front of `address` and `key`.
+#[tactic(auto, using(crate::proofs::Accepting::accepting))]
 pub fn accept(
     value: &[u8],
     limit: usize,
@@ -59,29 +56,21 @@ pub fn accept(
     places: &[u16],
     address: &mut [u8],
     key: &mut [u8],
-) -> Accepted
+) -> Option<Accepted>
     requires { Accepts limit recipients.now tags.now places.now address.old key.old }
     ensures { AcceptedAs limit (accepted_for limit (unrolled recipients.now) value.now)
         address.new key.new result }
 {
-    match keyfield::read_field(value, limit, key) {
-        Read::Valid {
-            from,
-            to,
-            mutual: _,
-            key: length,
-        } => match address::canonical(&value[from..to], address) {
-            address::Fitted::Length(n) => {
-                if roll::holds(recipients, tags, places, &address[0..n]) {
-                    return Accepted::Gossip {
-                        address: n,
-                        key: length,
-                    };
-                }
-                Accepted::NotAccepted
-            }
-            address::Fitted::NoRoom => Accepted::NotAccepted,
-        },
-        Read::Spoiled => Accepted::NotAccepted,
+    let said = keyfield::read_field(value, limit, key)?;
+    let at = said.address;
+    let Fitted::Length(n) = address::canonical(&value[at.from..at.to], address) else {
+        return None;
+    };
+    if roll::holds(recipients, tags, places, &address[0..n]) {
+        return Some(Accepted {
+            address: n,
+            key: said.key,
+        });
     }
+    None
 }

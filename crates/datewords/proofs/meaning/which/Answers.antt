@@ -1,0 +1,22 @@
+use Rattle.std.proofs.Common.{rules, tests}
+use Rattle.std.proofs.lemmas.Iterator.{YieldsList-from_slice}
+use Rattle.std.proofs.lemmas.Iterator.Search.{position_from_yields_List}
+use Rattle.octets.specs.Octets.{same_name}
+use Rattle.datewords.proofs.Naming.{cut, which_is, which_none}
+use Rattle.datewords.proofs.meaning.which.Goals as goal
+
+pub returns-in-Some : goal.returns-in-Some
+returns-in-Some c =
+    let run = c.args.run.now in
+    let e =
+    position_from_yields_List (same_name run) _ _ c.position.result c.position.ensures.ran
+    (YieldsList-from_slice (cut c.args.names.now) cc) (λ x b q k. search (rules, tests)) in
+    which_is run c.args.names.now c.position.result e c.in-Some.k c.in-Some.is
+
+pub returns-in-None : goal.returns-in-None
+returns-in-None c =
+    let run = c.args.run.now in
+    let e =
+    position_from_yields_List (same_name run) _ _ c.position.result c.position.ensures.ran
+    (YieldsList-from_slice (cut c.args.names.now) cc) (λ x b q k. search (rules, tests)) in
+    which_none run c.args.names.now c.position.result e c.in-None.is
