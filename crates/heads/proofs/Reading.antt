@@ -4,9 +4,10 @@
 --     seen_read                  last seen raised
 --     bits_read                  the bits as a number
 -- Assumes nothing.
-use Prim.Native.Nat.{ℕ, ◌+◌, ◌-◌, ◌≤◌, max}
+use Prim.Native.Nat.{ℕ, ◌+◌, ◌*◌, ◌-◌, ◌≤◌}
 use mathlib.Core.Path.{◌≡◌}
-use mathlib.Core.Bool.{Bool, true, cond, ◌&&◌}
+use mathlib.Core.Bool.{Bool, true, false, cond, ◌&&◌}
+use Rattle.std.specs.Int.{from_bool}
 use mathlib.Core.List.{List}
 use native.Mathlib.Omega.{arith}
 use borrow.Author.Rules.{rules}
@@ -15,7 +16,7 @@ use lib.ListN.{get_or, take, drop}
 use lib.Seq.{take-take, get_or-take}
 use Rattle.octets.specs.Octets.{all_zero}
 use Rattle.heads.specs.declared.Head.{Head}
-use Rattle.heads.specs.Head.{part, address_length, has_last_seen, has_direct, has_gossip, is_mutual, last_seen, timestamp, gossip_timestamp, direct_length, gossip_length, head_of, clear, head_seen, bits_of}
+use Rattle.heads.specs.Head.{part, address_length, has_last_seen, has_direct, has_gossip, is_mutual, last_seen, timestamp, gossip_timestamp, direct_length, gossip_length, head_of, clear, bits_of}
 use Rattle.heads.proofs.Parts.{drop_take}
 
 module _ (s : List ℕ) where
@@ -66,27 +67,13 @@ module _ (s : List ℕ) where
   unfolding clear
   clear_first = rw (bits_first, part_first 5 3 (omega arith), part_first 36 4 (omega arith))
 
-pub seen_read : (n : Head) (date l : ℕ) → l ≡ max n.last_seen date
-    → ◌≡◌ {A = Head}
-    (record {
-      address_length = n.address_length;
-      seen = true;
-      direct = n.direct;
-      gossip = n.gossip;
-      «mutual» = n.«mutual»;
-      last_seen = l;
-      timestamp = n.timestamp;
-      gossip_timestamp = n.gossip_timestamp;
-      direct_length = n.direct_length;
-      gossip_length = n.gossip_length;
-    })
-    (head_seen date n)
-seen_read n date l e = rw e
+weigh : (b : Bool) (w : ℕ) → w * from_bool b ≡ cond b w 0
+weigh true w = omega arith
+weigh false w = omega arith
 
-pub bits_read : (n : Head) (a b c d : ℕ)
-    → (a ≡ cond n.seen 1 0) × (a ≤ 1) → (b ≡ cond n.direct 2 0) × (b ≤ 2) → (c ≡ cond n.gossip 4 0) × (c ≤ 4) → (d ≡ cond n.«mutual» 8 0) × (d ≤ 8)
-    → a + b + c + d ≡ bits_of n
+pub bits_read : (n : Head) (a b c d : ℕ) → a ≡ from_bool n.seen → b ≡ from_bool n.direct → c ≡ from_bool n.gossip → d ≡ from_bool n.«mutual»
+    → a + 2 * b + 4 * c + 8 * d ≡ bits_of n
 unfolding bits_of
-bits_read n a b c d ea eb ec ed = rw (ea.0, eb.0, ec.0, ed.0)
+bits_read n a b c d ea eb ec ed = omega (arith, weigh n.seen 1, weigh n.direct 2, weigh n.gossip 4, weigh n.«mutual» 8)
 
-pub ruleset reading = (head_read, clear_read, seen_read, bits_read, rules)
+pub ruleset reading = (head_read, clear_read, bits_read, rules)
