@@ -71,7 +71,7 @@ impl Head {
     }
 
     // The numbers that stand in 40 octets.
-    #[tactic(auto, using(crate::proofs::Reading::reading))]
+    #[tactic(auto, unfolding(crate::specs::Head::head_of))]
     pub fn read(head: &[u8]) -> Self
         requires { length head.now ≡ head_length }
         ensures { result ≡ head_of head.now }
@@ -138,7 +138,7 @@ impl Head {
     }
 
     // Octet 4: the sum of 1 for last seen, 2 for the direct half, 4 for the gossip half and 8 for the preference (T5).
-    #[tactic(auto, using(crate::proofs::Reading::reading))]
+    #[tactic(auto, unfolding(crate::specs::Head::bits_of))]
     pub fn bits(self) -> u64
         ensures { result ≡ bits_of self }
     {
@@ -251,7 +251,7 @@ impl Head {
 }
 
 // Are the four upper bits of octet 4 clear, and the octets 5 to 7 and 36 to 39 zero (T8.4)?
-#[tactic(auto, using(crate::proofs::Reading::reading))]
+#[tactic(auto, unfolding(crate::specs::Head::clear))]
 pub fn is_clear(head: &[u8]) -> bool
     requires { length head.now ≡ head_length }
     ensures { result ≡ clear head.now }
