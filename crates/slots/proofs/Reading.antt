@@ -5,12 +5,15 @@
 --     behind_read              an area behind a length
 -- Assumes nothing.
 use Prim.Native.Nat.{ℕ, ◌+◌, ◌-◌, min}
-use mathlib.Core.Path.{◌≡◌, ◌∙◌}
+use mathlib.Core.Path.{◌≡◌, sym, ◌∙◌}
 use mathlib.Core.Bool.{Bool, ◌&&◌, and-true}
 use mathlib.Core.List.{List, [], ◌∷◌}
 use native.Mathlib.Omega.{arith}
 use borrow.Author.Rules.{rules}
 use lib.Dec.{eqb}
+use borrow.Author.Tests.{eqb-true}
+use Rattle.std.specs.List.{starts_with}
+use Rattle.octets.proofs.Tests.{by_test}
 use lib.ListN.{length, get_or, take, drop}
 use lib.Seq.{drop-drop}
 use Rattle.octets.specs.Octets.{all_zero, same_octets}
@@ -22,7 +25,7 @@ use Rattle.heads.specs.declared.Head.{Head}
 use Rattle.heads.specs.Head.{address_length, head_of, clear, seen_sound, direct_sound, gossip_sound}
 use Rattle.heads.proofs.Parts.{take_min, drop_min}
 use Rattle.heads.proofs.Reading.{head_first, clear_first}
-use Rattle.slots.specs.Slot.{slot_length, address_room, key_limit, address_area, direct_area, gossip_area, address_of, free, marked, spelled, zero_padding, sound_by}
+use Rattle.slots.specs.Slot.{slot_length, mark, address_room, key_limit, address_area, direct_area, gossip_area, address_of, free, marked, spelled, zero_padding, sound_by}
 
 module _ (s : List ℕ) where
   pub head_read : (n : Head) → n ≡ head_of (take 40 s) → n ≡ head_of s
@@ -60,11 +63,18 @@ module _ (s : List ℕ) where
       let a : 40 + m - 40 ≡ m = omega arith in
       rw (a, em, en) (take_min (address_length s) address_room (drop 40 s))
 
-pub marked_read : (s : List ℕ) → length s ≡ slot_length → (eqb (get_or s 0 0) 65 && eqb (get_or s 1 0) 49) ≡ marked s
+eqb_flip : (x y : ℕ) → eqb x y ≡ eqb y x
+eqb_flip x y =
+    by_test (eqb x y)
+    (λ e. rw (eqb-true x y e))
+    (λ e. by_test (eqb y x) (λ f. rw (eqb-true y x f)) (λ f. e ∙ sym f))
+
+-- the code tests the octets of the mark against those of the slot
+pub marked_read : (s : List ℕ) → length s ≡ slot_length → starts_with eqb s mark ≡ marked s
 unfolding marked same_octets
 marked_read [] e = absurd (omega arith)
 marked_read (x ∷ []) e = absurd (omega arith)
-marked_read (x ∷ y ∷ s) e = rw (and-true (eqb y 49))
+marked_read (x ∷ y ∷ s) e = rw (eqb_flip x 65, eqb_flip y 49)
 
 pub behind_read : (s : List ℕ) (at room count n : ℕ) → n ≡ min count room
     → (b : Bool) → b ≡ all_zero (take (at + room - (at + n)) (drop (at + n) s)) → b ≡ all_zero (drop count (take room (drop at s)))
