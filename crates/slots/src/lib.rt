@@ -51,7 +51,7 @@ pub enum Spelling {
 }
 
 // T8.8: is a room of the slot zero behind a length? A length beyond the room leaves nothing to test.
-#[tactic(auto, using(crate::proofs::Reading::reading))]
+#[tactic(auto, using(crate::proofs::Reading::behind_read))]
 fn zero_behind(slot: &[u8], at: usize, room: usize, count: usize) -> bool
     requires { at + room ≤ length slot.now }
     ensures { result ≡ all_zero (drop count (take room (drop at slot.now))) }
@@ -69,7 +69,7 @@ pub fn is_free(slot: &[u8]) -> bool
 }
 
 // T4: does the slot open with the mark?
-#[tactic(auto, using(crate::proofs::Reading::reading))]
+#[tactic(auto, using(crate::proofs::Reading::marked_read))]
 pub fn is_marked(slot: &[u8]) -> bool
     requires { length slot.now ≡ slot_length }
     ensures { result ≡ marked slot.now }
@@ -78,7 +78,7 @@ pub fn is_marked(slot: &[u8]) -> bool
 }
 
 // The numbers of octets 2 to 39.
-#[tactic(auto, using(crate::proofs::Reading::reading))]
+#[tactic(auto, using(heads::proofs::Reading::head_first))]
 pub fn head_of(slot: &[u8]) -> Head
     requires { length slot.now ≡ slot_length }
     ensures { result ≡ head_of slot.now }
@@ -87,7 +87,7 @@ pub fn head_of(slot: &[u8]) -> Head
 }
 
 // The address: as much of its room as its length says, and all of it where the length says more.
-#[tactic(auto, using(crate::proofs::Reading::reading))]
+#[tactic(auto, using(crate::proofs::Reading::address_read))]
 pub fn address_of(slot: &[u8]) -> &[u8]
     requires { length slot.now ≡ slot_length }
     ensures { result.now ≡ address_of slot.now }
@@ -109,7 +109,7 @@ fn is_spelled(address: &[u8], how: Spelling) -> bool
 }
 
 // T8.4, T8.8: is all zero that has to be? The lengths are those of the head.
-#[tactic(auto, using(crate::proofs::Reading::reading))]
+#[tactic(auto, using(heads::proofs::Reading::clear_first), unfolding(crate::specs::Slot::zero_padding))]
 fn is_padding_zero(slot: &[u8], n: Head) -> bool
     requires { length slot.now ≡ slot_length }
     ensures { result ≡ zero_padding n slot.now }
