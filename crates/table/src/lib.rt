@@ -40,7 +40,7 @@ pub fn count(table: &[u8]) -> usize
 }
 
 // One slot as a part of the table.
-#[tactic(auto, using(crate::proofs::Slots::reaching), unfolding(crate::specs::Table::slots))]
+#[tactic(auto, using(crate::proofs::Slots::lending), unfolding(crate::specs::Table::slots))]
 pub fn slot_at(table: &[u8], i: usize) -> &[u8]
     requires { i < slots_of table.now }
     ensures { (result.now ≡ slot_at table.now i) × (length result.now ≡ slot_length) }
@@ -118,7 +118,7 @@ fn put_tag(tags: &mut [u32; Slot::MOST], i: usize, address: &[u8])
 }
 
 // Begins the entry of an address in a slot, and keeps the tags true.
-#[tactic(auto, using(crate::proofs::Slots::lending, crate::proofs::Tags::begin_low, crate::proofs::Tags::begin_room, crate::proofs::Tags::begin_tagged), unfolding(crate::specs::Table::slots))]
+#[tactic(auto, using(crate::proofs::Slots::lending, crate::proofs::Tags::begin_room, crate::proofs::Tags::begin_tagged), unfolding(crate::specs::Table::slots))]
 pub fn begin(table: &mut [u8], tags: &mut [u32; Slot::MOST], i: usize, address: &[u8])
     requires { Begins table.old tags.old i address.now }
     ensures table_after { table.new ≡ with_slot table.old i (slot_of (newcomer address.now)) }
