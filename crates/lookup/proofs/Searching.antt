@@ -8,21 +8,19 @@
 --     find_seeks, found_is        the whole table
 --     the rulesets                searching, for `search`; sifting, for `lowest_with`; finding, for `find`
 -- Assumes nothing.
-use Prim.Native.Nat.{ℕ, ◌+◌, ◌-◌, ◌<◌, ◌≤◌}
+use Prim.Native.Nat.{ℕ, ◌+◌, ◌<◌, ◌≤◌}
 use mathlib.Core.Path.{◌≡◌, refl, sym, ◌∙◌}
-use mathlib.Core.Bool.{Bool, true, false, not, ◌&&◌, and-false}
+use mathlib.Core.Bool.{Bool, true, false, not}
 use mathlib.Core.List.{List, [], ◌∷◌}
 use Rattle.std.specs.Cmp.Lexicographic.{pointwise}
 use native.Mathlib.Omega.{arith}
-use borrow.Author.Tests.{eqb-true, eqb-false, not-true, not-false}
+use borrow.Author.Tests.{not-true}
 use borrow.Author.Rules.{rules}
 use lib.Dec.{eqb}
-use lib.ListN.{length, get_or, take, drop, length-take}
-use lib.Seq.{get_or-take, get_or-drop}
+use lib.ListN.{length, get_or}
 use Rattle.octets.specs.Octets.{same_octets}
-use Rattle.octets.proofs.Tests.{and_left, and_right, by_test}
-use Rattle.heads.specs.Head.{address_length}
-use Rattle.slots.specs.Slot.{slot_length, marked, address_of, address_area}
+use Rattle.octets.proofs.Tests.{by_test}
+use Rattle.slots.specs.Slot.{slot_length}
 use Rattle.tags.specs.Tags.{tag_of, in_first}
 use Rattle.tags.proofs.Among.{first_not}
 use Rattle.table.specs.Table.{slots, slot_at, has_address, lowest, found}
