@@ -112,7 +112,8 @@ pub fn is_disable(advice: Advice) -> bool
 }
 
 // What the table has of an address: its canonical form is looked for (T15).
-fn locate(table: &[u8], tags: &[u32; Slot::MOST], address: &[u8]) -> Held
+#[tactic(auto, using(crate::proofs::Locating::locating))]
+fn locate(table: &[u8], tags: &[u32; Slot::MOST], address: &[u8]) -> Option<Held>
     requires { Open table.now tags.now × (plain address.now ≡ true) }
     ensures { result ≡ held_of table.now (canonical_of address.now) }
 {
@@ -122,6 +123,7 @@ fn locate(table: &[u8], tags: &[u32; Slot::MOST], address: &[u8]) -> Held
 }
 
 // What is advised for one recipient (A2, A4).
+#[tactic(auto, using(crate::proofs::Advising::advising))]
 pub fn advise(
     table: &[u8],
     tags: &[u32; Slot::MOST],
@@ -133,15 +135,11 @@ pub fn advise(
     ensures { result ≡ advice_in table.now «mutual» reply address.now }
 {
     match locate(table, tags, address) {
-        Held::Entry {
-            numbers,
-            direct: _,
-            gossip: _,
-        } => {
-            let both = mutual & numbers.mutual;
-            raise(rate(numbers), reply, both)
+        Some(held) => {
+            let both = mutual & held.numbers.mutual;
+            raise(rate(held.numbers), reply, both)
         }
-        Held::NoEntry => Advice::Disable,
+        None => Advice::Disable,
     }
 }
 
@@ -168,17 +166,14 @@ fn key_part(numbers: Head, direct: usize, gossip: usize) -> Part
 }
 
 // Where the key to encrypt to lies for one recipient (A6); an empty part where there is none (A7).
+#[tactic(auto, using(crate::proofs::Targets::targeting))]
 fn target(table: &[u8], tags: &[u32; Slot::MOST], address: &[u8]) -> Part
     requires { Open table.now tags.now × (plain address.now ≡ true) }
     ensures { result ≡ target_part table.now address.now }
 {
     match locate(table, tags, address) {
-        Held::Entry {
-            numbers,
-            direct,
-            gossip,
-        } => key_part(numbers, direct, gossip),
-        Held::NoEntry => Part {
+        Some(held) => key_part(held.numbers, held.direct, held.gossip),
+        None => Part {
             start: 0,
             length: 0,
         },
