@@ -18,58 +18,59 @@ use Rattle.slots.specs.Entry.{entry_of}
 use Rattle.table.specs.Table.{checked}
 use Rattle.table.specs.declared.Checked.TheVariants.{Sound}
 use Rattle.lookup.specs.Held.{held_of}
+use Rattle.lookup.specs.declared.Held.{Held}
 use Rattle.lookup.proofs.Holding.{by_held, Tells, held_tells, held_not}
 use Rattle.advice.specs.Advice.{direct_of, gossip_of, target_by, target_of, target_in, targets}
 use Rattle.advice.specs.Places.{no_part, key_part, target_part, target_at, octets_at, Within}
 use Rattle.advice.proofs.Rating.{direct_there, direct_absent, gossip_there, gossip_absent}
 use Rattle.advice.proofs.Targets.{key_direct, key_gossip, key_none, target_nothing, target_there}
 
-module _ (t a : List ℕ) (n : Head) (d g : ℕ) (h : Tells t a n d g) where
+module _ (t a : List ℕ) (e : Held) (h : Tells t a e) where
   -- the bits of the numbers are those of the slot
-  direct_bit : (b : Bool) → n.direct ≡ b → has_direct h.slot ≡ b
+  direct_bit : (b : Bool) → e.numbers.direct ≡ b → has_direct h.slot ≡ b
   unfolding head_of
-  direct_bit b e = ap (λ (x : Head). x.direct) (sym h.numbers) ∙ e
+  direct_bit b q = ap (λ (x : Head). x.direct) (sym h.numbers) ∙ q
 
-  gossip_bit : (b : Bool) → n.gossip ≡ b → has_gossip h.slot ≡ b
+  gossip_bit : (b : Bool) → e.numbers.gossip ≡ b → has_gossip h.slot ≡ b
   unfolding head_of
-  gossip_bit b e = ap (λ (x : Head). x.gossip) (sym h.numbers) ∙ e
+  gossip_bit b q = ap (λ (x : Head). x.gossip) (sym h.numbers) ∙ q
 
-  pub key_octets : octets_at t (key_part n d g) ≡ target_by (direct_of (entry_of h.slot)) (gossip_of (entry_of h.slot))
+  pub key_octets : octets_at t (key_part e.numbers e.direct e.gossip) ≡ target_by (direct_of (entry_of h.slot)) (gossip_of (entry_of h.slot))
   unfolding octets_at target_by
   key_octets =
-      by_test n.direct
-      (λ p. rw (← key_direct n d g p, direct_there h.slot (direct_bit true p)) (h.direct_lies p).0)
+      by_test e.numbers.direct
+      (λ p. rw (← key_direct e.numbers e.direct e.gossip p, direct_there h.slot (direct_bit true p)) (h.direct_lies p).0)
       (λ p.
-      by_test n.gossip
+      by_test e.numbers.gossip
       (λ q.
-      rw (← key_gossip n d g p q, direct_absent h.slot (direct_bit false p), gossip_there h.slot (gossip_bit true q)) (h.gossip_lies q).0)
-      (λ q. rw (← key_none n d g p q, direct_absent h.slot (direct_bit false p), gossip_absent h.slot (gossip_bit false q))))
+      rw (← key_gossip e.numbers e.direct e.gossip p q, direct_absent h.slot (direct_bit false p), gossip_there h.slot (gossip_bit true q)) (h.gossip_lies q).0)
+      (λ q. rw (← key_none e.numbers e.direct e.gossip p q, direct_absent h.slot (direct_bit false p), gossip_absent h.slot (gossip_bit false q))))
 
-  pub key_within : Within t (key_part n d g)
+  pub key_within : Within t (key_part e.numbers e.direct e.gossip)
   key_within =
-      by_test n.direct
-      (λ p. rw (← key_direct n d g p) (h.direct_lies p).1)
+      by_test e.numbers.direct
+      (λ p. rw (← key_direct e.numbers e.direct e.gossip p) (h.direct_lies p).1)
       (λ p.
-      by_test n.gossip
-      (λ q. rw (← key_gossip n d g p q) (h.gossip_lies q).1)
-      (λ q. rw (← key_none n d g p q) zero-le))
+      by_test e.numbers.gossip
+      (λ q. rw (← key_gossip e.numbers e.direct e.gossip p q) (h.gossip_lies q).1)
+      (λ q. rw (← key_none e.numbers e.direct e.gossip p q) zero-le))
 
 module _ (t : List ℕ) (s : checked t ≡ Sound) where
   pub target_octets : (a : List ℕ) → octets_at t (target_part t a) ≡ target_in t a
   unfolding octets_at target_in target_of
   target_octets a =
       by_held (held_of t (canonical a))
-      (λ n d g q.
-      let h : Tells t (canonical a) n d g = held_tells t (canonical a) s n d g q in
-      rw (← target_there t a (held_of t (canonical a)) refl n d g q (key_part n d g) refl, target_in, h.whose) (key_octets t (canonical a) n d g h))
+      (λ e q.
+      let h : Tells t (canonical a) e = held_tells t (canonical a) s e q in
+      rw (← target_there t a (held_of t (canonical a)) refl e q (key_part e.numbers e.direct e.gossip) refl, target_in, h.whose) (key_octets t (canonical a) e h))
       (λ q. rw (← target_nothing t a (held_of t (canonical a)) refl q, target_in, held_not t (canonical a) q))
 
   pub target_within : (a : List ℕ) → Within t (target_part t a)
   target_within a =
       by_held (held_of t (canonical a))
-      (λ n d g q.
-      rw (← target_there t a (held_of t (canonical a)) refl n d g q (key_part n d g) refl)
-      (key_within t (canonical a) n d g (held_tells t (canonical a) s n d g q)))
+      (λ e q.
+      rw (← target_there t a (held_of t (canonical a)) refl e q (key_part e.numbers e.direct e.gossip) refl)
+      (key_within t (canonical a) e (held_tells t (canonical a) s e q)))
       (λ q. rw (← target_nothing t a (held_of t (canonical a)) refl q) zero-le)
 
   pub place_within : (list : List (List ℕ)) (place : ℕ) → Within t (target_at t list place)

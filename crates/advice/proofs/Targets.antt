@@ -13,6 +13,7 @@ use mathlib.Core.List.{List, [], ◌∷◌}
 use native.Mathlib.Omega.{arith}
 use native.Mathlib.Numerals.{add-one}
 use borrow.Author.Rules.{rules}
+use Rattle.std.specs.Prelude.{Option, Some, None}
 use Rattle.octets.specs.Options.{or_else, is_some}
 use Rattle.octets.proofs.Options.{some_front, else_front}
 use Rattle.address.specs.Address.{canonical}
@@ -25,7 +26,6 @@ use Rattle.addresslist.specs.declared.NextAddress.TheVariants.{Address, End, Unr
 use Rattle.addresslist.proofs.Handing.{left_beginning, hand_gives, hand_plain, hand_from, hand_upto, hand_less, hand_end, hand_unread}
 use Rattle.lookup.specs.Held.{held_of}
 use Rattle.lookup.specs.declared.Held.{Held}
-use Rattle.lookup.specs.declared.Held.TheVariants.{Entry, NoEntry}
 use Rattle.advice.specs.Places.{no_part, key_part, part_in, target_part, target_at}
 use Rattle.advice.specs.declared.Part.{Part}
 
@@ -43,14 +43,14 @@ module _ (n : Head) (direct gossip : ℕ) where
     unfolding key_part
     key_none g = rw (key_part, d, g)
 
-module _ (t a : List ℕ) (h : Held) (e : h ≡ held_of t (canonical a)) where
-  pub target_nothing : h ≡ NoEntry → no_part ≡ target_part t a
+module _ (t a : List ℕ) (h : Option Held) (p : h ≡ held_of t (canonical a)) where
+  pub target_nothing : h ≡ None → no_part ≡ target_part t a
   unfolding target_part part_in
-  target_nothing q = rw (target_part, sym e ∙ q)
+  target_nothing q = rw (target_part, sym p ∙ q)
 
-  pub target_there : (n : Head) (d g : ℕ) → h ≡ Entry n d g → (r : Part) → r ≡ key_part n d g → r ≡ target_part t a
+  pub target_there : (e : Held) → h ≡ Some e → (r : Part) → r ≡ key_part e.numbers e.direct e.gossip → r ≡ target_part t a
   unfolding target_part part_in
-  target_there n d g q r p = rw (target_part, sym e ∙ q) p
+  target_there e q r k = rw (target_part, sym p ∙ q) k
 
 pub ruleset targeting = (target_nothing, target_there, rules)
 

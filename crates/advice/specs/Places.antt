@@ -6,12 +6,11 @@
 --     target_at               where that of the address at a place of a list lies
 --     octets_at               the octets of a part
 --     Within                  a part ends within the table
-use Rattle.std.specs.Prelude.{ℕ, zero, suc, ◌+◌, ◌≤◌, true, false, List, [], ◌∷◌, length, take, drop}
+use Rattle.std.specs.Prelude.{Option, Some, None, ℕ, zero, suc, ◌+◌, ◌≤◌, true, false, List, [], ◌∷◌, length, take, drop}
 use Rattle.heads.specs.declared.Head.{Head}
 use Rattle.address.specs.Address.{canonical}
 use Rattle.lookup.specs.Held.{held_of}
 use Rattle.lookup.specs.declared.Held.{Held}
-use Rattle.lookup.specs.declared.Held.TheVariants.{Entry, NoEntry}
 use Rattle.advice.specs.Advice.{stale}
 use Rattle.advice.specs.declared.Advice.{Advice}
 use Rattle.advice.specs.declared.Advice.TheVariants.{Disable, Discourage, Available, Encrypt}
@@ -51,9 +50,9 @@ key_part n direct gossip =
     ]
 
 -- A6, A7: the target key of what the table has of an address; an empty part where that is nothing
-unfoldable pub part_in : Held → Part
-part_in (Entry n direct gossip) = key_part n direct gossip
-part_in NoEntry = no_part
+unfoldable pub part_in : Option Held → Part
+part_in (Some e) = key_part e.numbers e.direct e.gossip
+part_in None = no_part
 
 -- A6: the target key for an address as it stands in a list, by its canonical form
 unfoldable pub target_part : List ℕ → List ℕ → Part

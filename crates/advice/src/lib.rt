@@ -78,7 +78,7 @@ fn raise(advice: Advice, reply: bool, both: bool) -> Advice
 
 // What the table has of an address: its canonical form is looked for (T15).
 #[tactic(auto, using(crate::proofs::Locating::locating))]
-fn locate(table: &[u8], tags: &[u32; Slot::MOST], address: &[u8]) -> Held
+fn locate(table: &[u8], tags: &[u32; Slot::MOST], address: &[u8]) -> Option<Held>
     requires { Open table.now tags.now × (plain address.now ≡ true) }
     ensures { result ≡ held_of table.now (canonical_of address.now) }
 {
@@ -100,15 +100,11 @@ pub fn advise(
     ensures { result ≡ advice_in table.now «mutual» reply address.now }
 {
     match locate(table, tags, address) {
-        Held::Entry {
-            numbers,
-            direct: _,
-            gossip: _,
-        } => {
-            let both = mutual & numbers.mutual;
-            raise(rate(numbers), reply, both)
+        Some(held) => {
+            let both = mutual & held.numbers.mutual;
+            raise(rate(held.numbers), reply, both)
         }
-        Held::NoEntry => Advice::Disable,
+        None => Advice::Disable,
     }
 }
 
@@ -139,12 +135,8 @@ fn target(table: &[u8], tags: &[u32; Slot::MOST], address: &[u8]) -> Part
     ensures { result ≡ target_part table.now address.now }
 {
     match locate(table, tags, address) {
-        Held::Entry {
-            numbers,
-            direct,
-            gossip,
-        } => key_part(numbers, direct, gossip),
-        Held::NoEntry => Part::EMPTY,
+        Some(held) => key_part(held.numbers, held.direct, held.gossip),
+        None => Part::EMPTY,
     }
 }
 

@@ -1,47 +1,17 @@
--- What the readers of a head answer, and what the changes of its numbers do.
---     head_read, clear_read      the numbers, and the octets that must be clear
---     head_first, clear_first    both are told by the first 40 octets
---     seen_read                  last seen raised
---     bits_read                  the bits as a number
+-- What a head says stands in its first 40 octets.
+--     head_first     the numbers
+--     clear_first    the octets that must be clear
 -- Assumes nothing.
-use Prim.Native.Nat.{ℕ, ◌+◌, ◌-◌, ◌≤◌, max}
+use Prim.Native.Nat.{ℕ, ◌+◌, ◌-◌, ◌≤◌}
 use mathlib.Core.Path.{◌≡◌}
-use mathlib.Core.Bool.{Bool, true, cond, ◌&&◌}
 use mathlib.Core.List.{List}
 use native.Mathlib.Omega.{arith}
-use borrow.Author.Rules.{rules}
-use lib.Dec.{ltb}
 use lib.ListN.{get_or, take, drop}
 use lib.Seq.{take-take, get_or-take}
-use Rattle.octets.specs.Octets.{all_zero}
-use Rattle.heads.specs.declared.Head.{Head}
-use Rattle.heads.specs.Head.{part, address_length, has_last_seen, has_direct, has_gossip, is_mutual, last_seen, timestamp, gossip_timestamp, direct_length, gossip_length, head_of, clear, head_seen, bits_of}
+use Rattle.heads.specs.Head.{head_of, clear}
 use Rattle.heads.proofs.Parts.{drop_take}
 
 module _ (s : List ℕ) where
-  pub head_read : (a l t g d k : ℕ)
-      → a ≡ address_length s → l ≡ last_seen s → t ≡ timestamp s → g ≡ gossip_timestamp s → d ≡ direct_length s → k ≡ gossip_length s
-      → ◌≡◌ {A = Head}
-      (record {
-        address_length = a;
-        seen = has_last_seen s;
-        direct = has_direct s;
-        gossip = has_gossip s;
-        «mutual» = is_mutual s;
-        last_seen = l;
-        timestamp = t;
-        gossip_timestamp = g;
-        direct_length = d;
-        gossip_length = k;
-      })
-      (head_of s)
-  unfolding head_of
-  head_read a l t g d k ea el et eg ed ek = rw (ea, el, et, eg, ed, ek)
-
-  pub clear_read : (b c : Bool) → b ≡ all_zero (part 5 7 s) → c ≡ all_zero (part 36 39 s) → (ltb (get_or s 4 0) 16 && b && c) ≡ clear s
-  unfolding clear
-  clear_read b c eb ec = rw (eb, ec)
-
   -- a part within the first 40 octets
   part_first : (at n : ℕ) → at + n ≤ 40 → take n (drop at (take 40 s)) ≡ take n (drop at s)
   part_first at n h = rw (drop_take at 40 s) (take-take n (40 - at) (drop at s) (omega arith))
@@ -65,28 +35,3 @@ module _ (s : List ℕ) where
   pub clear_first : clear (take 40 s) ≡ clear s
   unfolding clear
   clear_first = rw (bits_first, part_first 5 3 (omega arith), part_first 36 4 (omega arith))
-
-pub seen_read : (n : Head) (date l : ℕ) → l ≡ max n.last_seen date
-    → ◌≡◌ {A = Head}
-    (record {
-      address_length = n.address_length;
-      seen = true;
-      direct = n.direct;
-      gossip = n.gossip;
-      «mutual» = n.«mutual»;
-      last_seen = l;
-      timestamp = n.timestamp;
-      gossip_timestamp = n.gossip_timestamp;
-      direct_length = n.direct_length;
-      gossip_length = n.gossip_length;
-    })
-    (head_seen date n)
-seen_read n date l e = rw e
-
-pub bits_read : (n : Head) (a b c d : ℕ)
-    → (a ≡ cond n.seen 1 0) × (a ≤ 1) → (b ≡ cond n.direct 2 0) × (b ≤ 2) → (c ≡ cond n.gossip 4 0) × (c ≤ 4) → (d ≡ cond n.«mutual» 8 0) × (d ≤ 8)
-    → a + b + c + d ≡ bits_of n
-unfolding bits_of
-bits_read n a b c d ea eb ec ed = rw (ea.0, eb.0, ec.0, ed.0)
-
-pub ruleset reading = (head_read, clear_read, seen_read, bits_read, rules)

@@ -71,6 +71,7 @@ impl Head {
     }
 
     // The numbers that stand in 40 octets.
+    #[tactic(auto, unfolding(crate::specs::Head::head_of))]
     pub fn read(head: &[u8]) -> Self
         requires { length head.now ≡ head_length }
         ensures { result ≡ head_of head.now }
@@ -137,13 +138,14 @@ impl Head {
     }
 
     // Octet 4: the sum of 1 for last seen, 2 for the direct half, 4 for the gossip half and 8 for the preference (T5).
+    #[tactic(auto, unfolding(crate::specs::Head::bits_of))]
     pub fn bits(self) -> u64
         ensures { result ≡ bits_of self }
     {
-        weight(self.seen, 1)
-            + weight(self.direct, 2)
-            + weight(self.gossip, 4)
-            + weight(self.mutual, 8)
+        u64::from(self.seen)
+            + 2 * u64::from(self.direct)
+            + 4 * u64::from(self.gossip)
+            + 8 * u64::from(self.mutual)
     }
 
     // With another address, of so many octets (T17).
@@ -152,15 +154,7 @@ impl Head {
     {
         Self {
             address_length: length,
-            seen: self.seen,
-            direct: self.direct,
-            gossip: self.gossip,
-            mutual: self.mutual,
-            last_seen: self.last_seen,
-            timestamp: self.timestamp,
-            gossip_timestamp: self.gossip_timestamp,
-            direct_length: self.direct_length,
-            gossip_length: self.gossip_length,
+            ..self
         }
     }
 
@@ -170,16 +164,9 @@ impl Head {
         ensures { result ≡ head_seen date self }
     {
         Self {
-            address_length: self.address_length,
             seen: true,
-            direct: self.direct,
-            gossip: self.gossip,
-            mutual: self.mutual,
-            last_seen: later(self.last_seen, date),
-            timestamp: self.timestamp,
-            gossip_timestamp: self.gossip_timestamp,
-            direct_length: self.direct_length,
-            gossip_length: self.gossip_length,
+            last_seen: self.last_seen.max(date),
+            ..self
         }
     }
 
@@ -188,16 +175,11 @@ impl Head {
         ensures { result ≡ head_direct timestamp length «mutual» self }
     {
         Self {
-            address_length: self.address_length,
-            seen: self.seen,
             direct: true,
-            gossip: self.gossip,
             mutual,
-            last_seen: self.last_seen,
             timestamp,
-            gossip_timestamp: self.gossip_timestamp,
             direct_length: length,
-            gossip_length: self.gossip_length,
+            ..self
         }
     }
 
@@ -206,20 +188,15 @@ impl Head {
         ensures { result ≡ head_gossip timestamp length self }
     {
         Self {
-            address_length: self.address_length,
-            seen: self.seen,
-            direct: self.direct,
             gossip: true,
-            mutual: self.mutual,
-            last_seen: self.last_seen,
-            timestamp: self.timestamp,
             gossip_timestamp: timestamp,
-            direct_length: self.direct_length,
             gossip_length: length,
+            ..self
         }
     }
 
     // Writes octets 8 to 31.
+    #[tactic(auto, using(crate::proofs::Writing::putting))]
     fn put_times(self, head: &mut [u8])
         requires { length head.old ≡ head_length }
         ensures { head.new ≡ put_at head.old 8 (times self) }
@@ -235,6 +212,7 @@ impl Head {
     }
 
     // Writes octets 32 to 39.
+    #[tactic(auto, using(crate::proofs::Writing::putting))]
     fn put_lengths(self, head: &mut [u8])
         requires { length head.old ≡ head_length }
         ensures { head.new ≡ put_at head.old 32 (lengths self) }
@@ -255,6 +233,7 @@ impl Head {
     }
 
     // Writes octets 2 to 39. The bits are a number of four octets, as those behind them are unused and zero (T8.4).
+    #[tactic(auto, using(crate::proofs::Writing::putting))]
     pub fn put(self, head: &mut [u8])
         requires { length head.old ≡ head_length }
         ensures { head.new ≡ put_at head.old 2 (head_octets self) }
@@ -271,19 +250,8 @@ impl Head {
     }
 }
 
-fn weight(bit: bool, worth: u64) -> u64
-    ensures { (result ≡ cond bit worth 0) × (result ≤ worth) }
-{
-    if bit { worth } else { 0 }
-}
-
-fn later(a: u64, b: u64) -> u64
-    ensures { result ≡ max a b }
-{
-    if a < b { b } else { a }
-}
-
 // Are the four upper bits of octet 4 clear, and the octets 5 to 7 and 36 to 39 zero (T8.4)?
+#[tactic(auto, unfolding(crate::specs::Head::clear))]
 pub fn is_clear(head: &[u8]) -> bool
     requires { length head.now ≡ head_length }
     ensures { result ≡ clear head.now }

@@ -1,24 +1,20 @@
 -- R1 and R2: whether a slot is right, and the scan for the lowest that is not.
---     tag_unused, tag_used              the tag of one slot
 --     right_free .. right_used          the answers on one slot
 --     lower_seeks .. lower_none         whether its address stands in a lower one
---     whole_is                          the answer on the length
 --     tagged_begin, tagged_next         the tags of no slot, and of one slot more
 --     Judged how t n i                      the answer on n slots, at most 256, is that on those from i on
 --     judge_begin .. judges_next        the loop's steps
 --     checks_length .. checks_sound     the three answers, with the tags
---     the rulesets                      tagging, for `tag_at`; being_right, for `is_right`; looking_lower, for `in_lower`; judging, for `check`
+--     the rulesets                      being_right, for `is_right`; looking_lower, for `in_lower`; judging, for `check`
 -- Assumes nothing.
-use Prim.Native.Nat.{ℕ, ◌+◌, ◌-◌, ◌%◌, ◌<◌, ◌≤◌}
+use Prim.Native.Nat.{ℕ, ◌+◌, ◌-◌, ◌<◌, ◌≤◌}
 use mathlib.Core.Path.{◌≡◌, sym, ap, ◌∙◌}
 use mathlib.Core.Logic.{⊎_elim}
-use mathlib.Core.Bool.{Bool, true, false, not, ◌&&◌, or-false}
+use mathlib.Core.Bool.{Bool, true, false, not, or-false}
 use mathlib.Core.List.{List}
 use native.Mathlib.Nat.{sub-zero}
 use native.Mathlib.Omega.{arith}
-use borrow.Author.Tests.{not-true, not-false}
 use borrow.Author.Rules.{rules}
-use lib.Dec.{leb, eqb}
 use lib.ListN.{length, get_or, set, length-set}
 use lib.Seq.{get_or-set_same, get_or-set_other}
 use Rattle.octets.proofs.Lists.{lt_or_le, left_one}
@@ -38,40 +34,30 @@ module _ (t s : List ℕ) (i : ℕ) (m : Bool) (e : (s ≡ slot_at t i) × (leng
   used_by : marked (slot_at t i) ≡ m
   used_by = ap marked (sym e.0) ∙ sym p
 
-  pub tag_unused : not m ≡ true → 0 ≡ tag_at t i
-  unfolding tag_at
-  tag_unused q = rw (used_by, not-true m q)
-
-  pub tag_used : not m ≡ false → (a : List ℕ) (tag : ℕ) → a ≡ address_of s → tag ≡ tag_of a → tag ≡ tag_at t i
-  unfolding tag_at
-  tag_used q a tag ea et = et ∙ rw (used_by, not-false m q, ea, e.0)
-
-  pub right_free : (how : Spelling) (b : Bool) → not m ≡ true → b ≡ free s → b ≡ right_by how t i
+  pub right_free : (how : Spelling) (b : Bool) → m ≡ false → b ≡ free s → b ≡ right_by how t i
   unfolding right_by
   right_free how b q f =
-      let z : sound_by how (slot_at t i) ≡ false = unmarked_not_sound how (slot_at t i) (used_by ∙ not-true m q) in
+      let z : sound_by how (slot_at t i) ≡ false = unmarked_not_sound how (slot_at t i) (used_by ∙ q) in
       f ∙ rw (e.0, z) (sym (or-false (free (slot_at t i))))
 
-  module _ (q : not m ≡ false) where
+  module _ (q : m ≡ true) where
     taken : free (slot_at t i) ≡ false
-    taken = marked_not_free (slot_at t i) (used_by ∙ not-false m q)
+    taken = marked_not_free (slot_at t i) (used_by ∙ q)
 
-    pub right_not : (how : Spelling) (b : Bool) → b ≡ sound_by how s → not b ≡ true → false ≡ right_by how t i
+    pub right_not : (how : Spelling) (b : Bool) → b ≡ sound_by how s → b ≡ false → false ≡ right_by how t i
     unfolding right_by
     right_not how b f n =
-        let z : sound_by how (slot_at t i) ≡ false = ap (sound_by how) (sym e.0) ∙ sym f ∙ not-true b n in
+        let z : sound_by how (slot_at t i) ≡ false = ap (sound_by how) (sym e.0) ∙ sym f ∙ n in
         rw (taken, z)
 
-    pub right_used : (how : Spelling) (b c : Bool) → b ≡ sound_by how s → not b ≡ false → c ≡ in_lower t i → not c ≡ right_by how t i
+    pub right_used : (how : Spelling) (b c : Bool) → b ≡ sound_by how s → b ≡ true → c ≡ in_lower t i → not c ≡ right_by how t i
     unfolding right_by
     right_used how b c f n r =
-        let z : sound_by how (slot_at t i) ≡ true = ap (sound_by how) (sym e.0) ∙ sym f ∙ not-false b n in
+        let z : sound_by how (slot_at t i) ≡ true = ap (sound_by how) (sym e.0) ∙ sym f ∙ n in
         rw (taken, z, r)
 
     pub compares : (tags : List ℕ) → Judges t tags i → Compares t tags i
-    compares tags j = record { within = j.within; tagged = j.tagged; used = used_by ∙ not-false m q }
-
-pub ruleset tagging = (tag_unused, tag_used, rules)
+    compares tags j = record { within = j.within; tagged = j.tagged; used = used_by ∙ q }
 
 pub ruleset being_right = (right_free, right_not, right_used, compares, rules)
 
@@ -105,10 +91,6 @@ module _ (t a : List ℕ) (i : ℕ) (r : Found) (ea : a ≡ address_of (slot_at 
 
 pub ruleset looking_lower = (lower_seeks, lower_low, lower_at, lower_none, rules)
 
-pub whole_is : (t : List ℕ) (n : ℕ) → n ≡ slots t → (eqb (length t % 4392) 0 && leb 1 n && leb n 256) ≡ whole t
-unfolding whole
-whole_is t n e = rw e
-
 pub tagged_begin : (t tags : List ℕ) → length tags ≡ 256 → TaggedTo t tags 0
 tagged_begin t tags e = record { few = omega arith; room = e; each = λ k l. absurd (omega arith) }
 
@@ -128,14 +110,14 @@ pub record Judged (how : Spelling) (t : List ℕ) (n i : ℕ) : Type 0 where
   pub upto : i ≤ n
   pub so_far : judged_by how t 0 n ≡ judged_by how t i (n - i)
 
-pub judge_begin : (how : Spelling) (t : List ℕ) (n : ℕ) (w : Bool) → w ≡ whole t → not w ≡ false → n ≡ slots t → Judged how t n 0
+pub judge_begin : (how : Spelling) (t : List ℕ) (n : ℕ) (w : Bool) → w ≡ whole t → w ≡ true → n ≡ slots t → Judged how t n 0
 judge_begin how t n w ew nw en =
-    record { few = omega (arith, whole_few t (sym ew ∙ not-false w nw)); upto = omega arith; so_far = rw (sub-zero n) }
+    record { few = omega (arith, whole_few t (sym ew ∙ nw)); upto = omega arith; so_far = rw (sub-zero n) }
 
 module _ (how : Spelling) (t : List ℕ) (n i : ℕ) (h : Judged how t n i) where
-  pub judge_next : (b : Bool) → i < n → b ≡ right_by how t i → not b ≡ false → Judged how t n (i + 1)
+  pub judge_next : (b : Bool) → i < n → b ≡ right_by how t i → b ≡ true → Judged how t n (i + 1)
   judge_next b l e q =
-      record { few = h.few; upto = omega arith; so_far = h.so_far ∙ rw (left_one n i l) (judged_on how t i (n - (i + 1)) (sym e ∙ not-false b q)) }
+      record { few = h.few; upto = omega arith; so_far = h.so_far ∙ rw (left_one n i l) (judged_on how t i (n - (i + 1)) (sym e ∙ q)) }
 
   pub judge_room : i < n → i < 256
   judge_room l = omega (arith, h.few)
@@ -143,15 +125,15 @@ module _ (how : Spelling) (t : List ℕ) (n i : ℕ) (h : Judged how t n i) wher
   pub judges_next : (tags : List ℕ) (tag : ℕ) → TaggedTo t tags i → n ≡ slots t → i < n → tag ≡ tag_at t i → Judges t (set tags i tag) i
   judges_next tags tag g e l p = record { within = omega arith; tagged = tagged_next t tags i tag g (omega (arith, h.few)) p }
 
-  module _ (w : Bool) (ew : w ≡ whole t) (nw : not w ≡ false) (en : n ≡ slots t) where
+  module _ (w : Bool) (ew : w ≡ whole t) (nw : w ≡ true) (en : n ≡ slots t) where
     all : checked_by how t ≡ judged_by how t i (n - i)
-    all = checked_slots how t (sym ew ∙ not-false w nw) ∙ rw (← en) h.so_far
+    all = checked_slots how t (sym ew ∙ nw) ∙ rw (← en) h.so_far
 
-    pub checks_slot : (tags : List ℕ) (b : Bool) → i < n → b ≡ right_by how t i → not b ≡ true → Checks how t tags (Slot i)
+    pub checks_slot : (tags : List ℕ) (b : Bool) → i < n → b ≡ right_by how t i → b ≡ false → Checks how t tags (Slot i)
     checks_slot tags b l e q =
         record {
-          answer = sym (all ∙ rw (left_one n i l) (judged_here how t i (n - (i + 1)) (sym e ∙ not-true b q)));
-          opens = λ z. let y : ◌≡◌ {A = ℕ} 0 1 = cc in absurd (omega arith);
+          answer = sym (all ∙ rw (left_one n i l) (judged_here how t i (n - (i + 1)) (sym e ∙ q)));
+          opens = λ z. absurd cc;
         }
 
     pub checks_sound : (tags : List ℕ) → TaggedTo t tags i → n ≤ i → Checks how t tags Sound
@@ -162,14 +144,14 @@ module _ (how : Spelling) (t : List ℕ) (n i : ℕ) (h : Judged how t n i) wher
         let s : Sound ≡ checked_by how t = sym (all ∙ rw z) in
         record { answer = s; opens = λ _. record { sound = sym s; tagged = rw y at g } }
 
-pub checks_length : (how : Spelling) (t tags : List ℕ) (b : Bool) → b ≡ whole t → not b ≡ true → Checks how t tags Length
+pub checks_length : (how : Spelling) (t tags : List ℕ) (b : Bool) → b ≡ whole t → b ≡ false → Checks how t tags Length
 checks_length how t tags b e n =
     record {
-      answer = sym (checked_length how t (sym e ∙ not-true b n));
-      opens = λ z. let y : ◌≡◌ {A = ℕ} 0 1 = cc in absurd (omega arith);
+      answer = sym (checked_length how t (sym e ∙ n));
+      opens = λ z. absurd cc;
     }
 
 pub judge_within : (t : List ℕ) (n i : ℕ) → n ≡ slots t → i < n → i < slots t
 judge_within t n i e l = omega arith
 
-pub ruleset judging = (whole_is, judge_begin, judge_within, judge_room, judge_next, tagged_begin, tagged_next, judges_next, checks_length, checks_slot, checks_sound, rules)
+pub ruleset judging = (judge_begin, judge_within, judge_room, judge_next, tagged_begin, tagged_next, judges_next, checks_length, checks_slot, checks_sound, rules)

@@ -2,13 +2,14 @@
 --     held_none .. held_gossip     each way through `entry_of`
 --     holding                      what `entry_of` asks
 --     by_held                      an answer is an entry or that there is none
---     Tells t a n d g              what the answer says: whose entry it is, and that its keys lie where it says
+--     held_in                      what is told of an entry in a slot
+--     Tells t a e                  what the answer says: whose entry it is, and that its keys lie where it says
 --     held_tells, held_not         of a sound table
 -- Assumes nothing.
 use Prim.Native.Nat.{ℕ, ◌+◌, ◌*◌, ◌<◌, ◌≤◌}
 use mathlib.Core.Path.{◌≡◌, refl, sym, ◌∙◌}
 use mathlib.Core.Bool.{true}
-use Rattle.std.specs.Prelude.{Some, None}
+use Rattle.std.specs.Prelude.{Option, Some, None}
 use mathlib.Core.List.{List}
 use native.Mathlib.Omega.{arith}
 use borrow.Author.Rules.{rules}
@@ -33,16 +34,19 @@ use Rattle.table.proofs.Finding.{found_at}
 use Rattle.table.proofs.Entries.{entry_at, entry_nothing, entry_sound}
 use Rattle.lookup.specs.Held.{held_at, held_of}
 use Rattle.lookup.specs.declared.Held.{Held}
-use Rattle.lookup.specs.declared.Held.TheVariants.{Entry, NoEntry}
+
+-- of an entry in slot i, with these numbers
+abbrev pub held_in : ℕ → Head → Held
+held_in i n = record { numbers = n; direct = i * 4392 + 296; gossip = i * 4392 + 2344 }
 
 -- as the code has it: f is what `find` answered
 module _ (t a : List ℕ) (f : Found) (e : f ≡ found t a) where
-  pub held_none : f ≡ Nothing → NoEntry ≡ held_of t a
+  pub held_none : f ≡ Nothing → None ≡ held_of t a
   unfolding held_of held_at
   held_none q = rw (held_of, sym e ∙ q)
 
   module _ (i : ℕ) (q : f ≡ At i) where
-    pub held_at_lem : (n : Head) → n ≡ head_of (slot_at t i) → Entry n (i * 4392 + 296) (i * 4392 + 2344) ≡ held_of t a
+    pub held_at_lem : (n : Head) → n ≡ head_of (slot_at t i) → Some (held_in i n) ≡ held_of t a
     unfolding held_of held_at
     held_at_lem n p = rw (held_of, sym e ∙ q, p)
 
@@ -65,17 +69,19 @@ module _ (t a : List ℕ) (f : Found) (e : f ≡ found t a) where
 
 pub ruleset holding = (held_none, held_at_lem, held_within, held_place, held_direct, held_gossip, rules)
 
-pub by_held : {P : Type 0} (h : Held) → ((n : Head) (d g : ℕ) → h ≡ Entry n d g → P) → (h ≡ NoEntry → P) → P
-by_held (Entry n d g) a b = a n d g refl
-by_held NoEntry a b = b refl
+pub by_held : {P : Type 0} (h : Option Held) → ((e : Held) → h ≡ Some e → P) → (h ≡ None → P) → P
+by_held (Some e) a b = a e refl
+by_held None a b = b refl
 
-pub record Tells (t a : List ℕ) (n : Head) (d g : ℕ) : Type 0 where
+pub record Tells (t a : List ℕ) (e : Held) : Type 0 where
   pub slot : List ℕ
   pub whose : entry_in t a ≡ Some (entry_of slot)
   pub is_sound : sound slot ≡ true
-  pub numbers : n ≡ head_of slot
-  pub direct_lies : n.direct ≡ true → (take n.direct_length (drop d t) ≡ direct_key_of slot) × (d + n.direct_length ≤ length t)
-  pub gossip_lies : n.gossip ≡ true → (take n.gossip_length (drop g t) ≡ gossip_key_of slot) × (g + n.gossip_length ≤ length t)
+  pub numbers : e.numbers ≡ head_of slot
+  pub direct_lies : e.numbers.direct ≡ true
+      → (take e.numbers.direct_length (drop e.direct t) ≡ direct_key_of slot) × (e.direct + e.numbers.direct_length ≤ length t)
+  pub gossip_lies : e.numbers.gossip ≡ true
+      → (take e.numbers.gossip_length (drop e.gossip t) ≡ gossip_key_of slot) × (e.gossip + e.numbers.gossip_length ≤ length t)
 
 -- the entry in slot i
 module _ (t a : List ℕ) (s : checked t ≡ Sound) (i : ℕ) (e : found t a ≡ At i) where
@@ -85,7 +91,7 @@ module _ (t a : List ℕ) (s : checked t ≡ Sound) (i : ℕ) (e : found t a ≡
   ends : i * 4392 + 4392 ≤ length t
   ends = room t i (found_at t a i e).0
 
-  slot_tells : Tells t a (head_of (slot_at t i)) (i * 4392 + 296) (i * 4392 + 2344)
+  slot_tells : Tells t a (held_in i (head_of (slot_at t i)))
   unfolding head_of direct_key_of gossip_key_of
   slot_tells =
       record {
@@ -104,25 +110,21 @@ module _ (t a : List ℕ) (s : checked t ≡ Sound) (i : ℕ) (e : found t a ≡
       }
 
 module _ (t a : List ℕ) where
-  pub held_not : held_of t a ≡ NoEntry → entry_in t a ≡ None
+  pub held_not : held_of t a ≡ None → entry_in t a ≡ None
   held_not q =
       by_found (found t a)
       (λ i e.
-      let z : Entry (head_of (slot_at t i)) (i * 4392 + 296) (i * 4392 + 2344) ≡ NoEntry = held_at_lem t a (found t a) refl i e (head_of (slot_at t i)) refl ∙ q in
-      let y : ◌≡◌ {A = ℕ} 0 1 = cc in
-      absurd (omega arith))
+      let z : Some (held_in i (head_of (slot_at t i))) ≡ None = held_at_lem t a (found t a) refl i e (head_of (slot_at t i)) refl ∙ q in
+      cc)
       (λ e. entry_nothing t a e)
 
-  pub held_tells : checked t ≡ Sound → (n : Head) (d g : ℕ) → held_of t a ≡ Entry n d g → Tells t a n d g
-  held_tells s n d g q =
+  pub held_tells : checked t ≡ Sound → (e : Held) → held_of t a ≡ Some e → Tells t a e
+  held_tells s e q =
       by_found (found t a)
-      (λ i e.
-      let z : Entry (head_of (slot_at t i)) (i * 4392 + 296) (i * 4392 + 2344) ≡ Entry n d g = held_at_lem t a (found t a) refl i e (head_of (slot_at t i)) refl ∙ q in
-      let u : head_of (slot_at t i) ≡ n = cc in
-      let v : i * 4392 + 296 ≡ d = cc in
-      let w : i * 4392 + 2344 ≡ g = cc in
-      rw (← u, ← v, ← w) (slot_tells t a s i e))
-      (λ e.
-      let z : NoEntry ≡ Entry n d g = held_none t a (found t a) refl e ∙ q in
-      let y : ◌≡◌ {A = ℕ} 0 1 = cc in
-      absurd (omega arith))
+      (λ i p.
+      let z : Some (held_in i (head_of (slot_at t i))) ≡ Some e = held_at_lem t a (found t a) refl i p (head_of (slot_at t i)) refl ∙ q in
+      let u : held_in i (head_of (slot_at t i)) ≡ e = cc in
+      rw (← u) (slot_tells t a s i p))
+      (λ p.
+      let z : None ≡ Some e = held_none t a (found t a) refl p ∙ q in
+      cc)

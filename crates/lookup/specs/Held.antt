@@ -1,20 +1,20 @@
 -- SCOPE, T15 and T3: what a table has of an address, as the code hands it out: the numbers of its entry, and where the entry's keys begin.
 --     held_at   of a slot
 --     held_of   of an address
-use Rattle.std.specs.Prelude.{ℕ, ◌+◌, ◌*◌, List}
+use Rattle.std.specs.Prelude.{ℕ, ◌+◌, ◌*◌, List, Option, Some, None}
 use Rattle.heads.specs.Head.{head_of}
 use Rattle.slots.specs.Slot.{slot_length, direct_at, gossip_at}
 use Rattle.table.specs.Table.{slot_at, found}
 use Rattle.table.specs.declared.Found.{Found}
 use Rattle.table.specs.declared.Found.TheVariants.{At, Nothing}
 use Rattle.lookup.specs.declared.Held.{Held}
-use Rattle.lookup.specs.declared.Held.TheVariants.{Entry, NoEntry}
 
 -- T3: in the table, the rooms for the two keys begin at octets 296 and 2344 of the slot
-unfoldable pub held_at : List ℕ → Found → Held
-held_at t (At i) = Entry (head_of (slot_at t i)) (i * slot_length + direct_at) (i * slot_length + gossip_at)
-held_at t Nothing = NoEntry
+unfoldable pub held_at : List ℕ → Found → Option Held
+held_at t (At i) =
+    Some (record { numbers = head_of (slot_at t i); direct = i * slot_length + direct_at; gossip = i * slot_length + gossip_at })
+held_at t Nothing = None
 
 -- T15: what the table has of a canonical address
-unfoldable pub held_of : List ℕ → List ℕ → Held
+unfoldable pub held_of : List ℕ → List ℕ → Option Held
 held_of t a = held_at t (found t a)

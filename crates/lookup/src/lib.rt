@@ -2,9 +2,8 @@
 // The check makes a tag for each slot and hands them out; whoever looks for an address later compares these first.
 #![tactic(auto)]
 
-ghost use Rattle.std.specs.Prelude.{◌<◌, ◌≡◌, ◌&&◌, eqb};
-ghost use lib.ListN.{length};
-ghost use Rattle.slots.specs.Slot.{slot_length, marked, address_of};
+ghost use Rattle.std.specs.Prelude.{◌<◌, ◌≡◌, length};
+ghost use Rattle.slots.specs.Slot.{slot_length};
 ghost use Rattle.table.specs.Table.{most_slots, slots as slots_of, has_address, lowest, found, in_lower, right_by, whole};
 ghost use Rattle.table.specs.Tagged.{tag_at, Tagged, Open};
 ghost use Rattle.lookup.specs.Looking.{Seeks, Judges, Compares, Checks};
@@ -14,61 +13,45 @@ use heads::Head;
 use slots::{Slot, Spelling};
 use table::{Checked, Found};
 
-// What a table has of an address: the numbers of its entry, and where the entry's two keys begin in the table; or nothing.
+// What a table has of an address: the numbers of its entry, and where the entry's two keys begin in the table.
 #[derive(Clone, Copy)]
-pub enum Held {
-    Entry {
-        numbers: Head,
-        direct: usize,
-        gossip: usize,
-    },
-    NoEntry,
+pub struct Held {
+    pub numbers: Head,
+    pub direct: usize,
+    pub gossip: usize,
 }
 
 // So many slots are looked through one by one sooner than their tags are compared at once.
 const FEW: usize = 8;
 
-// Is the slot used, and its address of this length?
-fn could_hold(slot: &[u8], length: usize) -> bool
-    requires { lib.ListN.length slot.now ≡ slot_length }
-    ensures { result ≡ (marked slot.now && eqb (lib.ListN.length (address_of slot.now)) length) }
+// Is the slot used, and this its address (T12)? Lengths are compared before octets, and the first octet that differs
+// decides.
+#[tactic(auto, using(crate::proofs::Searching::same_is), unfolding(table::specs::Table::has_address))]
+fn holds(slot: &[u8], address: &[u8]) -> bool
+    requires { length slot.now ≡ slot_length }
+    ensures { result ≡ has_address address.now slot.now }
 {
-    slots::is_marked(slot) & (slots::address_of(slot).len() == length)
+    slots::is_marked(slot) && slots::address_of(slot) == address
 }
 
-// The lowest of the first `n` slots that holds the address (T12): tags are compared before lengths, and these before
-// octets; the first octet that differs leads on to the next slot, and the first equal address out of the scan.
+// The lowest of the first `n` slots that holds the address (T12): tags are compared before addresses, and the first equal
+// address leads out of the scan.
+#[tactic(auto, using(crate::proofs::Searching::searching))]
 fn search(table: &[u8], tags: &[u32; Slot::MOST], address: &[u8], tag: u32, n: usize) -> Found
     requires { Seeks table.now tags.now address.now tag n }
     ensures { result ≡ lowest (has_address address.now) table.now 0 n }
 {
-    let mut i = 0;
-    let mut found = Found::Nothing;
-    'slots: while i < n {
-        let slot = table::slot_at(table, i);
-        let own = tags[i];
-        i += 1;
-        if own != tag {
-            continue 'slots;
+    for i in 0..n {
+        if tags[i] == tag && holds(table::slot_at(table, i), address) {
+            return Found::At(i);
         }
-        if !could_hold(slot, address.len()) {
-            continue 'slots;
-        }
-        let mut k = 0;
-        while k < address.len() {
-            if slot[Slot::ADDRESS_AT + k] != address[k] {
-                continue 'slots;
-            }
-            k += 1;
-        }
-        found = Found::At(i - 1);
-        break 'slots;
     }
-    found
+    Found::Nothing
 }
 
 // The lowest of the first `n` slots that holds the address, as `search` finds it. Where there are more than a few slots,
 // they are looked through only if one of them has the tag: all tags are compared first, several at once.
+#[tactic(auto, using(crate::proofs::Searching::sifting))]
 pub fn lowest_with(
     table: &[u8],
     tags: &[u32; Slot::MOST],
@@ -79,15 +62,14 @@ pub fn lowest_with(
     requires { Seeks table.now tags.now address.now tag n }
     ensures { result ≡ lowest (has_address address.now) table.now 0 n }
 {
-    if FEW < n {
-        if !tags::is_among(tags, n, tag) {
-            return Found::Nothing;
-        }
+    if FEW < n && !tags::is_among(tags, n, tag) {
+        return Found::Nothing;
     }
     search(table, tags, address, tag, n)
 }
 
 // The slot that holds the canonical address (T15).
+#[tactic(auto, using(crate::proofs::Searching::finding))]
 pub fn find(table: &[u8], tags: &[u32; Slot::MOST], address: &[u8]) -> Found
     requires { Tagged table.now tags.now }
     ensures { result ≡ found table.now address.now }
@@ -102,47 +84,50 @@ pub fn find(table: &[u8], tags: &[u32; Slot::MOST], address: &[u8]) -> Found
 }
 
 // What the table has of the address.
-pub fn entry_of(table: &[u8], tags: &[u32; Slot::MOST], address: &[u8]) -> Held
+#[tactic(auto, using(crate::proofs::Holding::holding))]
+pub fn entry_of(table: &[u8], tags: &[u32; Slot::MOST], address: &[u8]) -> Option<Held>
     requires { Open table.now tags.now }
     ensures { result ≡ held_of table.now address.now }
 {
     match find(table, tags, address) {
         Found::At(i) => {
             let at = i * Slot::LEN;
-            Held::Entry {
+            Some(Held {
                 numbers: table::numbers(table, i),
                 direct: at + Slot::DIRECT_AT,
                 gossip: at + Slot::GOSSIP_AT,
-            }
+            })
         }
-        Found::Nothing => Held::NoEntry,
+        Found::Nothing => None,
     }
 }
 
 // The tag of the slot: that of its address, and 0 where it is not used.
+#[tactic(auto, unfolding(table::specs::Tagged::tag_at))]
 pub fn tag_at(table: &[u8], i: usize) -> u32
     requires { i < slots_of table.now }
     ensures { result ≡ tag_at table.now i }
 {
     let slot = table::slot_at(table, i);
-    if !slots::is_marked(slot) {
-        return 0;
+    if slots::is_marked(slot) {
+        tags::tag_of(slots::address_of(slot))
+    } else {
+        0
     }
-    tags::tag_of(slots::address_of(slot))
 }
 
 // Does the address of the used slot stand in a lower one (T8.3)?
+#[tactic(auto, using(crate::proofs::Checking::looking_lower))]
 fn in_lower(table: &[u8], tags: &[u32; Slot::MOST], i: usize) -> bool
     requires { Compares table.now tags.now i }
     ensures { result ≡ in_lower table.now i }
 {
-    match lowest_with(table, tags, table::address(table, i), tags[i], i) {
-        Found::At(_) => true,
-        Found::Nothing => false,
-    }
+    let lower = lowest_with(table, tags, table::address(table, i), tags[i], i);
+    matches!(lower, Found::At(_))
 }
 
 // Is the slot free, or sound with its address in no lower slot (R2)?
+#[tactic(auto, using(crate::proofs::Checking::being_right))]
 fn is_right(table: &[u8], tags: &[u32; Slot::MOST], i: usize, how: Spelling) -> bool
     requires { Judges table.now tags.now i }
     ensures { result ≡ right_by how table.now i }
@@ -151,22 +136,21 @@ fn is_right(table: &[u8], tags: &[u32; Slot::MOST], i: usize, how: Spelling) -> 
     if !slots::is_marked(slot) {
         return slots::is_free(slot);
     }
-    if !slots::is_sound(slot, how) {
-        return false;
-    }
-    !in_lower(table, tags, i)
+    slots::is_sound(slot, how) && !in_lower(table, tags, i)
 }
 
 // Is the length that of 1 to 256 whole slots (R1)?
+#[tactic(auto, unfolding(table::specs::Table::whole))]
 fn is_whole(table: &[u8]) -> bool
     ensures { result ≡ whole table.now }
 {
     let n = table::count(table);
-    (table.len() % Slot::LEN == 0) & (1 <= n) & (n <= Slot::MOST)
+    table.len() % Slot::LEN == 0 && (1..=Slot::MOST).contains(&n)
 }
 
 // Is it a table (R1, R2), with addresses in the one spelling or the other (T16)? Every call asks this first, and gets the
 // tags with the answer. Those of the slots that are passed are there for the slots above.
+#[tactic(auto, using(crate::proofs::Checking::judging))]
 pub fn check(table: &[u8], tags: &mut [u32; Slot::MOST], how: Spelling) -> Checked
     requires { length tags.old ≡ most_slots }
     ensures { Checks how table.now tags.new result }
@@ -174,14 +158,11 @@ pub fn check(table: &[u8], tags: &mut [u32; Slot::MOST], how: Spelling) -> Check
     if !is_whole(table) {
         return Checked::Length;
     }
-    let n = table::count(table);
-    let mut i = 0;
-    while i < n {
+    for i in 0..table::count(table) {
         tags[i] = tag_at(table, i);
         if !is_right(table, tags, i, how) {
             return Checked::Slot(i);
         }
-        i += 1;
     }
     Checked::Sound
 }

@@ -50,22 +50,18 @@ pub enum Spelling {
     Ascii,
 }
 
-fn shorter(a: usize, b: usize) -> usize
-    ensures { result ≡ min a b }
-{
-    if a < b { a } else { b }
-}
-
 // T8.8: is a room of the slot zero behind a length? A length beyond the room leaves nothing to test.
+#[tactic(auto, using(crate::proofs::Reading::behind_read))]
 fn zero_behind(slot: &[u8], at: usize, room: usize, count: usize) -> bool
     requires { at + room ≤ length slot.now }
     ensures { result ≡ all_zero (drop count (take room (drop at slot.now))) }
 {
-    let n = shorter(count, room);
+    let n = count.min(room);
     octets::is_zero(&slot[at + n..at + room])
 }
 
 // T4: is every octet zero?
+#[tactic(auto, unfolding(crate::specs::Slot::free))]
 pub fn is_free(slot: &[u8]) -> bool
     ensures { result ≡ free slot.now }
 {
@@ -73,15 +69,16 @@ pub fn is_free(slot: &[u8]) -> bool
 }
 
 // T4: does the slot open with the mark?
+#[tactic(auto, using(crate::proofs::Reading::marked_read))]
 pub fn is_marked(slot: &[u8]) -> bool
     requires { length slot.now ≡ slot_length }
     ensures { result ≡ marked slot.now }
 {
-    let mark = Slot::MARK;
-    (slot[0] == mark[0]) & (slot[1] == mark[1])
+    slot.starts_with(&Slot::MARK)
 }
 
 // The numbers of octets 2 to 39.
+#[tactic(auto, using(heads::proofs::Reading::head_first))]
 pub fn head_of(slot: &[u8]) -> Head
     requires { length slot.now ≡ slot_length }
     ensures { result ≡ head_of slot.now }
@@ -90,16 +87,18 @@ pub fn head_of(slot: &[u8]) -> Head
 }
 
 // The address: as much of its room as its length says, and all of it where the length says more.
+#[tactic(auto, using(crate::proofs::Reading::address_read))]
 pub fn address_of(slot: &[u8]) -> &[u8]
     requires { length slot.now ≡ slot_length }
     ensures { result.now ≡ address_of slot.now }
 {
     let n = octets::number_at(slot, Head::ADDRESS_LENGTH_AT, Head::LENGTH_WIDTH) as usize;
-    let end = Slot::ADDRESS_AT + shorter(n, Slot::ADDRESS_ROOM);
+    let end = Slot::ADDRESS_AT + n.min(Slot::ADDRESS_ROOM);
     &slot[Slot::ADDRESS_AT..end]
 }
 
 // T8.2, T16: has an address the spelling that is asked for?
+#[tactic(auto, unfolding(crate::specs::Slot::spelled))]
 fn is_spelled(address: &[u8], how: Spelling) -> bool
     ensures { result ≡ spelled how address.now }
 {
@@ -110,6 +109,7 @@ fn is_spelled(address: &[u8], how: Spelling) -> bool
 }
 
 // T8.4, T8.8: is all zero that has to be? The lengths are those of the head.
+#[tactic(auto, using(heads::proofs::Reading::clear_first), unfolding(crate::specs::Slot::zero_padding))]
 fn is_padding_zero(slot: &[u8], n: Head) -> bool
     requires { length slot.now ≡ slot_length }
     ensures { result ≡ zero_padding n slot.now }
@@ -121,6 +121,7 @@ fn is_padding_zero(slot: &[u8], n: Head) -> bool
 }
 
 // T8, but for the lower slots: every condition is looked at, since nearly every slot that is asked about is sound.
+#[tactic(auto, unfolding(crate::specs::Slot::sound_by))]
 pub fn is_sound(slot: &[u8], how: Spelling) -> bool
     requires { length slot.now ≡ slot_length }
     ensures { result ≡ sound_by how slot.now }
@@ -135,6 +136,7 @@ pub fn is_sound(slot: &[u8], how: Spelling) -> bool
 }
 
 // Writes octets 2 to 39.
+#[tactic(auto, using(crate::proofs::Writing::putting))]
 fn put_head(slot: &mut [u8], n: Head)
     requires { length slot.old ≡ slot_length }
     ensures { slot.new ≡ put_at slot.old 2 (head_octets n) }
@@ -143,27 +145,29 @@ fn put_head(slot: &mut [u8], n: Head)
 }
 
 // T8.8: writes a text into its room of the slot, and zeros behind it.
+#[tactic(auto, using(crate::proofs::Writing::putting))]
 fn put_padded(slot: &mut [u8], at: usize, room: usize, text: &[u8])
     requires { (at + room ≤ length slot.old) × (length text.now ≤ room) }
     ensures { slot.new ≡ put_at slot.old at (padded room text.now) }
 {
     octets::put(slot, at, text);
-    octets::fill(&mut slot[at + text.len()..at + room], 0);
+    slot[at + text.len()..at + room].fill(0);
 }
 
 // Begins the entry of an address, whatever stood in the slot.
+#[tactic(auto, using(crate::proofs::Writing::putting))]
 pub fn begin(slot: &mut [u8], address: &[u8])
     requires { (length slot.old ≡ slot_length) × (length address.now ≤ address_room) }
     ensures { slot.new ≡ slot_of (newcomer address.now) }
 {
-    octets::fill(slot, 0);
-    let mark = Slot::MARK;
-    octets::put(slot, 0, &mark);
+    slot.fill(0);
+    octets::put(slot, 0, &Slot::MARK);
     put_head(slot, Head::empty(address.len()));
     octets::put(slot, Slot::ADDRESS_AT, address);
 }
 
 // Gives the entry another address, in a slot that was sound by the old rule (T17).
+#[tactic(auto, using(crate::proofs::Entries::changing))]
 pub fn set_address(slot: &mut [u8], address: &[u8])
     requires { (length slot.old ≡ slot_length) × (sound_by Ascii slot.old ≡ true) × (length address.now ≤ address_room) }
     ensures { slot.new ≡ slot_of (renamed address.now (entry_of slot.old)) }
@@ -174,6 +178,7 @@ pub fn set_address(slot: &mut [u8], address: &[u8])
 }
 
 // Raises last seen to the date; it never falls (U7).
+#[tactic(auto, using(crate::proofs::Entries::changing))]
 pub fn raise_seen(slot: &mut [u8], date: u64)
     requires { (length slot.old ≡ slot_length) × (sound slot.old ≡ true) }
     ensures { slot.new ≡ slot_of (seen_by date (entry_of slot.old)) }
@@ -183,6 +188,7 @@ pub fn raise_seen(slot: &mut [u8], date: u64)
 }
 
 // Sets timestamp, key and preference of the direct half.
+#[tactic(auto, using(crate::proofs::Entries::changing))]
 pub fn set_direct(slot: &mut [u8], timestamp: u64, key: &[u8], mutual: bool)
     requires { (length slot.old ≡ slot_length) × (sound slot.old ≡ true) × (length key.now ≤ key_limit) }
     ensures { slot.new ≡ slot_of
@@ -194,6 +200,7 @@ pub fn set_direct(slot: &mut [u8], timestamp: u64, key: &[u8], mutual: bool)
 }
 
 // Sets timestamp and key of the gossip half.
+#[tactic(auto, using(crate::proofs::Entries::changing))]
 pub fn set_gossip(slot: &mut [u8], timestamp: u64, key: &[u8])
     requires { (length slot.old ≡ slot_length) × (sound slot.old ≡ true) × (length key.now ≤ key_limit) }
     ensures { slot.new ≡ slot_of (with_gossip (record { timestamp = timestamp; key = key.now }) (entry_of slot.old)) }

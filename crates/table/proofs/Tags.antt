@@ -1,8 +1,6 @@
 -- The tags of a table that is written to.
 --     tagged_new         an entry put in a slot, and its tag beside it
 --     tagged_kept        an entry of the address that the slot had before
---     tag_put            a tag that was made, put beside a slot
---     begin_low          that tag lies in the room for tags
 --     begin_room         the address lies in the room for one
 --     begin_tagged       the tags that `begin` leaves
 -- Assumes nothing.
@@ -75,15 +73,8 @@ module _ (t tags : List ℕ) (h : Tagged t tags) (i : ℕ) (l : i < slots t) (e 
               (λ q. h.each k (rw same_count at b) ∙ sym (tag_there k (eqb-false k i q)));
         }
 
--- as the code has it
-pub tag_put : (tags a : List ℕ) (i tag : ℕ) → tag ≡ tag_of a → set tags i tag ≡ set tags i (tag_of a)
-tag_put tags a i tag e = rw e
-
 -- what `begin` asks, and what it leaves: w stands in the slot that was lent on
 module _ (t tags a : List ℕ) (i : ℕ) (b : Begins t tags i a) where
-  pub begin_low : i < 256
-  begin_low = omega (arith, b.within, b.tagged.few)
-
   pub begin_room : length a ≤ address_room
   begin_room = omega (arith, own_most a b.canonical)
 

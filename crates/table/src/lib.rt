@@ -32,6 +32,7 @@ pub enum Found {
 }
 
 // How many whole slots there are (T1).
+#[tactic(auto, unfolding(crate::specs::Table::slots))]
 pub fn count(table: &[u8]) -> usize
     ensures { result ≡ slots_of table.now }
 {
@@ -39,6 +40,7 @@ pub fn count(table: &[u8]) -> usize
 }
 
 // One slot as a part of the table.
+#[tactic(auto, using(crate::proofs::Slots::lending), unfolding(crate::specs::Table::slots))]
 pub fn slot_at(table: &[u8], i: usize) -> &[u8]
     requires { i < slots_of table.now }
     ensures { (result.now ≡ slot_at table.now i) × (length result.now ≡ slot_length) }
@@ -48,6 +50,7 @@ pub fn slot_at(table: &[u8], i: usize) -> &[u8]
 }
 
 // Is the slot without the mark? In a sound table it is then free (T4).
+#[tactic(auto, unfolding(crate::specs::Table::unused))]
 fn is_unused(table: &[u8], i: usize) -> bool
     requires { i < slots_of table.now }
     ensures { result ≡ unused (slot_at table.now i) }
@@ -56,33 +59,27 @@ fn is_unused(table: &[u8], i: usize) -> bool
 }
 
 // The free slot with the lowest index (U4).
+#[tactic(auto, using(crate::proofs::Scanning::finding_free))]
 pub fn lowest_free(table: &[u8]) -> Found
     ensures { result ≡ lowest_free table.now }
 {
-    let n = count(table);
-    let mut i = 0;
-    while i < n {
+    for i in 0..count(table) {
         if is_unused(table, i) {
             return Found::At(i);
         }
-        i += 1;
     }
     Found::Nothing
 }
 
 // How many slots are free (R8).
+#[tactic(auto, using(crate::proofs::Scanning::tallying))]
 pub fn count_free(table: &[u8]) -> usize
     ensures { result ≡ free_count table.now }
 {
-    let n = count(table);
     let mut many = 0;
-    let mut i = 0;
-    while i < n {
+    for i in 0..count(table) {
         if is_unused(table, i) {
             many += 1;
-            i += 1;
-        } else {
-            i += 1;
         }
     }
     many
@@ -121,6 +118,7 @@ fn put_tag(tags: &mut [u32; Slot::MOST], i: usize, address: &[u8])
 }
 
 // Begins the entry of an address in a slot, and keeps the tags true.
+#[tactic(auto, using(crate::proofs::Slots::lending, crate::proofs::Tags::begin_room, crate::proofs::Tags::begin_tagged), unfolding(crate::specs::Table::slots))]
 pub fn begin(table: &mut [u8], tags: &mut [u32; Slot::MOST], i: usize, address: &[u8])
     requires { Begins table.old tags.old i address.now }
     ensures table_after { table.new ≡ with_slot table.old i (slot_of (newcomer address.now)) }
@@ -132,15 +130,17 @@ pub fn begin(table: &mut [u8], tags: &mut [u32; Slot::MOST], i: usize, address: 
 }
 
 // Frees a slot (T4).
+#[tactic(auto, using(crate::proofs::Slots::lending), unfolding(crate::specs::Table::slots))]
 pub fn clear(table: &mut [u8], i: usize)
     requires { i < slots_of table.old }
     ensures { table.new ≡ with_slot table.old i free_slot }
 {
     let at = i * Slot::LEN;
-    octets::fill(&mut table[at..at + Slot::LEN], 0);
+    table[at..at + Slot::LEN].fill(0);
 }
 
 // Gives an entry another address, in a slot that was sound by the old rule (T17).
+#[tactic(auto, using(crate::proofs::Slots::lending), unfolding(crate::specs::Table::slots))]
 pub fn set_address(table: &mut [u8], i: usize, address: &[u8])
     requires { (i < slots_of table.old) × (sound_by Ascii (slot_at table.old i) ≡ true) × (length address.now ≤ address_room) }
     ensures { table.new ≡ with_slot table.old i (slot_of (renamed address.now (entry_of (slot_at table.old i)))) }
@@ -150,6 +150,7 @@ pub fn set_address(table: &mut [u8], i: usize, address: &[u8])
 }
 
 // Raises last seen of an entry to the date; it never falls (U7).
+#[tactic(auto, using(crate::proofs::Slots::lending), unfolding(crate::specs::Table::slots))]
 pub fn raise_seen(table: &mut [u8], i: usize, date: u64)
     requires { (i < slots_of table.old) × (sound (slot_at table.old i) ≡ true) }
     ensures { table.new ≡ with_slot table.old i (slot_of (seen_by date (entry_of (slot_at table.old i)))) }
@@ -159,6 +160,7 @@ pub fn raise_seen(table: &mut [u8], i: usize, date: u64)
 }
 
 // Sets timestamp, key and preference of an entry's direct half.
+#[tactic(auto, using(crate::proofs::Slots::lending), unfolding(crate::specs::Table::slots))]
 pub fn set_direct(table: &mut [u8], i: usize, timestamp: u64, key: &[u8], mutual: bool)
     requires { (i < slots_of table.old) × (sound (slot_at table.old i) ≡ true) × (length key.now ≤ key_limit) }
     ensures { table.new ≡ with_slot table.old i
@@ -169,6 +171,7 @@ pub fn set_direct(table: &mut [u8], i: usize, timestamp: u64, key: &[u8], mutual
 }
 
 // Sets timestamp and key of an entry's gossip half.
+#[tactic(auto, using(crate::proofs::Slots::lending), unfolding(crate::specs::Table::slots))]
 pub fn set_gossip(table: &mut [u8], i: usize, timestamp: u64, key: &[u8])
     requires { (i < slots_of table.old) × (sound (slot_at table.old i) ≡ true) × (length key.now ≤ key_limit) }
     ensures { table.new ≡ with_slot table.old i

@@ -1,9 +1,0 @@
--- `heads::Head::bits` meets its contract: the laws of `Reading` answer every need. Assumes nothing.
-use Rattle.heads.proofs.Reading.{reading}
-use borrow.Author.Rules.{rules}
-use Rattle.heads.proofs.Head.bits as fn
-
-pub bits_spec : {M : Type 1} → fn.Statement.statement M
-bits_spec =
-    fn.Tie.close (fn.Tie.spec (λ c. search rules) (λ c. search rules) (λ c. search rules) (λ c. search rules)
-    (λ c. search rules) (λ c. search rules) (λ c. search rules) (λ c. search reading))

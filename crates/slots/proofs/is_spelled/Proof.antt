@@ -1,8 +1,0 @@
--- `slots::is_spelled` meets its contract: the laws of `Reading` answer every need. Assumes nothing.
-use Rattle.slots.proofs.Reading.{reading}
-use Rattle.slots.proofs.is_spelled as fn
-
-pub is_spelled_spec : {M : Type 1} → fn.Statement.statement M
-is_spelled_spec =
-    fn.Tie.close (fn.Tie.spec (λ c. search reading) (λ c. search reading) (λ c. search reading) (λ c. search reading)
-    (λ c. search reading) (λ c. search reading))

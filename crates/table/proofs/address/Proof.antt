@@ -1,6 +1,0 @@
--- `table::address` meets its contract: the laws of `Slots` answer every need. Assumes nothing.
-use Rattle.table.proofs.Slots.{reaching}
-use Rattle.table.proofs.address as fn
-
-pub address_spec : {M : Type 1} → fn.Statement.statement M
-address_spec = fn.Tie.close (fn.Tie.spec (λ c. search reaching) (λ c. search reaching) (λ c. search reaching))
