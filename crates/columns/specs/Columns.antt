@@ -27,7 +27,7 @@ time_text (Some t) = decimal t
 -- W8: `mutual` or `none`
 unfoldable pub preference_text : Bool → List ℕ
 preference_text true = ascii "mutual"
-preference_text false = ascii "None"
+preference_text false = ascii "none"
 
 -- W8: a column with the octet behind it, a space or LF
 unfoldable pub ended : List ℕ → ℕ → List ℕ
