@@ -13,6 +13,7 @@ use write::Written;
 // refusals, in the order of testing: 9 where `address` is not a plain address and nothing else (R9), 12 where `out` is
 // shorter than the address shown (R12). Then `out` stays as it was (R32), and there is no length (R34). An `out` of 1,024
 // octets is always long enough (W11).
+#[tactic(auto, using(crate::proofs::Displaying::displaying), unfolding(crate::specs::Displaying::displaying_rows, crate::specs::Displaying::refused_displaying, crate::specs::Displaying::displayed_of, crate::specs::Displaying::left_by_displaying))]
 pub fn display(address: &[u8], out: &mut [u8]) -> Written
     ensures value { result ≡ displayed_of address.now (length out.old) }
     ensures out_after { out.new ≡ left_by_displaying address.now out.old }

@@ -6,30 +6,26 @@
 --     sent                              and where neither is so
 --     readied                           `lint_sent`: the recipients are gathered, and the faults may be listed
 --     sent_answered, sent_left          what listing them comes to
---     roomy_short, roomy_long           `lint`: a text that is as long as the blocks need
---     the rulesets                      opening, walking, sending, finishing
+--     roomy_short, roomy_long           `lint`: as much room as the blocks need
+--     the rulesets                      opening, walking, sending, finishing, roomy
 -- Assumes nothing.
-use Prim.Native.Nat.{ℕ, ◌-◌, ◌≤◌, min}
-use mathlib.Core.Path.{◌≡◌, refl, sym, ap, ◌∙◌}
-use mathlib.Core.Bool.{Bool, true, false, ◌&&◌}
+use Prim.Native.Nat.{ℕ, ◌≤◌}
+use mathlib.Core.Path.{◌≡◌, refl, sym, ◌∙◌}
+use mathlib.Core.Bool.{Bool, true, false}
 use mathlib.Core.List.{List}
-use Rattle.std.specs.Prelude.{Option, Some, None}
+use Rattle.std.specs.Prelude.{Some, None}
 use native.Mathlib.Nat.{sub-zero}
 use native.Mathlib.Omega.{arith}
 use borrow.Author.Rules.{rules}
-use borrow.Author.Tests.{leb-true}
-use lib.Dec.{leb}
-use lib.ListN.{length, take, drop}
+use lib.ListN.{length, take}
 use Rattle.octets.specs.Options.{is_some, or_else}
 use Rattle.octets.specs.Written.{onto}
-use Rattle.octets.proofs.Tests.{and_left, and_right}
-use Rattle.refusals.specs.Rows.{first_of, answered_by, unless_refused}
+use Rattle.refusals.specs.Rows.{first_of}
 use Rattle.refusals.specs.declared.Refusal.{Refusal}
 use Rattle.refusals.specs.declared.Refusal.TheVariants.{OuterBlock, Sender, PayloadBlock}
 use Rattle.refusals.proofs.Rows.{refused_is}
 use Rattle.header.specs.Header.{limit, readable}
 use Rattle.header.proofs.Fields.{clear_fits}
-use Rattle.roll.specs.Roll.{unrolled}
 use Rattle.roll.specs.Index.{Indexed}
 use Rattle.roll.specs.declared.Rolled.{Rolled}
 use Rattle.fields.specs.Fields.{fields_in}
@@ -38,7 +34,7 @@ use Rattle.fields.specs.declared.Survey.{Survey}
 use Rattle.fields.specs.declared.Surveyed.{Surveyed}
 use Rattle.fields.specs.declared.Surveyed.TheVariants.{Readable, Unreadable}
 use Rattle.fields.proofs.Walking.{survey_readable}
-use Rattle.outer.specs.Outer.{sender_in, recipients_in}
+use Rattle.outer.specs.Outer.{sender_in}
 use Rattle.outer.specs.Answers.{sender_of, left_by_sender}
 use Rattle.outer.specs.declared.Sender.{Sender as Told}
 use Rattle.outer.specs.declared.Sender.TheVariants.{Address, NotOne}
@@ -48,6 +44,7 @@ use Rattle.recipients.proofs.RecipientRoll.{enough_room, gathered, gathered_inde
 use Rattle.faults.specs.Faults.{numbers_of}
 use Rattle.lint.specs.Linting.{mail_faults, list_rows, linting_rows, refused_linting, linted_of, left_by_linting}
 use Rattle.lint.specs.Stages.{faults_with, listed_of, left_by_listing, Roomy, Walked, Sent, Readied}
+use Rattle.lint.specs.declared.Mail.{Mail}
 use Rattle.lint.specs.declared.Linted.{Linted}
 use Rattle.lint.specs.declared.Linted.TheVariants.{Done, Refused}
 
@@ -96,14 +93,15 @@ module _ (outer payload : List ℕ) (k : Surveyed) (h : SurveyedAs outer k) wher
     unfolding SurveyedAs
     outer_left = left outer payload list OuterBlock (first_outer outer payload (length list) (rw q at h))
 
-  pub walked : (text : List ℕ) → Roomy outer payload text → (survey : Survey) → k ≡ Readable survey → Walked outer survey payload text
+  pub walked : (room : ℕ) → Roomy outer payload room → (survey : Survey) → k ≡ Readable survey
+      → (text : List ℕ) → length text ≡ room → Walked outer survey payload text
   unfolding SurveyedAs
-  walked text r survey q =
+  walked room r survey q text l =
       let v : SurveyAs outer survey = rw q at h in
       record {
         surveyed = v;
-        outer_fits = omega (arith, r.outer_fits, short outer (survey_readable outer survey v));
-        payload_fits = r.payload_fits;
+        outer_fits = omega (arith, r.outer_fits, l, short outer (survey_readable outer survey v));
+        payload_fits = omega (arith, r.payload_fits, l);
       }
 
 pub ruleset opening = (outer_answered, outer_left, walked, rules)
@@ -128,8 +126,8 @@ module _ (outer : List ℕ) (survey : Survey) (payload text₀ : List ℕ) (h : 
       pub address_within : n ≤ length out
       address_within = left_within (sender_in (fields_in outer)) r t out d l n q
 
-      is_sender : sender_in (fields_in outer) ≡ Some (take (n - 0) (drop 0 out))
-      is_sender = rw sub-zero (left_is (sender_in (fields_in outer)) r t out d l n q)
+      is_sender : sender_in (fields_in outer) ≡ Some (take n out)
+      is_sender = (left_is (sender_in (fields_in outer)) r t out d l n q)
 
       module _ (b : Bool) (p : b ≡ readable payload) where
         pub payload_answered : (list : List ℕ) → b ≡ false → Refused PayloadBlock ≡ linted_of outer payload (length list)
@@ -138,7 +136,7 @@ module _ (outer : List ℕ) (survey : Survey) (payload text₀ : List ℕ) (h : 
         pub payload_left : (list : List ℕ) → b ≡ false → list ≡ left_by_linting outer payload list
         payload_left list f = left outer payload list PayloadBlock (first_payload outer payload (length list) outer_readable _ is_sender (sym p ∙ f))
 
-        pub sent : (text : List ℕ) → length text ≡ length text₀ → b ≡ true → Sent outer survey payload (take (n - 0) (drop 0 out)) text
+        pub sent : (text : List ℕ) → length text ≡ length text₀ → b ≡ true → Sent outer survey payload (take n out) text
         sent text e f =
             let y : readable payload ≡ true = sym p ∙ f in
             record {
@@ -153,33 +151,34 @@ pub ruleset walking = (sender_answered, sender_left, address_within, payload_ans
 
 -- `lint_sent`
 module _ (outer : List ℕ) (survey : Survey) (payload sender text₀ : List ℕ) (h : Sent outer survey payload sender text₀) where
-  pub readied : (text : List ℕ) → length text ≡ length text₀ → (recipients tags places : List ℕ) → Indexed recipients tags places
-      → Readied outer payload sender recipients tags places text
-  readied text e recipients tags places x =
+  pub readied : (text : List ℕ) → length text ≡ length text₀ → (m : Mail) → m.outer.now ≡ outer → m.payload.now ≡ payload → m.sender.now ≡ sender
+      → Indexed m.recipients.now m.tags.now m.places.now → Readied m text
+  readied text e m o p s x =
       record {
-        outer_readable = survey_readable outer survey h.surveyed;
-        payload_readable = h.readably;
-        canonical = sender_canonical (fields_in outer) sender h.sent;
+        outer_readable = rw o (survey_readable outer survey h.surveyed);
+        payload_readable = rw p h.readably;
+        canonical = rw s (sender_canonical (fields_in outer) sender h.sent);
         index = x;
-        outer_fits = omega (arith, h.outer_fits, e);
-        payload_fits = omega (arith, h.payload_fits, e);
+        outer_fits = rw o (omega (arith, h.outer_fits, e));
+        payload_fits = rw p (omega (arith, h.payload_fits, e));
       }
 
-  module _ (roll tags places : List ℕ) (r : Rolled) (g : GatheredAs outer roll tags places r) (list : List ℕ) where
-    faults_are : faults_with sender (unrolled (take (r.end - 0) (drop 0 roll))) outer payload ≡ mail_faults outer payload
+  module _ (roll tags places : List ℕ) (r : Rolled) (g : GatheredAs outer roll tags places r) (list : List ℕ) (m : Mail)
+      (o : m.outer.now ≡ outer) (p : m.payload.now ≡ payload) (s : m.sender.now ≡ sender) (t : m.recipients.now ≡ take r.end roll) where
+    faults_are : faults_with m ≡ mail_faults outer payload
     unfolding faults_with mail_faults or_else
-    faults_are = rw (gathered outer roll tags places r g, h.sent)
+    faults_are =
+        let recipients = rw sub-zero at (gathered outer roll tags places r g) in
+        rw (o, p, s, t, recipients, h.sent)
 
     rows_are : refused_linting outer payload (length list) ≡ first_of (list_rows (mail_faults outer payload) (length list))
     rows_are = first_list outer payload (length list) (survey_readable outer survey h.surveyed) sender h.sent h.readably
 
-    pub sent_answered : (a : Linted) → a ≡ listed_of (faults_with sender (unrolled (take (r.end - 0) (drop 0 roll))) outer payload) (length list)
-        → a ≡ linted_of outer payload (length list)
+    pub sent_answered : (a : Linted) → a ≡ listed_of (faults_with m) (length list) → a ≡ linted_of outer payload (length list)
     unfolding linted_of listed_of
     sent_answered a e = e ∙ rw (faults_are, rows_are)
 
-    pub sent_left : (out : List ℕ) → out ≡ left_by_listing (faults_with sender (unrolled (take (r.end - 0) (drop 0 roll))) outer payload) list
-        → out ≡ left_by_linting outer payload list
+    pub sent_left : (out : List ℕ) → out ≡ left_by_listing (faults_with m) list → out ≡ left_by_linting outer payload list
     unfolding left_by_linting left_by_listing
     sent_left out e = e ∙ rw (faults_are, rows_are)
 
@@ -188,13 +187,11 @@ pub ruleset sending = (enough_room, gathered_index, readied, rules)
 pub ruleset finishing = (sent_answered, sent_left)
 
 -- `lint`
-module _ (outer payload text : List ℕ) where
-  pub roomy_short : (leb (length outer) 8192 && leb (length payload) 8192) ≡ true → length text ≡ 8192 → Roomy outer payload text
-  roomy_short b l =
-      record {
-        outer_fits = omega (arith, leb-true (length outer) 8192 (and_left (leb (length outer) 8192) (leb (length payload) 8192) b), l);
-        payload_fits = omega (arith, leb-true (length payload) 8192 (and_right (leb (length outer) 8192) (leb (length payload) 8192) b), l);
-      }
+module _ (outer payload : List ℕ) where
+  pub roomy_short : length outer ≤ 8192 → length payload ≤ 8192 → Roomy outer payload 8192
+  roomy_short o p = record { most = omega arith; outer_fits = omega arith; payload_fits = omega arith }
 
-  pub roomy_long : length text ≡ 65536 → Roomy outer payload text
-  roomy_long l = record { outer_fits = omega (arith, l); payload_fits = omega (arith, l) }
+  pub roomy_long : Roomy outer payload 65536
+  roomy_long = record { most = omega arith; outer_fits = omega arith; payload_fits = omega arith }
+
+pub ruleset roomy = (roomy_short, roomy_long, rules)

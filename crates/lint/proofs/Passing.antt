@@ -1,14 +1,13 @@
 -- Passes over both blocks: what they count, and what they write.
 --     missing_numbers            the fault of a mail without a valid field, in numbers
 --     first_looks .. passed      `pass`: each block may be looked over, and what both calls leave
---     missing_none, missing_one  `with_missing`
 --     counted_near               `list_faults`: what was counted is not far
 --     room_short, short_left     there is no room
 --     none_listed, none_left     there are no faults
 --     all_listed, all_left       all of them are written
---     the rulesets               passing, adding, listing
+--     the rulesets               passing, listing
 -- Assumes nothing.
-use Prim.Native.Nat.{ℕ, ◌+◌, ◌*◌, ◌-◌, ◌/◌, ◌<◌, ◌≤◌}
+use Prim.Native.Nat.{ℕ, ◌+◌, ◌*◌, ◌/◌, ◌<◌, ◌≤◌}
 use mathlib.Core.Path.{◌≡◌, refl, sym, ap, ◌∙◌}
 use mathlib.Core.Bool.{Bool, true, false, not}
 use mathlib.Core.List.{List, [], ◌∷◌, ◌++◌}
@@ -26,14 +25,14 @@ use Rattle.faults.specs.Faults.{Fault, numbers_of}
 use Rattle.faults.specs.Laying.{laid_at, numbers_if, room}
 use Rattle.faults.proofs.Laying.{laid_none, laid_both, laid_long, laid_onto}
 use Rattle.faults.proofs.Counting.{numbers_both, numbers_long}
-use Rattle.lookover.specs.Looking.{missing, faults_in, valid_behind, faults_of}
+use Rattle.lookover.specs.Looking.{missing, faults_in, faults_of}
 use Rattle.lookover.specs.Answers.{Looks, LookedAs}
 use Rattle.lookover.specs.declared.Looked.{Looked}
-use Rattle.lookover.specs.declared.Side.{Side}
 use Rattle.lookover.specs.declared.Side.TheVariants.{Outer, Payload}
 use Rattle.lookover.proofs.Few.{block_few}
 use Rattle.lint.specs.Linting.{list_rows}
 use Rattle.lint.specs.Stages.{faults_by, faults_with, listed_of, left_by_listing, Readied, PassedAs}
+use Rattle.lint.specs.declared.Mail.{Mail}
 use Rattle.lint.specs.declared.Linted.TheVariants.{Done, Refused}
 
 -- O3: what is written of the missing field are its numbers
@@ -56,12 +55,12 @@ no_length (f ∷ l) e = absurd (omega arith)
 laid_then : (d e : List ℕ) (at n : ℕ) (v w : List ℕ) → e ≡ laid_at d at v → n ≡ at + length v → laid_at e n w ≡ laid_at d at (v ++ w)
 laid_then d e at n v w p q = rw (p, q) (laid_both d at v w)
 
-module _ (outer payload sender recipients tags places : List ℕ) where
+module _ (m : Mail) where
   module _ (valid : Bool) (front : ℕ) (f : front ≡ 0 + length (numbers_if (not valid) 0 0 1)) where
     front_is : front ≡ length (numbers_of (missing valid))
     front_is = omega (arith, f, ap (λ (l : List ℕ). length l) (missing_numbers valid))
 
-    pub first_looks : (text : List ℕ) → Readied outer payload sender recipients tags places text → Looks outer sender recipients tags places text front
+    pub first_looks : (text : List ℕ) → Readied m text → Looks m.outer.now m.sender.now m.recipients.now m.tags.now m.places.now text front
     first_looks text h =
         record {
           readably = h.outer_readable;
@@ -72,14 +71,14 @@ module _ (outer payload sender recipients tags places : List ℕ) where
         }
 
     abbrev own : List Fault
-    own = faults_in Outer sender (unrolled recipients) (fields_in outer)
+    own = faults_in Outer m.sender.now (unrolled m.recipients.now) (fields_in m.outer.now)
 
     abbrev carried : List Fault
-    carried = faults_in Payload sender (unrolled recipients) (fields_in payload)
+    carried = faults_in Payload m.sender.now (unrolled m.recipients.now) (fields_in m.payload.now)
 
-    module _ (list₁ : List ℕ) (first : Looked) (list₂ : List ℕ) (k : LookedAs Outer sender (unrolled recipients) outer list₁ front list₂ first) where
-      pub second_looks : (text₀ text : List ℕ) → Readied outer payload sender recipients tags places text₀ → length text ≡ length text₀
-          → Looks payload sender recipients tags places text first.end
+    module _ (list₁ : List ℕ) (first : Looked) (list₂ : List ℕ) (k : LookedAs Outer m.sender.now (unrolled m.recipients.now) m.outer.now list₁ front list₂ first) where
+      pub second_looks : (text₀ text : List ℕ) → Readied m text₀ → length text ≡ length text₀
+          → Looks m.payload.now m.sender.now m.recipients.now m.tags.now m.places.now text first.end
       second_looks text₀ text h e =
           record {
             readably = h.payload_readable;
@@ -93,66 +92,57 @@ module _ (outer payload sender recipients tags places : List ℕ) where
                   front_is,
                   missing_most valid,
                   numbers_long own,
-                  block_few Outer sender (unrolled recipients) outer h.outer_readable,
+                  block_few Outer m.sender.now (unrolled m.recipients.now) m.outer.now h.outer_readable,
                 );
           }
 
       pub passed : (list : List ℕ) → list₁ ≡ laid_at list 0 (numbers_if (not valid) 0 0 1)
-          → (second : Looked) (list₃ : List ℕ) → LookedAs Payload sender (unrolled recipients) payload list₂ first.end list₃ second
-          → PassedAs outer payload sender recipients valid list list₃ (record { end = second.end; valid = first.valid })
+          → (second : Looked) (list₃ : List ℕ) → LookedAs Payload m.sender.now (unrolled m.recipients.now) m.payload.now list₂ first.end list₃ second
+          → PassedAs m valid list list₃ (record { end = second.end; valid = first.valid })
       unfolding faults_by
       passed list l second list₃ s =
-          let m : List ℕ = numbers_of (missing valid) in
-          let all : numbers_of (missing valid ++ (own ++ carried)) ≡ m ++ (numbers_of own ++ numbers_of carried) =
-          numbers_both (missing valid) (own ++ carried) ∙ ap (λ (t : List ℕ). m ++ t) (numbers_both own carried) in
+          let absent : List ℕ = numbers_of (missing valid) in
+          let all : numbers_of (missing valid ++ (own ++ carried)) ≡ absent ++ (numbers_of own ++ numbers_of carried) =
+          numbers_both (missing valid) (own ++ carried) ∙ ap (λ (t : List ℕ). absent ++ t) (numbers_both own carried) in
           record {
             ended = s.ended ∙ rw all (simp length-append (omega (arith, k.ended, front_is)));
             laid =
                 s.laid
                 ∙ laid_then list₁ list₂ front first.end (numbers_of own) (numbers_of carried) k.laid k.ended
-                ∙ laid_then list list₁ 0 front m (numbers_of own ++ numbers_of carried) (l ∙ ap (laid_at list 0) (missing_numbers valid)) (omega (arith, front_is))
+                ∙ laid_then list list₁ 0 front absent (numbers_of own ++ numbers_of carried) (l ∙ ap (laid_at list 0) (missing_numbers valid)) (omega (arith, front_is))
                 ∙ ap (laid_at list 0) (sym all);
             validly = k.validly;
           }
 
 pub ruleset passing = (first_looks, second_looks, passed, laid_long, rules)
 
--- `with_missing`
-pub missing_none : (valid : Bool) (n : ℕ) → valid ≡ true → n ≡ length (numbers_of (missing valid)) + n
-unfolding missing numbers_of
-missing_none valid n e = rw e (omega arith)
-
-pub missing_one : (valid : Bool) (n : ℕ) → valid ≡ false → n + 3 ≡ length (numbers_of (missing valid)) + n
-unfolding missing numbers_of
-missing_one valid n e = rw e (omega arith)
-
-pub ruleset adding = (missing_none, missing_one, rules)
-
 -- `list_faults`: a pass over a list without room counts all faults but that of a mail without a valid field
-module _ (outer payload sender recipients : List ℕ) where
+module _ (m : Mail) where
   abbrev mail : List Fault
-  mail = faults_with sender (unrolled recipients) outer payload
+  mail = faults_with m
 
   abbrev both : List Fault
-  both = faults_in Outer sender (unrolled recipients) (fields_in outer) ++ faults_in Payload sender (unrolled recipients) (fields_in payload)
+  both =
+      faults_in Outer m.sender.now (unrolled m.recipients.now) (fields_in m.outer.now)
+      ++ faults_in Payload m.sender.now (unrolled m.recipients.now) (fields_in m.payload.now)
 
-  module _ (nowhere out : List ℕ) (c : Looked) (p : PassedAs outer payload sender recipients true nowhere out c) where
+  module _ (nowhere out : List ℕ) (c : Looked) (p : PassedAs m true nowhere out c) where
     counted_is : c.end ≡ 3 * length both
     unfolding faults_by missing
     counted_is = p.ended ∙ numbers_long both
 
-    pub counted_near : (tags places text : List ℕ) → Readied outer payload sender recipients tags places text → c.end ≤ room
-    counted_near tags places text h =
+    pub counted_near : (text : List ℕ) → Readied m text → c.end ≤ room
+    counted_near text h =
         omega (
           arith,
           counted_is,
-          length-append (faults_in Outer sender (unrolled recipients) (fields_in outer)) (faults_in Payload sender (unrolled recipients) (fields_in payload)),
-          block_few Outer sender (unrolled recipients) outer h.outer_readable,
-          block_few Payload sender (unrolled recipients) payload h.payload_readable,
+          length-append (faults_in Outer m.sender.now (unrolled m.recipients.now) (fields_in m.outer.now)) (faults_in Payload m.sender.now (unrolled m.recipients.now) (fields_in m.payload.now)),
+          block_few Outer m.sender.now (unrolled m.recipients.now) m.outer.now h.outer_readable,
+          block_few Payload m.sender.now (unrolled m.recipients.now) m.payload.now h.payload_readable,
         )
 
     -- all faults are those that a pass writes which knows of the missing field
-    mail_is : mail ≡ faults_by c.valid sender (unrolled recipients) outer payload
+    mail_is : mail ≡ faults_by c.valid m
     unfolding faults_with faults_of faults_by
     mail_is = rw p.validly
 
@@ -200,7 +190,7 @@ module _ (outer payload sender recipients : List ℕ) where
           unfolding onto numbers_of
           none_left = left list (rw empty)
 
-        module _ (w : Looked) (out₁ : List ℕ) (q : PassedAs outer payload sender recipients c.valid list out₁ w) where
+        module _ (w : Looked) (out₁ : List ℕ) (q : PassedAs m c.valid list out₁ w) where
           pub all_listed : Done (w.end / 3) ≡ listed_of mail (length list)
           all_listed =
               listed (w.end / 3)

@@ -5,7 +5,7 @@
 --     linting_rows, refused_linting   all rows
 --     linted_of, left_by_linting      the answer, and what the list holds afterwards
 --     FewFaults                       an answer has no more faults than that room is for
-use Rattle.std.specs.Prelude.{ℕ, ◌*◌, ◌≤◌, List, [], ◌∷◌, ◌++◌, leb, length}
+use Rattle.std.specs.Prelude.{ℕ, ◌*◌, ◌≤◌, List, [], ◌∷◌, leb, length}
 use Rattle.std.specs.Prelude.{Option}
 use Rattle.octets.specs.Options.{is_some, or_else}
 use Rattle.octets.specs.Written.{onto}

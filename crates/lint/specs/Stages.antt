@@ -1,7 +1,7 @@
 -- What is known between the stages of looking a mail over (SCOPE, O1). Only the crate's own contracts speak of it.
 --     faults_by, faults_with        the faults of a mail: with or without that of no valid field, and as it is
 --     listed_of, left_by_listing    what row 12 leaves to be answered and written
---     Roomy                         there is room for the values of the blocks
+--     Roomy                         there is so much room for a value of the blocks
 --     Walked                        the outer block is readable
 --     Sent                          the sender is known, and the payload is readable
 --     Readied                       the recipients are known
@@ -24,17 +24,22 @@ use Rattle.lookover.specs.Looking.{missing, faults_in, valid_behind, faults_of}
 use Rattle.lookover.specs.declared.Looked.{Looked}
 use Rattle.lookover.specs.declared.Side.TheVariants.{Outer, Payload}
 use Rattle.lint.specs.Linting.{list_rows}
+use Rattle.lint.specs.declared.Mail.{Mail}
 use Rattle.lint.specs.declared.Linted.{Linted}
 use Rattle.lint.specs.declared.Linted.TheVariants.{Done, Refused}
 
 -- the faults of both blocks, with that of a mail without a valid field where `valid` says so
-unfoldable pub faults_by : Bool → List ℕ → List (List ℕ) → List ℕ → List ℕ → List Fault
-faults_by valid sender recipients outer payload =
-    missing valid ++ (faults_in Outer sender recipients (fields_in outer) ++ faults_in Payload sender recipients (fields_in payload))
+unfoldable pub faults_by : Bool → Mail → List Fault
+faults_by valid m =
+    missing valid
+    ++ (
+    faults_in Outer m.sender.now (unrolled m.recipients.now) (fields_in m.outer.now)
+    ++ faults_in Payload m.sender.now (unrolled m.recipients.now) (fields_in m.payload.now)
+    )
 
 -- the faults of both blocks
-unfoldable pub faults_with : List ℕ → List (List ℕ) → List ℕ → List ℕ → List Fault
-faults_with sender recipients outer payload = faults_of sender recipients (fields_in outer) (fields_in payload)
+unfoldable pub faults_with : Mail → List Fault
+faults_with m = faults_of m.sender.now (unrolled m.recipients.now) (fields_in m.outer.now) (fields_in m.payload.now)
 
 -- R12: how many faults there are, where the list has room for them
 unfoldable pub listed_of : List Fault → ℕ → Linted
@@ -44,9 +49,10 @@ listed_of faults room = answered_by (first_of (list_rows faults room)) Refused (
 unfoldable pub left_by_listing : List Fault → List ℕ → List ℕ
 left_by_listing faults list = unless_refused (first_of (list_rows faults (length list))) list (onto (numbers_of faults) list)
 
-pub record Roomy (outer payload text : List ℕ) : Type 0 where
-  pub outer_fits : min (length outer) limit ≤ length text
-  pub payload_fits : min (length payload) limit ≤ length text
+pub record Roomy (outer payload : List ℕ) (room : ℕ) : Type 0 where
+  pub most : room ≤ limit
+  pub outer_fits : min (length outer) limit ≤ room
+  pub payload_fits : min (length payload) limit ≤ room
 
 pub record Walked (outer : List ℕ) (survey : Survey) (payload text : List ℕ) : Type 0 where
   pub surveyed : SurveyAs outer survey
@@ -60,16 +66,16 @@ pub record Sent (outer : List ℕ) (survey : Survey) (payload sender text : List
   pub outer_fits : length outer ≤ length text
   pub payload_fits : length payload ≤ length text
 
-pub record Readied (outer payload sender recipients tags places text : List ℕ) : Type 0 where
-  pub outer_readable : readable outer ≡ true
-  pub payload_readable : readable payload ≡ true
-  pub canonical : is_canonical sender ≡ true
-  pub index : Indexed recipients tags places
-  pub outer_fits : length outer ≤ length text
-  pub payload_fits : length payload ≤ length text
+pub record Readied (m : Mail) (text : List ℕ) : Type 0 where
+  pub outer_readable : readable m.outer.now ≡ true
+  pub payload_readable : readable m.payload.now ≡ true
+  pub canonical : is_canonical m.sender.now ≡ true
+  pub index : Indexed m.recipients.now m.tags.now m.places.now
+  pub outer_fits : length m.outer.now ≤ length text
+  pub payload_fits : length m.payload.now ≤ length text
 
 -- a pass counts the faults, and writes them as far as the list goes
-pub record PassedAs (outer payload sender recipients : List ℕ) (valid : Bool) (list out : List ℕ) (r : Looked) : Type 0 where
-  pub ended : r.end ≡ length (numbers_of (faults_by valid sender (unrolled recipients) outer payload))
-  pub laid : out ≡ laid_at list 0 (numbers_of (faults_by valid sender (unrolled recipients) outer payload))
-  pub validly : r.valid ≡ valid_behind Outer sender (fields_in outer)
+pub record PassedAs (m : Mail) (valid : Bool) (list out : List ℕ) (r : Looked) : Type 0 where
+  pub ended : r.end ≡ length (numbers_of (faults_by valid m))
+  pub laid : out ≡ laid_at list 0 (numbers_of (faults_by valid m))
+  pub validly : r.valid ≡ valid_behind Outer m.sender.now (fields_in m.outer.now)

@@ -26,44 +26,48 @@ pub enum Linted {
 // Room for the values of most mails. Room has to be cleared before it is lent.
 const SHORT: usize = 8192;
 
+// Room for the values of every mail.
+const LONG: usize = header::LIMIT;
+
 // The most addresses that a block can have (B1, L6): one takes three octets, and another stands between it and the next.
 const MOST_RECIPIENTS: usize = header::LIMIT / 4;
 
+// A mail that is ready to be looked over: both blocks, who sent it, and the roll of its recipients with the index of the roll.
+#[derive(Clone, Copy)]
+struct Mail<'a> {
+    outer: &'a [u8],
+    payload: &'a [u8],
+    sender: &'a [u8],
+    recipients: &'a [u8],
+    tags: &'a [u32],
+    places: &'a [u16],
+}
+
 // Looks both blocks over, and writes what is wrong to the list, as far as it goes. `valid` says whether the mail has a valid
 // Autocrypt field, as far as the caller knows; the answer says whether it has one.
-fn pass(
-    outer: &[u8],
-    payload: &[u8],
-    sender: &[u8],
-    recipients: &[u8],
-    tags: &[u32],
-    places: &[u16],
-    text: &mut [u8],
-    valid: bool,
-    list: &mut [u32],
-) -> Looked
-    requires { Readied outer.now payload.now sender.now recipients.now tags.now places.now text.old }
-    ensures { PassedAs outer.now payload.now sender.now recipients.now valid list.old list.new result }
+fn pass(mail: Mail, text: &mut [u8], valid: bool, list: &mut [u32]) -> Looked
+    requires { Readied mail text.old }
+    ensures { PassedAs mail.entry valid list.old list.new result }
 {
     let front = faults::put_fault(list, 0, !valid, 0, 0, faults::NO_VALID);
     let first = lookover::look_over(
-        outer,
+        mail.outer,
         Side::Outer,
-        sender,
-        recipients,
-        tags,
-        places,
+        mail.sender,
+        mail.recipients,
+        mail.tags,
+        mail.places,
         text,
         list,
         front,
     );
     let second = lookover::look_over(
-        payload,
+        mail.payload,
         Side::Payload,
-        sender,
-        recipients,
-        tags,
-        places,
+        mail.sender,
+        mail.recipients,
+        mail.tags,
+        mail.places,
         text,
         list,
         first.end,
@@ -75,6 +79,7 @@ fn pass(
 }
 
 // How many numbers the list needs, with those of the fault that no Autocrypt field is valid.
+#[tactic(auto, unfolding(lookover::specs::Looking::missing, faults::specs::Faults::numbers_of))]
 fn with_missing(numbers: usize, valid: bool) -> usize
     requires { numbers ≤ room }
     ensures { result ≡ length (numbers_of (missing valid)) + numbers }
@@ -83,47 +88,26 @@ fn with_missing(numbers: usize, valid: bool) -> usize
 }
 
 // Lists the faults where there is room for them (R12). They are counted by a pass over a list that has none.
-fn list_faults(
-    outer: &[u8],
-    payload: &[u8],
-    sender: &[u8],
-    recipients: &[u8],
-    tags: &[u32],
-    places: &[u16],
-    text: &mut [u8],
-    list: &mut [u32],
-) -> Linted
-    requires { Readied outer.now payload.now sender.now recipients.now tags.now places.now text.old }
-    ensures value { result ≡ listed_of (faults_with sender.now (unrolled recipients.now) outer.now payload.now) (length list.old) }
-    ensures list_after { list.new ≡ left_by_listing (faults_with sender.now (unrolled recipients.now) outer.now payload.now) list.old }
+fn list_faults(mail: Mail, text: &mut [u8], list: &mut [u32]) -> Linted
+    requires { Readied mail text.old }
+    ensures value { result ≡ listed_of (faults_with mail.entry) (length list.old) }
+    ensures list_after { list.new ≡ left_by_listing (faults_with mail.entry) list.old }
 {
     let mut nowhere = [0u32; 1];
-    let counted = pass(
-        outer,
-        payload,
-        sender,
-        recipients,
-        tags,
-        places,
-        text,
-        true,
-        &mut nowhere,
-    );
-    let valid = counted.valid;
-    let needed = with_missing(counted.end, valid);
+    let counted = pass(mail, text, true, &mut nowhere);
+    let needed = with_missing(counted.end, counted.valid);
     if list.len() < needed {
         return Linted::Refused(Refusal::OutputLength);
     }
     if needed == 0 {
         return Linted::Done(0);
     }
-    let written = pass(
-        outer, payload, sender, recipients, tags, places, text, valid, list,
-    );
+    let written = pass(mail, text, counted.valid, list);
     Linted::Done(written.end / 3)
 }
 
 // Refusal 12, with the blocks readable and the sender known: the recipients are gathered first.
+#[tactic(auto, using(recipients::proofs::RecipientRoll::gathered_tags, recipients::proofs::RecipientRoll::gathered_places))]
 fn lint_sent(
     outer: &[u8],
     survey: Survey,
@@ -140,18 +124,15 @@ fn lint_sent(
     let mut tags = [0u32; MOST_RECIPIENTS];
     let mut places = [0u16; MOST_RECIPIENTS];
     let rolled = recipients::gather(outer, survey, text, &mut roll, &mut tags, &mut places);
-    let end = rolled.end;
-    let many = rolled.many;
-    list_faults(
+    let mail = Mail {
         outer,
         payload,
         sender,
-        &roll[0..end],
-        &tags[0..many],
-        &places[0..many],
-        text,
-        list,
-    )
+        recipients: &roll[..rolled.end],
+        tags: &tags[..rolled.many],
+        places: &places[..rolled.many],
+    };
+    list_faults(mail, text, list)
 }
 
 // Refusals 5, 7 and 12, with the outer block walked over.
@@ -173,20 +154,22 @@ fn lint_walked(
             if !header::readable(payload) {
                 return Linted::Refused(Refusal::PayloadBlock);
             }
-            lint_sent(outer, survey, payload, &sender[0..n], text, list)
+            lint_sent(outer, survey, payload, &sender[..n], text, list)
         }
         Sender::NotOne => Linted::Refused(Refusal::Sender),
     }
 }
 
-// All refusals, with room for the values of the blocks.
-fn lint_with(outer: &[u8], payload: &[u8], text: &mut [u8], list: &mut [u32]) -> Linted
-    requires { Roomy outer.now payload.now text.old }
+// All refusals, with room for `N` octets of a value.
+#[tactic(auto, using(crate::proofs::Calling::opening))]
+fn lint_with<const N: usize>(outer: &[u8], payload: &[u8], list: &mut [u32]) -> Linted
+    requires { Roomy outer.now payload.now N }
     ensures value { result ≡ linted_of outer.now payload.now (length list.old) }
     ensures list_after { list.new ≡ left_by_linting outer.now payload.now list.old }
 {
+    let mut text = [0u8; N];
     match fields::walk(outer) {
-        Surveyed::Readable(survey) => lint_walked(outer, survey, payload, text, list),
+        Surveyed::Readable(survey) => lint_walked(outer, survey, payload, &mut text, list),
         Surveyed::Unreadable => Linted::Refused(Refusal::OuterBlock),
     }
 }
@@ -203,14 +186,14 @@ fn lint_with(outer: &[u8], payload: &[u8], text: &mut [u8], list: &mut [u32]) ->
 //     7      the payload is unreadable (R7)
 //     12     `list` has fewer than three numbers for each fault (R12)
 // Then `list` stays as it was (R32). One of 98,304 numbers is always long enough (O11). A report is not refused.
+#[tactic(auto, using(crate::proofs::Calling::roomy))]
 pub fn lint(outer: &[u8], payload: &[u8], list: &mut [u32]) -> Linted
     ensures value { result ≡ linted_of outer.now payload.now (length list.old) }
     ensures list_after { list.new ≡ left_by_linting outer.now payload.now list.old }
 {
-    if (outer.len() <= SHORT) & (payload.len() <= SHORT) {
-        let mut text = [0u8; SHORT];
-        return lint_with(outer, payload, &mut text, list);
+    if outer.len() <= SHORT && payload.len() <= SHORT {
+        lint_with::<SHORT>(outer, payload, list)
+    } else {
+        lint_with::<LONG>(outer, payload, list)
     }
-    let mut text = [0u8; header::LIMIT];
-    lint_with(outer, payload, &mut text, list)
 }

@@ -29,24 +29,33 @@ pub enum Answer {
     Refused(Refusal),
 }
 
+// A refusal has the number of its rule, R1 to R12.
+impl From<Refusal> for u32 {
+    ghost from_gives = { λ refusal n. n ≡ number_of refusal };
+
+    fn from(refusal: Refusal) -> u32 {
+        match refusal {
+            Refusal::TableLength => 1,
+            Refusal::BrokenSlot(_) => 2,
+            Refusal::ReceiptTime => 3,
+            Refusal::OuterBlock => 4,
+            Refusal::Sender => 5,
+            Refusal::Report => 6,
+            Refusal::PayloadBlock => 7,
+            Refusal::NoFreeSlot => 8,
+            Refusal::OwnAddress => 9,
+            Refusal::Recipients => 10,
+            Refusal::KeyLength => 11,
+            Refusal::OutputLength => 12,
+        }
+    }
+}
+
 // The number of a refusal: that of its rule, R1 to R12.
 pub fn number(refusal: Refusal) -> u32
     ensures { result ≡ number_of refusal }
 {
-    match refusal {
-        Refusal::TableLength => 1,
-        Refusal::BrokenSlot(_) => 2,
-        Refusal::ReceiptTime => 3,
-        Refusal::OuterBlock => 4,
-        Refusal::Sender => 5,
-        Refusal::Report => 6,
-        Refusal::PayloadBlock => 7,
-        Refusal::NoFreeSlot => 8,
-        Refusal::OwnAddress => 9,
-        Refusal::Recipients => 10,
-        Refusal::KeyLength => 11,
-        Refusal::OutputLength => 12,
-    }
+    refusal.into()
 }
 
 // The index that comes with a refusal: that of the lowest broken slot, and 0 with all others (R33).
@@ -54,17 +63,7 @@ pub fn index(refusal: Refusal) -> u32
     ensures { result ≡ index_of refusal }
 {
     match refusal {
-        Refusal::TableLength => 0,
         Refusal::BrokenSlot(i) => i,
-        Refusal::ReceiptTime => 0,
-        Refusal::OuterBlock => 0,
-        Refusal::Sender => 0,
-        Refusal::Report => 0,
-        Refusal::PayloadBlock => 0,
-        Refusal::NoFreeSlot => 0,
-        Refusal::OwnAddress => 0,
-        Refusal::Recipients => 0,
-        Refusal::KeyLength => 0,
-        Refusal::OutputLength => 0,
+        _ => 0,
     }
 }

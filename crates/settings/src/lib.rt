@@ -7,7 +7,7 @@ ghost use Rattle.settings.specs.Settings.{taken};
 
 // Is gossip in encrypted mail taken (G1)? Whoever wants it says take. A caller that says nothing leaves it unset, and gets
 // none.
-#[derive(Clone, Copy)]
+#[derive(Clone, Copy, PartialEq, Eq)]
 pub enum Gossip {
     Take,
     Skip,
@@ -23,12 +23,9 @@ pub struct Settings {
 }
 
 // Is gossip taken? Only where it was asked for (G1).
+#[tactic(auto, unfolding(crate::specs::Settings::taken))]
 pub fn is_taken(gossip: Gossip) -> bool
     ensures { result ≡ taken gossip }
 {
-    match gossip {
-        Gossip::Take => true,
-        Gossip::Skip => false,
-        Gossip::Unset => false,
-    }
+    gossip == Gossip::Take
 }

@@ -2,15 +2,15 @@
 --     key_none, key_long, key_good      the key's length (R11), as the code tests it
 --     field_fits, field_done, field_there    the field has room: what the lower writer answers and leaves
 --     field_long, nothing_there         it has none
---     the rulesets                      writing and passing, for `write`
+--     the ruleset                       writing, for `write`
 -- Assumes nothing.
 use Prim.Native.Nat.{ℕ, ◌<◌, ◌≤◌}
 use mathlib.Core.Path.{◌≡◌, sym, ap, ◌∙◌}
-use mathlib.Core.Bool.{true, false}
+use mathlib.Core.Bool.{Bool, true, false}
 use mathlib.Core.List.{List}
 use native.Mathlib.Omega.{arith}
-use borrow.Author.Tests.{le-leb, lt-leb}
-use lib.Dec.{leb}
+use borrow.Author.Tests.{le-leb, lt-leb, eqb-true, eqb-false}
+use lib.Dec.{leb, eqb}
 use lib.ListN.{length}
 use Rattle.octets.specs.Written.{onto}
 use Rattle.octets.specs.Tests.{one_to}
@@ -20,17 +20,19 @@ use Rattle.address.specs.declared.Fitted.TheVariants.{Length, NoRoom}
 use Rattle.address.proofs.Room.{written_length, written_no_room, onto_fits, onto_none}
 use Rattle.slots.specs.Slot.{key_limit}
 use borrow.Author.Rules.{rules}
-use Rattle.refusals.proofs.Rows.{unless_passes, denied_passes, no_row, rows}
+use Rattle.refusals.proofs.Rows.{denied_refuses, denied_passes, unless_refuses, unless_passes, no_row}
 use Rattle.write.specs.declared.Written.TheVariants.{Done}
 
-pub key_none : (n : ℕ) → n ≡ 0 → one_to key_limit n ≡ false
-key_none n e = rw e
+pub key_none : (n : ℕ) (b : Bool) → b ≡ eqb n 0 → b ≡ true → one_to key_limit n ≡ false
+key_none n b e t = rw (eqb-true n 0 (sym e ∙ t))
 
 pub key_long : (n : ℕ) → 2048 < n → one_to key_limit n ≡ false
 key_long n l = rw (le-leb 1 n (omega arith), lt-leb n 2048 l)
 
-pub key_good : (n : ℕ) → (n ≡ 0 → ⊥) → n ≤ 2048 → one_to key_limit n ≡ true
-key_good n e l = rw (le-leb 1 n (omega arith), le-leb n 2048 l)
+pub key_good : (n : ℕ) (b : Bool) → b ≡ eqb n 0 → b ≡ false → n ≤ 2048 → one_to key_limit n ≡ true
+key_good n b e f l =
+    let some : n ≡ 0 → ⊥ = eqb-false n 0 (sym e ∙ f) in
+    rw (le-leb 1 n (omega arith), le-leb n 2048 l)
 
 -- the answer of the lower writer
 module _ (field d : List ℕ) (k : Fitted) (e : k ≡ fitted_of field (length d)) where
@@ -51,7 +53,19 @@ module _ (field d : List ℕ) (k : Fitted) (e : k ≡ fitted_of field (length d)
     pub nothing_there : (out : List ℕ) → out ≡ onto_if_fits field d → out ≡ d
     nothing_there out o = o ∙ onto_none field d (written_no_room field (length d) (sym q ∙ e))
 
--- success: every row is passed
-pub ruleset passing = (denied_passes, unless_passes, key_good, field_fits, no_row, field_done, field_there, rules)
-
-pub ruleset writing = (key_none, key_long, key_good, field_fits, field_done, field_there, field_long, nothing_there, rows)
+pub ruleset writing = (
+  denied_refuses,
+  denied_passes,
+  unless_refuses,
+  unless_passes,
+  key_none,
+  key_long,
+  key_good,
+  field_fits,
+  field_done,
+  field_there,
+  field_long,
+  nothing_there,
+  no_row,
+  rules,
+)

@@ -17,6 +17,7 @@ pub enum Written {
 }
 
 // Both writers: they differ in the field's name and in who may state a preference (W3).
+#[tactic(auto, using(crate::proofs::Writing::writing), unfolding(crate::specs::Writing::writing_rows, crate::specs::Writing::refused_writing, crate::specs::Writing::written_of, crate::specs::Writing::left_by_writing))]
 fn write(name: &[u8], address: &[u8], mutual: bool, key: &[u8], out: &mut [u8]) -> Written
     requires { length name.now ≤ 256 }
     ensures value { result ≡ written_of name.now address.now «mutual» key.now (length out.old) }
@@ -25,10 +26,7 @@ fn write(name: &[u8], address: &[u8], mutual: bool, key: &[u8], out: &mut [u8]) 
     if !address::is_plain(address) {
         return Written::Refused(Refusal::OwnAddress);
     }
-    if key.len() == 0 {
-        return Written::Refused(Refusal::KeyLength);
-    }
-    if Slot::KEY_LIMIT < key.len() {
+    if key.is_empty() || Slot::KEY_LIMIT < key.len() {
         return Written::Refused(Refusal::KeyLength);
     }
     match writer::write_field(name, address, mutual, key, out) {

@@ -24,11 +24,11 @@ fn append(out: &mut [u8], at: usize, text: &[u8]) -> usize
     ensures value { result ≡ at + length text.now }
     ensures out_after { out.new ≡ put_at out.old at text.now }
 {
-    octets::put(&mut *out, at, text);
+    octets::put(out, at, text);
     at + text.len()
 }
 
-#[tactic(auto, using(crate::proofs::Parts::preferring))]
+#[tactic(auto, using(octets::proofs::Putting::over_none), unfolding(crate::specs::Writing::preference))]
 fn append_preference(out: &mut [u8], at: usize, mutual: bool) -> usize
     requires { at + length (preference «mutual») ≤ length out.old }
     ensures value { result ≡ at + length (preference «mutual») }
@@ -48,9 +48,9 @@ fn put_opening(name: &[u8], address: &[u8], out: &mut [u8]) -> usize
     ensures value { result ≡ 0 + length (opening name.now address.now) }
     ensures out_after { out.new ≡ put_at out.old 0 (opening name.now address.now) }
 {
-    let named = append(&mut *out, 0, name);
-    let opened = append(&mut *out, named, &ADDR);
-    append(&mut *out, opened, address)
+    let named = append(out, 0, name);
+    let opened = append(out, named, &ADDR);
+    append(out, opened, address)
 }
 
 // Writes what stands behind the address, from the place `at` on.
@@ -59,26 +59,29 @@ fn put_attributes(mutual: bool, key: &[u8], out: &mut [u8], at: usize)
     requires { at + length (attributes «mutual» key.now) ≤ length out.old }
     ensures { out.new ≡ put_at out.old at (attributes «mutual» key.now) }
 {
-    let preferred = append_preference(&mut *out, at, mutual);
-    let opened = append(&mut *out, preferred, &KEYDATA);
-    keylines::write_lines(key, &mut *out, opened);
+    let preferred = append_preference(out, at, mutual);
+    let opened = append(out, preferred, &KEYDATA);
+    keylines::write_lines(key, out, opened);
 }
 
 // Writes a field, which has room, to the front of `out`.
+#[tactic(auto, using(crate::proofs::Placing::joining))]
 fn put_field(name: &[u8], address: &[u8], mutual: bool, key: &[u8], out: &mut [u8])
     requires { length (field_text name.now address.now «mutual» key.now) ≤ length out.old }
     ensures { out.new ≡ onto (field_text name.now address.now «mutual» key.now) out.old }
 {
-    let at = put_opening(name, address, &mut *out);
-    put_attributes(mutual, key, &mut *out, at);
+    let at = put_opening(name, address, out);
+    put_attributes(mutual, key, out, at);
 }
 
+#[tactic(auto, unfolding(crate::specs::Writing::preference))]
 fn preference_length(mutual: bool) -> usize
     ensures { (result ≡ length (preference «mutual»)) × (result ≤ 23) }
 {
     if mutual { PREFER_ENCRYPT.len() } else { 0 }
 }
 
+#[tactic(auto, using(crate::proofs::Parts::field_counted))]
 fn field_length(name: &[u8], address: &[u8], mutual: bool, key: &[u8]) -> usize
     requires { (length name.now ≤ 256) × (length address.now ≤ 256) }
     ensures { result ≡ length (field_text name.now address.now «mutual» key.now) }
@@ -92,6 +95,7 @@ fn field_length(name: &[u8], address: &[u8], mutual: bool, key: &[u8]) -> usize
 }
 
 // Writes a field to the front of `out`, where it fits; room for just the field is enough (W6).
+#[tactic(auto, using(crate::proofs::Fitting::fitting))]
 fn fit_field(name: &[u8], address: &[u8], mutual: bool, key: &[u8], out: &mut [u8]) -> Fitted
     requires { (length name.now ≤ 256) × (length address.now ≤ 256) }
     ensures value { result ≡ written_of (field_text name.now address.now «mutual» key.now) (length out.old) }
@@ -107,6 +111,7 @@ fn fit_field(name: &[u8], address: &[u8], mutual: bool, key: &[u8], out: &mut [u
 }
 
 // Writes the field of an address, which it puts into canonical form (W5), to the front of `out`, where it fits (W6).
+#[tactic(auto, using(crate::proofs::Fitting::forming), unfolding(crate::specs::Writing::written))]
 pub fn write_field(name: &[u8], address: &[u8], mutual: bool, key: &[u8], out: &mut [u8]) -> Fitted
     requires { (length name.now ≤ 256) × (plain address.now ≡ true) }
     ensures value { result ≡ written_of (written name.now address.now «mutual» key.now) (length out.old) }
@@ -115,7 +120,7 @@ pub fn write_field(name: &[u8], address: &[u8], mutual: bool, key: &[u8], out: &
 {
     let mut form = [0u8; 256];
     match address::canonical(address, &mut form) {
-        Fitted::Length(n) => fit_field(name, &form[0..n], mutual, key, out),
+        Fitted::Length(n) => fit_field(name, &form[..n], mutual, key, out),
         Fitted::NoRoom => Fitted::NoRoom,
     }
 }
