@@ -43,10 +43,16 @@ fn letter(x: u8) -> bool
 fn atom(x: u8) -> bool
     ensures { result ≡ belongs Class.Atom x }
 {
-    matches!(
-        x,
-        b'^'..=b'~' | 128.. | b'A'..=b'Z' | b'-' | b'/'..=b'9' | b'=' | b'?' | b'#'..=b'\'' | b'*' | b'+' | b'!'
-    )
+    if b'^' <= x {
+        return x != 127;
+    }
+    if b'A' <= x {
+        return x <= b'Z';
+    }
+    if b'-' <= x {
+        return (x <= b'9' && x != b'.') || x == b'=' || x == b'?';
+    }
+    (b'*' <= x && x <= b'+') || (b'#' <= x && x <= b'\'') || x == b'!'
 }
 
 // Small letters, the most of what stands in labels, are known by the first test.
@@ -54,14 +60,14 @@ fn atom(x: u8) -> bool
 fn label(x: u8) -> bool
     ensures { result ≡ belongs Class.Label x }
 {
-    matches!(x, b'a'..=b'z' | b'A'..=b'Z' | b'0'..=b'9' | b'-')
+    x.is_ascii_lowercase() || x.is_ascii_uppercase() || x.is_ascii_digit() || x == b'-'
 }
 
 #[tactic(auto, unfolding(crate::specs::Runs::belongs), using(std::proofs::lemmas::Bool::Decides::nat_tests))]
 fn address(x: u8) -> bool
     ensures { result ≡ belongs Class.Address x }
 {
-    atom(x) || matches!(x, b'.' | b'@')
+    atom(x) || x == b'.' || x == b'@'
 }
 
 // Does the octet belong to the class?
