@@ -2,13 +2,11 @@
 --     Copied w d out at i       i of its octets are there
 --     copy_begin .. copy_end    the loop's steps
 --     small_begin .. small_end  the steps for the lower case of a list
---     put_small                 a part into which the lower case of a list was written at once
 --     digit_begin .. digits_put, numbering    the steps for the octets of a number, in the part that they go into
 -- Assumes nothing.
 use Prim.Native.Nat.{ℕ, suc, zero, ◌+◌, ◌-◌, ◌<◌, ◌≤◌, ◌/◌, ◌%◌}
 use mathlib.Core.Path.{◌≡◌, refl, sym, ap, ◌∙◌}
-use mathlib.Core.List.{List, [], ◌∷◌, ◌++◌, map, append-nil}
-use Rattle.std.specs.Char.{to_ascii_lowercase}
+use mathlib.Core.List.{List, [], ◌∷◌, ◌++◌, append-nil}
 use borrow.Rule.Slice.PartMut.{put_mid}
 use native.Mathlib.Nat.{add-zero, add_assoc, sub-zero}
 use native.Mathlib.Omega.{arith}
@@ -18,7 +16,7 @@ use Rattle.octets.specs.Octets.{lower, lowered}
 use Rattle.octets.specs.Numbers.{digits}
 use Rattle.octets.specs.Written.{put_at, onto}
 use Rattle.octets.proofs.Lists.{drop_one, drop_done, left_one}
-use Rattle.octets.proofs.Letters.{lowered_is, length_lowered, get_d_lowered}
+use Rattle.octets.proofs.Letters.{length_lowered, get_d_lowered}
 use Rattle.octets.proofs.Writing.{Wrote, begin, begin_at, room_at, kept, counted, put, done, done_at, put_part}
 
 pub record Copied (w d out : List ℕ) (at i : ℕ) : Type 0 where
@@ -66,9 +64,6 @@ module _ (s d out : List ℕ) (at i : ℕ) (h : Copied (lowered s) d out at i) w
 
   pub small_end : length s ≤ i → out ≡ put_at d at (lowered s)
   small_end l = copy_end (lowered s) d out at i h (rw length_lowered l)
-
-pub put_small : (d : List ℕ) (at k : ℕ) (part w : List ℕ) → part ≡ map to_ascii_lowercase w → k ≡ length w → put_mid at k d part ≡ put_at d at (lowered w)
-put_small d at k part w e f = put_part d at k part (lowered w) (e ∙ lowered_is w) (f ∙ sym (length_lowered w))
 
 pub ruleset making_small = (small_begin, small_room, small_next, small_end, small_kept, rules)
 

@@ -128,14 +128,13 @@ pub fn put(out: &mut [u8], at: usize, src: &[u8])
 }
 
 // Writes `src` into `out` from the place `at` on, its ASCII capitals as small letters (L8).
-#[tactic(auto, using(crate::proofs::Copying::put_small))]
 pub fn put_lower(out: &mut [u8], at: usize, src: &[u8])
     requires { at + length src.now ≤ length out.old }
     ensures { out.new ≡ put_at out.old at (lowered src.now) }
 {
-    let part = &mut out[at..at + src.len()];
-    part.copy_from_slice(src);
-    part.make_ascii_lowercase();
+    for (i, &x) in src.iter().enumerate() {
+        out[at + i] = lower(x);
+    }
 }
 
 // Makes every octet of `out` an `x`.

@@ -18,26 +18,28 @@ pub enum Class {
     Address,
 }
 
+#[tactic(auto, unfolding(crate::specs::Runs::belongs), using(std::proofs::lemmas::Bool::Decides::nat_tests))]
 fn name(x: u8) -> bool
     ensures { result ≡ belongs Class.Name x }
 {
-    (33 <= x) & (x <= 126) & (x != b':')
+    matches!(x, 33..=126) && x != b':'
 }
 
 fn digit(x: u8) -> bool
     ensures { result ≡ digit_of x }
 {
-    (b'0' <= x) & (x <= b'9')
+    x.is_ascii_digit()
 }
 
 fn letter(x: u8) -> bool
     ensures { result ≡ letter_of x }
 {
-    ((b'A' <= x) & (x <= b'Z')) | ((b'a' <= x) & (x <= b'z'))
+    x.is_ascii_alphabetic()
 }
 
 // Letters, digits, the signs ! # $ % & ' * + - / = ? ^ _ ` { | } ~ and the octets of 128 and above (L1), as ranges. Small
 // letters, the most of what stands in atoms, are known by the first of them.
+#[tactic(auto, unfolding(crate::specs::Runs::belongs), using(std::proofs::lemmas::Bool::Decides::nat_tests))]
 fn atom(x: u8) -> bool
     ensures { result ≡ belongs Class.Atom x }
 {
@@ -48,28 +50,28 @@ fn atom(x: u8) -> bool
         return x <= b'Z';
     }
     if b'-' <= x {
-        return ((x <= b'9') & (x != b'.')) | (x == b'=') | (x == b'?');
+        return (x <= b'9' && x != b'.') || x == b'=' || x == b'?';
     }
-    ((b'*' <= x) & (x <= b'+')) | ((b'#' <= x) & (x <= b'\'')) | (x == b'!')
+    (b'*' <= x && x <= b'+') || (b'#' <= x && x <= b'\'') || x == b'!'
 }
 
 // Small letters, the most of what stands in labels, are known by the first test.
+#[tactic(auto, unfolding(crate::specs::Runs::belongs), using(std::proofs::lemmas::Bool::Decides::nat_tests))]
 fn label(x: u8) -> bool
     ensures { result ≡ belongs Class.Label x }
 {
-    if (b'a' <= x) & (x <= b'z') {
-        return true;
-    }
-    ((b'A' <= x) & (x <= b'Z')) | digit(x) | (x == b'-')
+    x.is_ascii_lowercase() || x.is_ascii_uppercase() || x.is_ascii_digit() || x == b'-'
 }
 
+#[tactic(auto, unfolding(crate::specs::Runs::belongs), using(std::proofs::lemmas::Bool::Decides::nat_tests))]
 fn address(x: u8) -> bool
     ensures { result ≡ belongs Class.Address x }
 {
-    atom(x) | (x == b'.') | (x == b'@')
+    atom(x) || x == b'.' || x == b'@'
 }
 
 // Does the octet belong to the class?
+#[tactic(auto, unfolding(crate::specs::Runs::belongs))]
 pub fn within(class: Class, x: u8) -> bool
     ensures { result ≡ belongs class x }
 {
@@ -85,15 +87,14 @@ pub fn within(class: Class, x: u8) -> bool
 }
 
 // The end of the run of octets of the class that begins at the place `at`; `at` itself where there is none.
+#[tactic(auto, using(crate::proofs::Running::running))]
 pub fn run_end(s: &[u8], at: usize, class: Class) -> usize
     ensures { result ≡ at + run_length class (drop at s.now) }
 {
-    let mut i = at;
-    while i < s.len() {
+    for i in at..s.len() {
         if !within(class, s[i]) {
             return i;
         }
-        i += 1;
     }
-    i
+    at.max(s.len())
 }

@@ -45,8 +45,10 @@ struct Next {
 pub fn lead_of(x: u8) -> Option<Lead>
     ensures { result ≡ lead_of x }
 {
+    if x < 0x80 {
+        return Some(Lead::new(0, 0, 0, x));
+    }
     match x {
-        0..=0x7F => Some(Lead::new(0, 0, 0, x)),
         0xC2..=0xDF => Some(Lead::new(1, 0x80, 0xBF, x - 0xC0)),
         0xE0 => Some(Lead::new(2, 0xA0, 0xBF, 0)),
         0xED => Some(Lead::new(2, 0x80, 0x9F, 0xD)),
