@@ -3,7 +3,7 @@
 --     three_run .. none_wrote   the octets that the text goes on with
 --     the rulesets              grouping for `write_groups`, filling for `write`
 -- Assumes nothing.
-use Prim.Native.Nat.{ℕ, ◌+◌, ◌≤◌}
+use Prim.Native.Nat.{ℕ, ◌+◌, ◌<◌, ◌≤◌}
 use mathlib.Core.Path.{◌≡◌, refl, sym, ap, ◌∙◌}
 use mathlib.Core.List.{List, [], ◌∷◌, ◌++◌, append_assoc}
 use Rattle.std.specs.Prelude.{Option, Some, None}
@@ -102,6 +102,11 @@ module _ (s : List ℕ) (at : ℕ) (d : List ℕ) (to : ℕ) (out : List ℕ) (i
   whole_run c out₁ q p =
       three_run s at d to out i o h (get_or w 0 0) (get_or w 1 0) (get_or w 2 0) (i + 4) (read_whole s i r g w e) out₁ q
       (λ l. p (omega (arith, l)) ∙ rw (← array_three w c))
+
+  -- no room: they are only counted
+  pub whole_counted : length out < o + 3 → Run s at d to out (i + 4) (o + 3)
+  whole_counted l =
+      three_run s at d to out i o h (get_or w 0 0) (get_or w 1 0) (get_or w 2 0) (i + 4) (read_whole s i r g w e) out refl (λ m. absurd (omega arith))
 
 pub ruleset grouping = (nearer_whole, run_blanks, run_few, whole_upto, whole_run, rules)
 

@@ -40,7 +40,7 @@ fn put(out: &mut [u8], at: usize, octets: &[u8])
 }
 
 // Writes the octets of the groups from the place `at` on, behind blanks, to the places from `to` on, as long as each group is
-// four letters side by side.
+// four letters side by side. What has no room is only counted, by a loop of its own, so that the first is the faster.
 #[tactic(auto, using(crate::proofs::Filling::grouping))]
 fn write_groups(table: &[u8; 256], src: &[u8], at: usize, out: &mut [u8], to: usize) -> BothReached
     requires { Signs table.now × (at ≤ length src.now) × (to ≤ at) }
@@ -48,8 +48,15 @@ fn write_groups(table: &[u8; 256], src: &[u8], at: usize, out: &mut [u8], to: us
 {
     let mut i = runs::run_end(src, at, Class::Blank);
     let mut o = to;
-    while let Some(three) = groups::whole_group(table, src, i) {
-        put(&mut *out, o, &three);
+    'writing: while o + 3 <= out.len() {
+        let Some(three) = groups::whole_group(table, src, i) else {
+            return BothReached { read: i, wrote: o };
+        };
+        octets::put(&mut *out, o, &three);
+        i += 4;
+        o += 3;
+    }
+    'counting: while let Some(_) = groups::whole_group(table, src, i) {
         i += 4;
         o += 3;
     }
