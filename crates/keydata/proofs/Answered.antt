@@ -15,7 +15,6 @@ use Rattle.octets.specs.Written.{onto}
 use Rattle.letters.specs.Base64.{octets_in}
 use Rattle.keydata.specs.Answers.{decoded_of, Decodes}
 use Rattle.keydata.specs.Steps.{NoneFit}
-use Rattle.keydata.proofs.Filling.{nothing_fits}
 use Rattle.keydata.specs.declared.Decoded.{Decoded}
 use Rattle.keydata.specs.declared.Decoded.TheVariants.{Octets, Refused}
 
@@ -33,7 +32,7 @@ octets_answered (Some w) room n e = go (leb (length w) room) refl e
 
 pub refused_answered : (o : Option (List ℕ)) (room : ℕ) → Refused ≡ decoded_of o room → NoneFit o room
 unfolding decoded_of
-refused_answered None room e = nothing_fits room
+refused_answered None room e = record { over = λ w q. cc }
 refused_answered (Some w) room e = go (leb (length w) room) refl e
   where
     go : (b : Bool) → leb (length w) room ≡ b → Refused ≡ cond b (Octets (length w)) Refused → NoneFit (Some w) room

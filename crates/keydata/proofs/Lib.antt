@@ -1,3 +1,3 @@
 pub mod Filling
 pub mod Answered
-pub mod Passing
+pub mod Answering

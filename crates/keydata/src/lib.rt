@@ -3,16 +3,16 @@
 // `keylines`.
 #![tactic(auto)]
 
-ghost use Rattle.std.specs.Prelude.{◌+◌, ◌≤◌, ◌≡◌, [], ◌∷◌, length, drop};
+ghost use Rattle.std.specs.Prelude.{◌+◌, ◌^◌, ◌<◌, ◌≤◌, ◌≡◌, length};
 ghost use Rattle.octets.specs.Octets.{without_blanks};
 ghost use Rattle.octets.specs.Options.{is_some};
 ghost use Rattle.octets.specs.Written.{put_at};
 ghost use Rattle.letters.specs.Base64.{decode as octets_of};
 ghost use Rattle.letters.specs.Tables.{Signs};
 ghost use Rattle.keydata.specs.Answers.{decoded_of, Decodes};
-ghost use Rattle.keydata.specs.Steps.{Run, Turned, Passed};
+ghost use Rattle.keydata.specs.Steps.{Run, Wrote};
 
-use groups::{Next, Whole};
+use groups::Next;
 use runs::Class;
 
 // What decoding answers: how many octets it wrote, or that the text is no Base64 or stands for more than there is room for.
@@ -22,95 +22,56 @@ pub enum Decoded {
     Refused,
 }
 
-// How far a text has been read, and its octets are written.
+// How far a text has been read, and the place behind its octets.
 #[derive(Clone, Copy)]
 struct BothReached {
     read: usize,
     wrote: usize,
 }
 
-// What writing comes to, with a group more: it goes on, as far read and written; it has written so many octets, and the text is
-// at its end; or the text is no Base64, or has more octets than there is room for.
-#[derive(Clone, Copy)]
-enum Turn {
-    On(usize, usize),
-    Last(usize),
-    Refused,
-}
-
-// Writes three octets from the place `at` on.
-fn put_three(out: &mut [u8], at: usize, x: u8, y: u8, z: u8)
-    requires { at + 3 ≤ length out.old }
-    ensures { out.new ≡ put_at out.old at (x ∷ y ∷ z ∷ []) }
+// Writes octets from the place `at` on, if they have room there.
+fn put(out: &mut [u8], at: usize, octets: &[u8])
+    requires { at + length octets.now < 2 ^ 64 }
+    ensures { at + length octets.now ≤ length out.old → out.new ≡ put_at out.old at octets.now }
 {
-    out[at] = x;
-    out[at + 1] = y;
-    out[at + 2] = z;
+    if at + octets.len() <= out.len() {
+        octets::put(out, at, octets);
+    }
 }
 
 // Writes the octets of the groups from the place `at` on, behind blanks, to the places from `to` on, as long as each group is
-// four letters side by side and has room.
+// four letters side by side. What has no room is only counted, by a loop of its own, so that the first is the faster.
+#[tactic(auto, using(crate::proofs::Filling::grouping))]
 fn write_groups(table: &[u8; 256], src: &[u8], at: usize, out: &mut [u8], to: usize) -> BothReached
-    requires { Signs table.now × (at ≤ length src.now) × (to ≤ length out.old) }
+    requires { Signs table.now × (at ≤ length src.now) × (to ≤ at) }
     ensures { Run src.now at out.old to out.new result.read result.wrote }
 {
     let mut i = runs::run_end(src, at, Class::Blank);
     let mut o = to;
-    while 3 <= out.len() - o {
-        match groups::whole_group(table, src, i) {
-            Whole::Three(x, y, z) => {
-                put_three(&mut *out, o, x, y, z);
-                o += 3;
-                i += 4;
-            }
-            Whole::Other => return BothReached { read: i, wrote: o },
-        }
+    'writing: while o + 3 <= out.len() {
+        let Some(three) = groups::whole_group(table, src, i) else {
+            return BothReached { read: i, wrote: o };
+        };
+        octets::put(&mut *out, o, &three);
+        i += 4;
+        o += 3;
+    }
+    'counting: while let Some(_) = groups::whole_group(table, src, i) {
+        i += 4;
+        o += 3;
     }
     BothReached { read: i, wrote: o }
 }
 
-// Writes the octets that the text goes on with from the place `at` on, whatever these are, to the places from `to` on.
-fn write_next(table: &[u8; 256], src: &[u8], at: usize, out: &mut [u8], to: usize) -> Turn
-    requires { Signs table.now × (at ≤ length src.now) × (to ≤ length out.old) }
-    ensures { Turned src.now at out.old to out.new result }
-{
-    let room = out.len() - to;
-    match groups::next_group(table, src, at) {
-        Next::Three(x, y, z, behind) => {
-            if room < 3 {
-                return Turn::Refused;
-            }
-            put_three(out, to, x, y, z);
-            Turn::On(behind, to + 3)
-        }
-        Next::Two(x, y) => {
-            if room < 2 {
-                return Turn::Refused;
-            }
-            out[to] = x;
-            out[to + 1] = y;
-            Turn::Last(to + 2)
-        }
-        Next::One(x) => {
-            if room < 1 {
-                return Turn::Refused;
-            }
-            out[to] = x;
-            Turn::Last(to + 1)
-        }
-        Next::End => Turn::Last(to),
-        Next::Broken => Turn::Refused,
-    }
-}
-
-// Writes the octets of the text to the beginning of `out` while reading it.
-fn write(table: &[u8; 256], src: &[u8], out: &mut [u8]) -> Decoded
+// Writes the octets of the text to the beginning of `out` while reading it, and answers how many there are. What has no room is
+// left out and counted all the same: so who only asks whether the text is Base64 lends no room.
+#[tactic(auto, using(crate::proofs::Filling::filling))]
+fn write(table: &[u8; 256], src: &[u8], out: &mut [u8]) -> Option<usize>
     requires { Signs table.now }
-    ensures value { result ≡ decoded_of (octets_of (without_blanks src.now)) (length out.old) }
-    ensures decodes { Decodes (octets_of (without_blanks src.now)) out.old out.new result }
+    ensures { Wrote (octets_of (without_blanks src.now)) out.old out.new result }
 {
-    let mut i: usize = 0;
-    let mut o: usize = 0;
+    let mut i = 0;
+    let mut o = 0;
     loop {
         let from = i;
         let reached = write_groups(table, src, from, &mut *out, o);
@@ -119,60 +80,41 @@ fn write(table: &[u8; 256], src: &[u8], out: &mut [u8]) -> Decoded
         if from < i {
             continue;
         }
-        match write_next(table, src, i, &mut *out, o) {
-            Turn::On(read, wrote) => {
-                i = read;
-                o = wrote;
+        match groups::next_group(table, src, i) {
+            Next::Three(x, y, z, behind) => {
+                put(&mut *out, o, &[x, y, z]);
+                i = behind;
+                o += 3;
             }
-            Turn::Last(n) => return Decoded::Octets(n),
-            Turn::Refused => return Decoded::Refused,
+            Next::Two(x, y) => {
+                put(out, o, &[x, y]);
+                return Some(o + 2);
+            }
+            Next::One(x) => {
+                put(out, o, &[x]);
+                return Some(o + 1);
+            }
+            Next::End => return Some(o),
+            Next::Broken => return None,
         }
     }
 }
 
 // Decodes key data, with spaces and tabs anywhere, into the beginning of `out`. The text is read once and written as it is
 // read: after a refusal, what `out` holds means nothing.
+#[tactic(auto, using(crate::proofs::Answering::answering))]
 pub fn decode(src: &[u8], out: &mut [u8]) -> Decoded
     ensures value { result ≡ decoded_of (octets_of (without_blanks src.now)) (length out.old) }
     ensures decodes { Decodes (octets_of (without_blanks src.now)) out.old out.new result }
 {
-    let table = letters::signs();
-    write(&table, src, out)
-}
-
-// How far the groups go from the place `at` on, behind blanks, as long as each is four letters side by side.
-fn pass_groups(table: &[u8; 256], src: &[u8], at: usize) -> usize
-    requires { Signs table.now × (at ≤ length src.now) }
-    ensures { Passed src.now at result }
-{
-    let mut i = runs::run_end(src, at, Class::Blank);
-    loop {
-        match groups::whole_group(table, src, i) {
-            Whole::Three(_, _, _) => i += 4,
-            Whole::Other => return i,
-        }
-    }
-}
-
-// Is the text Base64 from its beginning to its end?
-fn is_whole(table: &[u8; 256], src: &[u8]) -> bool
-    requires { Signs table.now }
-    ensures { result ≡ is_some (octets_of (without_blanks src.now)) }
-{
-    let mut i: usize = 0;
-    loop {
-        let from = i;
-        i = pass_groups(table, src, from);
-        if from < i {
-            continue;
-        }
-        match groups::next_group(table, src, i) {
-            Next::Three(_, _, _, behind) => i = behind,
-            Next::Two(_, _) => return true,
-            Next::One(_) => return true,
-            Next::End => return true,
-            Next::Broken => return false,
-        }
+    let room = out.len();
+    let Some(n) = write(&letters::signs(), src, out) else {
+        return Decoded::Refused;
+    };
+    if n <= room {
+        Decoded::Octets(n)
+    } else {
+        Decoded::Refused
     }
 }
 
@@ -180,6 +122,5 @@ fn is_whole(table: &[u8; 256], src: &[u8]) -> bool
 pub fn is_base64(src: &[u8]) -> bool
     ensures { result ≡ is_some (octets_of (without_blanks src.now)) }
 {
-    let table = letters::signs();
-    is_whole(&table, src)
+    write(&letters::signs(), src, &mut []).is_some()
 }

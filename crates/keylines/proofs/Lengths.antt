@@ -7,6 +7,7 @@ use Prim.Native.Nat.{ℕ, zero, suc, ◌+◌, ◌-◌, ◌*◌, ◌/◌}
 use mathlib.Core.Path.{◌≡◌, refl, sym}
 use mathlib.Core.List.{List, [], ◌∷◌}
 use native.Mathlib.Omega.{arith}
+use Rattle.std.specs.Int.{div_ceil}
 use lib.ListN.{length}
 use Rattle.letters.specs.Base64.{encode}
 use Rattle.letters.proofs.Lengths.{length_encode}
@@ -26,3 +27,7 @@ length_lines (x ∷ t) = omega (arith, length_laid 75 t)
 
 pub lines_counted : (s : List ℕ) → (length s + 2) / 3 * 4 + ((length s + 2) / 3 * 4 + 75) / 76 * 3 ≡ length (lines (encode s))
 lines_counted s = sym (rw (length_lines, length_encode))
+
+-- as `div_ceil` counts them
+pub lines_ceiled : (s : List ℕ) (n m : ℕ) → n ≡ div_ceil (length s) 3 → m ≡ div_ceil (n * 4) 76 → n * 4 + m * 3 ≡ length (lines (encode s))
+lines_ceiled s n m e f = omega (arith, lines_counted s)

@@ -1,8 +1,0 @@
--- `keylines::four_of_one` meets its contract: the laws of `Laying` answer every need. Assumes nothing.
-use Rattle.keylines.proofs.Laying.{fouring}
-use Rattle.keylines.proofs.four_of_one as fn
-
-pub four_of_one_spec : {M : Type 1} → fn.Statement.statement M
-four_of_one_spec =
-    fn.Tie.close (fn.Tie.spec (λ c κs. search fouring) (λ c. search fouring) (λ c κs. search fouring)
-    (λ c. search fouring))
