@@ -1,7 +1,7 @@
 -- Values unfolded: laws of `unfolded`.
 --     unfolded_short            it gets no longer
 --     unfolded_out, unfolded_in     one step
---     value_within, value_there, value_there_from    what a caller reads off the buffer
+--     value_within .. value_there_from    what a caller reads off the buffer
 --     NoLf, unfolded_plain      a text without LF is itself
 --     unfolded_lf, unfolded_crlf    a text that opens with a line ending
 --     unfolded_append, unfolded_before    two texts, one after the other: no CRLF may begin in the one and end in the other
@@ -109,6 +109,9 @@ module _ (w d out : List ℕ) (n : ℕ) (c : n ≡ length w) (o : out ≡ onto w
   pub value_there : take n out ≡ w
   unfolding onto
   value_there = rw (o, c) (take-append_seam w (drop (length w) d))
+
+  pub value_long : n ≡ length (take n out)
+  value_long = c ∙ sym (ap length value_there)
 
   pub value_there_from : take (n - 0) (drop 0 out) ≡ w
   value_there_from = rw sub-zero value_there

@@ -19,35 +19,33 @@ use Rattle.header.specs.Answers.{fields_from}
 use Rattle.header.proofs.Unfolding.{value_within, value_there}
 use Rattle.keyfield.specs.Field.{chosen}
 use Rattle.keyfield.proofs.Chosen.{chosen_skip, chosen_next}
-use Rattle.fields.specs.Answers.{value_at, values_from, NamedAs}
+use Rattle.fields.specs.Answers.{value_at, values_from, NamedAt}
 use Rattle.fields.specs.declared.Kind.{Kind}
-use Rattle.fields.specs.declared.Named.{Named}
-use Rattle.fields.specs.declared.Named.TheVariants.{Field, Nothing}
-use Rattle.fields.proofs.Finding.{named_first, named_later, named_upto, named_readable, named_none, finding}
+use Rattle.fields.specs.declared.Field.{Field}
 use Rattle.keys.specs.Answers.{Takes, TakenAt, TakenAs}
 use Rattle.keys.specs.declared.Taken.{Taken}
 use Rattle.keys.specs.declared.Taken.TheVariants.{Value, NoValue}
 
 -- the value of the next field, unfolded to the text
-module _ (kind : Kind) (s : List ℕ) (at : ℕ) (k : Named) (p : NamedAs kind s at k) where
-  pub take_none : k ≡ Nothing → (text : List ℕ) → TakenAs kind s at text NoValue
+module _ (kind : Kind) (s : List ℕ) (at : ℕ) where
+  pub take_none : values_from kind s at ≡ [] → (text : List ℕ) → TakenAs kind s at text NoValue
   unfolding TakenAs
-  take_none q text = named_none kind s at k p q
+  take_none p text = p
 
   pub take_value :
-      (v e : ℕ) → k ≡ Field v e → (text d : List ℕ) (n : ℕ) → n ≡ length (value_at s v e) → text ≡ onto (value_at s v e) d
-      → TakenAs kind s at text (Value n e)
+      (f : Field) → NamedAt kind s at f → (text d : List ℕ) (n : ℕ) → n ≡ length (value_at s f) → text ≡ onto (value_at s f) d
+      → TakenAs kind s at text (Value n f.end)
   unfolding TakenAs
-  take_value v e q text d n c t =
+  take_value f p text d n c t =
       record {
-        first = named_first kind s at k p v e q ∙ ap (λ (x : List ℕ). x ∷ values_from kind s e) (sym (value_there (value_at s v e) d text n c t));
-        within = value_within (value_at s v e) d text n c t;
-        later = named_later kind s at k p v e q;
-        upto = named_upto kind s at k p v e q;
-        readable = named_readable kind s at k p v e q;
+        first = p.first ∙ ap (λ (x : List ℕ). x ∷ values_from kind s f.end) (sym (value_there (value_at s f) d text n c t));
+        within = value_within (value_at s f) d text n c t;
+        later = p.later;
+        upto = p.lies.upto;
+        readable = p.readable;
       }
 
-pub ruleset taking = (take_none, take_value, finding, rules)
+pub ruleset taking = (take_none, take_value, rules)
 
 pub record Past {A : Type 0} (f : List ℕ → Option A) (kind : Kind) (s : List ℕ) (at place : ℕ) : Type 0 where
   pub same : chosen f (values_from kind s at) ≡ chosen f (values_from kind s place)

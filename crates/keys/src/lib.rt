@@ -11,7 +11,7 @@ ghost use Rattle.keyowner.specs.Answers.{OwnAs};
 ghost use Rattle.keys.specs.Keys.{counted_in};
 ghost use Rattle.keys.specs.Answers.{Takes, TakenAs, Seeks, ValidAs, Weighs, Hears, HeardAs};
 
-use fields::{Kind, Named, Survey};
+use fields::{Kind, Survey};
 use keyowner::{Accepted, Own};
 use slots::Slot;
 
@@ -45,16 +45,17 @@ pub enum Heard {
 }
 
 // The value of the first field of the kind from the place `at` on, unfolded to the front of the text.
+#[tactic(auto, using(crate::proofs::Walking::taking))]
 fn take_value(block: &[u8], at: usize, last: usize, kind: Kind, text: &mut [u8]) -> Taken
     requires { Takes kind block.now at last text.old }
     ensures { TakenAs kind block.now at text.new result }
 {
     match fields::find(block, at, last, kind) {
-        Named::Field { value, end } => Taken::Value {
-            length: header::unfold(&block[value..end], text),
-            end,
+        Some(field) => Taken::Value {
+            length: field.unfold(block, text),
+            end: field.end,
         },
-        Named::Nothing => Taken::NoValue,
+        None => Taken::NoValue,
     }
 }
 

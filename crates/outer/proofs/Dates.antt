@@ -3,40 +3,36 @@
 --     date_effective           what a caller has of it: the effective date
 --     date_in_range            which is in range
 -- Assumes nothing.
-use Prim.Native.Nat.{ℕ, ◌-◌, ◌≤◌}
+use Prim.Native.Nat.{ℕ, ◌≤◌}
 use mathlib.Core.Path.{◌≡◌, ap, ◌∙◌}
 use mathlib.Core.List.{List}
-use Rattle.std.specs.Prelude.{Option}
+use Rattle.std.specs.Prelude.{Option, Some, None}
 use native.Mathlib.Omega.{arith}
 use borrow.Author.Rules.{rules}
-use lib.ListN.{length, take, drop}
+use lib.ListN.{length, take}
 use Rattle.octets.specs.Written.{onto}
 use Rattle.header.specs.Header.{FieldText}
-use Rattle.header.proofs.Unfolding.{value_within, value_there_from}
+use Rattle.header.proofs.Unfolding.{value_within, value_there, value_long}
 use Rattle.date.specs.Date.{date_of, effective_date}
 use Rattle.date.specs.Answers.{dated_of, option_of}
 use Rattle.date.specs.declared.Dated.{Dated}
 use Rattle.date.specs.declared.Dated.TheVariants.{Unavailable}
 use Rattle.date.proofs.Effective.{option_dated, effective_upto}
 use Rattle.heads.specs.Head.{time_limit}
-use Rattle.fields.specs.Answers.{value_at, value_in}
-use Rattle.fields.specs.declared.Only.{Only}
-use Rattle.fields.specs.declared.Only.TheVariants.{One, Other}
-use Rattle.fields.proofs.Single.{value_is, value_none, valued}
 use Rattle.outer.specs.Outer.{date_by, said_date, date_in}
 
-module _ (s : List ℕ) (k : Only) (o : Option (List ℕ)) (p : value_in s k ≡ o) where
-  pub dated_none : k ≡ Other → Unavailable ≡ dated_of (date_by o)
+module _ (o : Option (List ℕ)) where
+  pub dated_none : None ≡ o → Unavailable ≡ dated_of (date_by o)
   unfolding dated_of date_by
-  dated_none q = rw (value_none s k o p q)
+  dated_none p = rw (← p)
 
   -- its value was unfolded to the text
-  pub dated_by : (v e : ℕ) → k ≡ One v e → (text d : List ℕ) (n : ℕ) → n ≡ length (value_at s v e) → text ≡ onto (value_at s v e) d
-      → (r : Dated) → r ≡ dated_of (date_of (take (n - 0) (drop 0 text))) → r ≡ dated_of (date_by o)
+  pub dated_by : (v : List ℕ) → Some v ≡ o → (text d : List ℕ) (n : ℕ) → n ≡ length v → text ≡ onto v d
+      → (r : Dated) → r ≡ dated_of (date_of (take n text)) → r ≡ dated_of (date_by o)
   unfolding date_by
-  dated_by v e q text d n c t r h = h ∙ rw (value_there_from (value_at s v e) d text n c t, value_is s k v e q o p)
+  dated_by v p text d n c t r h = h ∙ rw (value_there v d text n c t, ← p)
 
-pub ruleset dating = (dated_none, dated_by, value_within, valued, rules)
+pub ruleset dating = (dated_none, dated_by, value_within, value_long, rules)
 
 pub date_effective :
     (fs : List FieldText) (receipt : ℕ) (r : Dated) → r ≡ dated_of (said_date fs) → effective_date (option_of r) receipt ≡ date_in fs receipt

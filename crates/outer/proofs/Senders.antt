@@ -3,14 +3,14 @@
 --     sent-.., left-..                 the answer, and what is left in the lent memory, by the answers of the code's three calls
 --     answer_some .. left_within       what a caller reads off the answer and the lent memory
 -- Assumes nothing.
-use Prim.Native.Nat.{ℕ, ◌-◌, ◌≤◌}
+use Prim.Native.Nat.{ℕ, ◌≤◌}
 use mathlib.Core.Path.{◌≡◌, refl, sym, ap, ◌∙◌}
 use mathlib.Core.Bool.{true}
 use mathlib.Core.List.{List, []}
 use Rattle.std.specs.Prelude.{Option, Some, None}
 use native.Mathlib.Omega.{arith}
 use borrow.Author.Rules.{rules}
-use lib.ListN.{length, take, drop}
+use lib.ListN.{length, take}
 use Rattle.octets.specs.Octets.{AllOctets}
 use Rattle.octets.specs.Written.{onto}
 use Rattle.octets.specs.Options.{only_one, or_else}
@@ -21,7 +21,7 @@ use Rattle.address.specs.declared.Fitted.TheVariants.{Length, NoRoom}
 use Rattle.address.proofs.Room.{written_length, written_no_room, onto_fits}
 use Rattle.address.proofs.Spelling.{plain_is_canonical, canonical_most, canonical_octets}
 use Rattle.header.specs.Header.{FieldText}
-use Rattle.header.proofs.Unfolding.{value_within, value_there, value_there_from}
+use Rattle.header.proofs.Unfolding.{value_within, value_there, value_long}
 use Rattle.addresslist.specs.List.{addresses}
 use Rattle.addresslist.specs.Answers.{between, only_in, Within}
 use Rattle.addresslist.specs.declared.OnlyAddress.{OnlyAddress as ListOnly}
@@ -29,12 +29,8 @@ use Rattle.addresslist.specs.declared.OnlyAddress.TheVariants.{One as OneAddress
 use Rattle.addresslist.proofs.Readable.{only_plain, only_octets}
 use Rattle.slots.specs.Slot.{address_room}
 use Rattle.fields.specs.Fields.{fields_in, values_of}
-use Rattle.fields.specs.Answers.{value_at, value_in}
 use Rattle.fields.specs.declared.Kind.TheVariants.{From}
-use Rattle.fields.specs.declared.Only.{Only}
-use Rattle.fields.specs.declared.Only.TheVariants.{One, Other}
 use Rattle.fields.proofs.Values.{fields_octets, only_octets as value_octets}
-use Rattle.fields.proofs.Single.{value_is, value_none, valued}
 use Rattle.outer.specs.Outer.{canonical_of, sender_by, sender_in}
 use Rattle.outer.specs.Answers.{sender_of, left_by_sender}
 use Rattle.outer.specs.declared.Sender.{Sender}
@@ -74,35 +70,35 @@ sender_octets s a o e =
     let h : AllOctets v = value_octets From (fields_in s) v (fields_octets s o) (value (fields_in s) a e).1.0 in
     rw (given (fields_in s) a e).1.1 (canonical_octets b (only_octets v b (sym (given (fields_in s) a e).1.0) h))
 
-module _ (s : List ℕ) (k : Only) (fs : List FieldText) (p : value_in s k ≡ only_one (values_of From fs)) where
-  other : k ≡ Other → sender_in fs ≡ None
+module _ (fs : List FieldText) where
+  other : None ≡ only_one (values_of From fs) → sender_in fs ≡ None
   unfolding sender_in sender_by
-  other q = ap sender_by (value_none s k (only_one (values_of From fs)) p q)
+  other p = sym (ap sender_by p)
 
-  pub sent_no_field : k ≡ Other → NotOne ≡ sender_of (sender_in fs)
+  pub sent_no_field : None ≡ only_one (values_of From fs) → NotOne ≡ sender_of (sender_in fs)
   unfolding sender_of
-  sent_no_field q = rw (other q)
+  sent_no_field p = rw (other p)
 
-  pub left_no_field : (out : List ℕ) → k ≡ Other → out ≡ left_by_sender (sender_in fs) out
+  pub left_no_field : (out : List ℕ) → None ≡ only_one (values_of From fs) → out ≡ left_by_sender (sender_in fs) out
   unfolding left_by_sender
-  left_no_field out q = rw (other q)
+  left_no_field out p = rw (other p)
 
   -- the value of the one From field was unfolded to the text, and the list in it was read
-  module _ (v e : ℕ) (q : k ≡ One v e) (text d : List ℕ) (n : ℕ) (c : n ≡ length (value_at s v e)) (t : text ≡ onto (value_at s v e) d)
-      (j : ListOnly) (y : only_in (take (n - 0) (drop 0 text)) j ≡ only_one (or_else [] (addresses (take (n - 0) (drop 0 text))))) where
-    there : take (n - 0) (drop 0 text) ≡ value_at s v e
-    there = value_there_from (value_at s v e) d text n c t
+  module _ (v : List ℕ) (p : Some v ≡ only_one (values_of From fs)) (text d : List ℕ) (n : ℕ) (c : n ≡ length v) (t : text ≡ onto v d)
+      (j : ListOnly) (y : only_in (take n text) j ≡ only_one (or_else [] (addresses (take n text)))) where
+    there : take n text ≡ v
+    there = value_there v d text n c t
 
-    one : only_in (value_at s v e) j ≡ only_one (or_else [] (addresses (value_at s v e)))
+    one : only_in v j ≡ only_one (or_else [] (addresses v))
     one = rw there at y
 
-    told : sender_in fs ≡ canonical_of (only_in (value_at s v e) j)
+    told : sender_in fs ≡ canonical_of (only_in v j)
     unfolding sender_in sender_by
-    told = ap sender_by (value_is s k v e q (only_one (values_of From fs)) p) ∙ ap canonical_of (sym one)
+    told = ap sender_by (sym p) ∙ ap canonical_of (sym one)
 
     no_one : j ≡ NoOne → sender_in fs ≡ None
     unfolding only_in canonical_of
-    no_one z = told ∙ ap (λ (i : ListOnly). canonical_of (only_in (value_at s v e) i)) z
+    no_one z = told ∙ ap (λ (i : ListOnly). canonical_of (only_in v i)) z
 
     pub sent_no_one : j ≡ NoOne → NotOne ≡ sender_of (sender_in fs)
     unfolding sender_of
@@ -112,25 +108,25 @@ module _ (s : List ℕ) (k : Only) (fs : List FieldText) (p : value_in s k ≡ o
     unfolding left_by_sender
     left_no_one out z = rw (no_one z)
 
-    module _ (from to : ℕ) (z : j ≡ OneAddress from to) (w : Within (take (n - 0) (drop 0 text)) j) where
-      lies : Within (value_at s v e) (OneAddress from to)
+    module _ (from to : ℕ) (z : j ≡ OneAddress from to) (w : Within (take n text) j) where
+      lies : Within v (OneAddress from to)
       lies = rw (there, z) at w
 
       pub sent_from : from ≤ to
       sent_from = omega (arith, lies.0)
 
       pub sent_upto : to ≤ length text
-      sent_upto = part_within (value_at s v e) d text t from to sent_from lies.1
+      sent_upto = part_within v d text t from to sent_from lies.1
 
-      part : between text from to ≡ between (value_at s v e) from to
-      part = part_there (value_at s v e) d text t from to sent_from lies.1
+      part : between text from to ≡ between v from to
+      part = part_there v d text t from to sent_from lies.1
 
-      only : Some (between text from to) ≡ only_one (or_else [] (addresses (value_at s v e)))
+      only : Some (between text from to) ≡ only_one (or_else [] (addresses v))
       unfolding only_in
-      only = ap Some part ∙ sym (ap (only_in (value_at s v e)) z) ∙ one
+      only = ap Some part ∙ sym (ap (only_in v) z) ∙ one
 
       pub sent_plain : plain (between text from to) ≡ true
-      sent_plain = only_plain (value_at s v e) (between text from to) only
+      sent_plain = only_plain v (between text from to) only
 
       is : sender_in fs ≡ Some (canonical (between text from to))
       unfolding canonical_of
@@ -156,7 +152,7 @@ module _ (s : List ℕ) (k : Only) (fs : List FieldText) (p : value_in s k ≡ o
               absurd (omega (arith, written_no_room (canonical (between text from to)) (length out) (sym r ∙ u), fits (length out) h))
 
 pub ruleset sending =
-    (sent_no_field, left_no_field, sent_no_one, left_no_one, sent_from, sent_upto, sent_plain, left_one, sent_one, sent_no_room, value_within, valued, rules)
+    (sent_no_field, left_no_field, sent_no_one, left_no_one, sent_from, sent_upto, sent_plain, left_one, sent_one, sent_no_room, value_within, value_long, rules)
 
 -- as a caller asks it of the answer r and of what the lent memory holds
 pub answer_some : (o : Option (List ℕ)) (n : ℕ) → Address n ≡ sender_of o → (a : List ℕ) × ((o ≡ Some a) × (n ≡ length a))

@@ -13,7 +13,7 @@ ghost use Rattle.outer.specs.Outer.{sender_in, is_reported, said_date};
 ghost use Rattle.outer.specs.Answers.{sender_of, left_by_sender};
 
 use date::Dated;
-use fields::{Kind, Named, Only, Survey};
+use fields::{Kind, Survey};
 
 // The length of the sender's canonical address; or there is not exactly one sender (R5).
 #[derive(Clone, Copy)]
@@ -23,61 +23,54 @@ pub enum Sender {
 }
 
 // Writes the sender's canonical address to the front of `out` (U3).
+#[tactic(auto, using(crate::proofs::Senders::sending))]
 pub fn sender_of(block: &[u8], survey: Survey, text: &mut [u8], out: &mut [u8]) -> Sender
     requires { SurveyAs block.now survey × (length block.now ≤ length text.old) × (address_room ≤ length out.old) }
     ensures value { result ≡ sender_of (sender_in (fields_in block.now)) }
     ensures out_after { out.new ≡ left_by_sender (sender_in (fields_in block.now)) out.old }
 {
-    match fields::only_field(block, survey.from, Kind::From) {
-        Only::One { value, end } => {
-            let n = header::unfold(&block[value..end], text);
-            match addresslist::only_address(&text[0..n]) {
-                addresslist::OnlyAddress::One { from, to } => match address::canonical(
-                    &text[from..to],
-                    out,
-                ) {
-                    address::Fitted::Length(length) => Sender::Address(length),
-                    address::Fitted::NoRoom => Sender::NotOne,
-                },
-                addresslist::OnlyAddress::Other => Sender::NotOne,
+    let Some(field) = fields::only_field(block, survey.from, Kind::From) else {
+        return Sender::NotOne;
+    };
+    let n = field.unfold(block, text);
+    match addresslist::only_address(&text[..n]) {
+        addresslist::OnlyAddress::One { from, to } => {
+            match address::canonical(&text[from..to], out) {
+                address::Fitted::Length(length) => Sender::Address(length),
+                address::Fitted::NoRoom => Sender::NotOne,
             }
         }
-        Only::Other => Sender::NotOne,
+        addresslist::OnlyAddress::Other => Sender::NotOne,
     }
 }
 
 // Is some Content-Type a report? All of them are asked (R6).
+#[tactic(auto, using(crate::proofs::Reports::looking))]
 pub fn is_report(block: &[u8], survey: Survey, text: &mut [u8]) -> bool
     requires { SurveyAs block.now survey × (length block.now ≤ length text.old) }
     ensures { result ≡ is_reported (fields_in block.now) }
 {
     let span = survey.content;
-    let last = span.last;
     let mut at = span.first;
-    loop {
-        match fields::find(block, at, last, Kind::ContentType) {
-            Named::Field { value, end } => {
-                let n = header::unfold(&block[value..end], text);
-                if header::is_report(&text[0..n]) {
-                    return true;
-                }
-                at = end;
-            }
-            Named::Nothing => return false,
+    while let Some(field) = fields::find(block, at, span.last, Kind::ContentType) {
+        let n = field.unfold(block, text);
+        if header::is_report(&text[..n]) {
+            return true;
         }
+        at = field.end;
     }
+    false
 }
 
 // The Date of the message, which its one Date field has to give (D1).
+#[tactic(auto, using(crate::proofs::Dates::dating))]
 pub fn date(block: &[u8], survey: Survey, text: &mut [u8]) -> Dated
     requires { SurveyAs block.now survey × (length block.now ≤ length text.old) }
     ensures { result ≡ dated_of (said_date (fields_in block.now)) }
 {
-    match fields::only_field(block, survey.date, Kind::Date) {
-        Only::One { value, end } => {
-            let n = header::unfold(&block[value..end], text);
-            date::date(&text[0..n])
-        }
-        Only::Other => Dated::Unavailable,
-    }
+    let Some(field) = fields::only_field(block, survey.date, Kind::Date) else {
+        return Dated::Unavailable;
+    };
+    let n = field.unfold(block, text);
+    date::date(&text[..n])
 }

@@ -2,7 +2,7 @@
 --     values_room, block_room      the addresses in some values of a block take no more octets in a roll than the block
 --     addresses_plain              they are plain
 --     Gathering                    those of the fields before the place `at` are in the roll
---     gather_begin .. gather_on    the loop's steps
+--     gather_roomy .. gather_on    the loop's steps
 --     enough_room                  memory that is long enough for every block
 --     gathered .. gathered_places  what a caller reads off the memory
 -- Assumes nothing.
@@ -12,7 +12,6 @@ use mathlib.Core.Bool.{true}
 use mathlib.Core.List.{List, [], ◌∷◌, ◌++◌, append_assoc, append-nil}
 use Rattle.std.specs.Prelude.{Option, Some, None}
 use native.Mathlib.Omega.{arith}
-use borrow.Author.Rules.{rules}
 use lib.ListN.{length, take, drop}
 use Rattle.octets.specs.Written.{onto}
 use Rattle.octets.specs.Options.{is_some, or_else}
@@ -25,7 +24,7 @@ use Rattle.header.specs.Header.{FieldText, fields_of}
 use Rattle.header.specs.Answers.{fields_from}
 use Rattle.header.proofs.Fields.{clear_fits}
 use Rattle.header.proofs.Values.{values_total, total_block}
-use Rattle.header.proofs.Unfolding.{value_within, value_there_from}
+use Rattle.header.proofs.Unfolding.{value_there}
 use Rattle.roll.specs.Roll.{rolled, unrolled, listed_in}
 use Rattle.roll.specs.Index.{Indexed}
 use Rattle.roll.specs.Growing.{in_roll, Kept, Roomy, Adds, Grew}
@@ -34,14 +33,12 @@ use Rattle.roll.proofs.Rolls.{rolled_none, listed_plain}
 use Rattle.roll.proofs.Room.{lists_room, rolled_least, roomy_front}
 use Rattle.roll.proofs.Growing.{begin_none, kept_begin, kept_within, kept_tags, kept_places, kept_list, kept_index}
 use Rattle.fields.specs.Fields.{fields_in, is_kind, values_of}
-use Rattle.fields.specs.Answers.{value_at, values_from, NamedAs}
+use Rattle.fields.specs.Answers.{value_at, values_from, NamedAt}
 use Rattle.fields.specs.Spans.{SurveyAs}
 use Rattle.fields.specs.declared.Kind.{Kind}
 use Rattle.fields.specs.declared.Survey.{Survey}
 use Rattle.fields.specs.declared.Kind.TheVariants.{Recipients}
-use Rattle.fields.specs.declared.Named.{Named}
-use Rattle.fields.specs.declared.Named.TheVariants.{Field, Nothing}
-use Rattle.fields.proofs.Finding.{named_first, named_readable, named_none, finding}
+use Rattle.fields.specs.declared.Field.{Field}
 use Rattle.fields.proofs.Walking.{survey_readable}
 use Rattle.outer.specs.Outer.{addresses_in, recipients_in}
 use Rattle.recipients.specs.Answers.{Gathers, GatheredAs}
@@ -111,77 +108,55 @@ module _ (s : List ℕ) (v : Survey) (text roll tags places : List ℕ) (c : Gat
         places_same = refl;
       }
 
-  pub gather_last : values_from Recipients s v.recipients.last ≡ []
-  gather_last = c.surveyed.recipients.no_more
-
-  pub gather_text : length s ≤ length text
-  gather_text = c.texts
-
 module _ (s roll tags places rolls numbers spots : List ℕ) (so : Rolled) (at : ℕ)
     (h : Gathering s roll tags places rolls numbers spots so at) where
-  pub gather_clear : is_some (fields_from s at) ≡ true
-  gather_clear = h.clear
+  pub gather_end : values_from Recipients s at ≡ [] → GatheredAs s rolls numbers spots so
+  unfolding addresses_in
+  gather_end p =
+      record {
+        kept = h.kept;
+        list = sym (append-nil (in_roll so rolls)) ∙ rw p at h.so_far;
+      }
 
-  pub gather_roll : length rolls ≡ length roll
-  gather_roll = h.roll_same
+  -- the value of a field was unfolded to the text
+  module _ (f : Field) (p : NamedAt Recipients s at f) (text t₀ : List ℕ) (n : ℕ) (c : n ≡ length (value_at s f)) (t : text ≡ onto (value_at s f) t₀) where
+    abbrev added : List (List ℕ)
+    added = listed_in (take n text)
 
-  pub gather_tags : length numbers ≡ length tags
-  gather_tags = h.tags_same
+    more : (in_roll so rolls ++ added) ++ addresses_in (values_from Recipients s f.end) ≡ recipients_in (fields_in s)
+    more =
+        append_assoc (in_roll so rolls) added (addresses_in (values_from Recipients s f.end))
+        ∙ rw (
+          value_there (value_at s f) t₀ text n c t,
+          ← addresses_one (value_at s f) (values_from Recipients s f.end),
+          ← p.first,
+        ) h.so_far
 
-  pub gather_places : length spots ≡ length places
-  gather_places = h.places_same
-
-  module _ (k : Named) (p : NamedAs Recipients s at k) where
-    pub gather_end : k ≡ Nothing → GatheredAs s rolls numbers spots so
-    unfolding addresses_in
-    gather_end q =
+    pub gather_adds : Adds rolls numbers spots so (listed_in (take n text))
+    gather_adds =
         record {
           kept = h.kept;
-          list = sym (append-nil (in_roll so rolls)) ∙ rw (named_none Recipients s at k p q) at h.so_far;
+          plainly = listed_plain (take n text);
+          roomy =
+              roomy_front (in_roll so rolls ++ added) (addresses_in (values_from Recipients s f.end)) roll tags places rolls numbers spots (rw more h.roomy) h.roll_same
+              h.tags_same
+              h.places_same;
         }
 
-    -- the value of a field was unfolded to the text
-    module _ (v e : ℕ) (q : k ≡ Field v e) (text t₀ : List ℕ) (n : ℕ) (c : n ≡ length (value_at s v e)) (t : text ≡ onto (value_at s v e) t₀) where
-      abbrev added : List (List ℕ)
-      added = listed_in (take (n - 0) (drop 0 text))
-
-      more : (in_roll so rolls ++ added) ++ addresses_in (values_from Recipients s e) ≡ recipients_in (fields_in s)
-      more =
-          append_assoc (in_roll so rolls) added (addresses_in (values_from Recipients s e))
-          ∙ rw (
-            value_there_from (value_at s v e) t₀ text n c t,
-            ← addresses_one (value_at s v e) (values_from Recipients s e),
-            ← named_first Recipients s at k p v e q,
-          ) h.so_far
-
-      pub gather_adds : Adds rolls numbers spots so (listed_in (take (n - 0) (drop 0 text)))
-      gather_adds =
-          record {
-            kept = h.kept;
-            plainly = listed_plain (take (n - 0) (drop 0 text));
-            roomy =
-                roomy_front (in_roll so rolls ++ added) (addresses_in (values_from Recipients s e)) roll tags places rolls numbers spots (rw more h.roomy) h.roll_same
-                h.tags_same
-                h.places_same;
-          }
-
-      pub gather_on :
-          (out numbers₂ spots₂ : List ℕ) (r : Rolled) → Grew rolls so (listed_in (take (n - 0) (drop 0 text))) out r → Kept out numbers₂ spots₂ r
-          → length out ≡ length rolls → length numbers₂ ≡ length numbers → length spots₂ ≡ length spots
-          → Gathering s roll tags places out numbers₂ spots₂ r e
-      gather_on out numbers₂ spots₂ r g w l i j =
-          record {
-            kept = w;
-            so_far = rw g.grown more;
-            clear = named_readable Recipients s at k p v e q;
-            roomy = h.roomy;
-            roll_same = l ∙ h.roll_same;
-            tags_same = i ∙ h.tags_same;
-            places_same = j ∙ h.places_same;
-          }
-
-pub ruleset rolling =
-    (gather_begin, gather_last, gather_text, gather_clear, gather_roll, gather_tags, gather_places, gather_end, gather_adds, gather_on, value_within, finding, rules)
+    pub gather_on :
+        (out numbers₂ spots₂ : List ℕ) (r : Rolled) → Grew rolls so (listed_in (take n text)) out r → Kept out numbers₂ spots₂ r
+        → length out ≡ length rolls → length numbers₂ ≡ length numbers → length spots₂ ≡ length spots
+        → Gathering s roll tags places out numbers₂ spots₂ r f.end
+    gather_on out numbers₂ spots₂ r g w l i j =
+        record {
+          kept = w;
+          so_far = rw g.grown more;
+          clear = p.readable;
+          roomy = h.roomy;
+          roll_same = l ∙ h.roll_same;
+          tags_same = i ∙ h.tags_same;
+          places_same = j ∙ h.places_same;
+        }
 
 -- what a caller lends: memory for the longest block (B1)
 pub enough_room : (s : List ℕ) (survey : Survey) (text roll tags places : List ℕ) → SurveyAs s survey → length s ≤ length text

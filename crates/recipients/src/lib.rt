@@ -6,11 +6,12 @@
 
 ghost use Rattle.recipients.specs.Answers.{Gathers, GatheredAs};
 
-use fields::{Kind, Named, Survey};
+use fields::{Kind, Survey};
 use roll::Rolled;
 
 // Makes the roll of all recipients at the front of `roll`, and its index at that of `tags` and `places`. Each field is
 // read by itself, and an unreadable one adds nothing (G4).
+#[tactic(auto, using(header::proofs::Unfolding::value_within, header::proofs::Unfolding::value_long))]
 pub fn gather(
     block: &[u8],
     survey: Survey,
@@ -23,17 +24,12 @@ pub fn gather(
     ensures { GatheredAs block.now roll.new tags.new places.new result }
 {
     let span = survey.recipients;
-    let last = span.last;
     let mut so_far = Rolled { end: 0, many: 0 };
     let mut at = span.first;
-    loop {
-        match fields::find(block, at, last, Kind::Recipients) {
-            Named::Field { value, end } => {
-                let n = header::unfold(&block[value..end], text);
-                so_far = roll::add_list(roll, tags, places, so_far, &text[0..n]);
-                at = end;
-            }
-            Named::Nothing => return so_far,
-        }
+    while let Some(field) = fields::find(block, at, span.last, Kind::Recipients) {
+        let n = field.unfold(block, text);
+        so_far = roll::add_list(roll, tags, places, so_far, &text[..n]);
+        at = field.end;
     }
+    so_far
 }

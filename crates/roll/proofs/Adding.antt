@@ -2,10 +2,10 @@
 --     tag_formed                 the tag of an address, by its canonical form
 --     add_put .. add_kept        one address: its octets, what ends it, its tag and its place
 --     Adding                     the addresses of a readable list s up to the cursor are added
---     adding_begin .. adding_never    the loop's steps
+--     adding_begin .. adding_over     the loop's steps
 --     list_readable .. list_grew     a list that is readable, and one that is not
 -- Assumes nothing.
-use Prim.Native.Nat.{ℕ, ◌+◌, ◌-◌, ◌^◌, ◌<◌, ◌≤◌}
+use Prim.Native.Nat.{ℕ, ◌+◌, ◌^◌, ◌<◌, ◌≤◌}
 use mathlib.Core.Path.{◌≡◌, refl, sym, ap, ◌∙◌}
 use mathlib.Core.Bool.{true, false≢true}
 use mathlib.Core.List.{List, [], ◌∷◌, ◌++◌, append-nil, append_assoc}
@@ -199,18 +199,6 @@ adding_begin s roll tags places at here g h e =
 
 module _ (s roll tags places : List ℕ) (at : Rolled) (rolls numbers spots : List ℕ) (so : Rolled) (here : ListCursor)
     (h : Adding s roll tags places at rolls numbers spots so here) where
-  pub adding_roll : length rolls ≡ length roll
-  adding_roll = h.roll_same
-
-  pub adding_tags : length numbers ≡ length tags
-  adding_tags = h.tags_same
-
-  pub adding_places : length spots ≡ length places
-  adding_places = h.places_same
-
-  pub adding_kept : Kept rolls numbers spots so
-  adding_kept = h.kept
-
   module _ (k : NextAddress) (p : Hands s here k) where
     module _ (from to : ℕ) (next : ListCursor) (q : k ≡ Address from to next) where
       abbrev a : List ℕ
@@ -251,18 +239,18 @@ module _ (s roll tags places : List ℕ) (at : Rolled) (rolls numbers spots : Li
             places_same = u ∙ h.places_same;
           }
 
-    pub adding_end : k ≡ End → Grew roll at (listed_in s) rolls so
-    unfolding or_else
-    adding_end q =
-        record { grown = sym (append-nil (in_roll so rolls)) ∙ rw (hand_end s here k p q) at h.so_far }
-
-    -- a readable list stays readable
-    pub adding_never : k ≡ Unreadable → Grew roll at (listed_in s) rolls so
-    unfolding is_some
-    adding_never q = absurd (false≢true (rw (hand_unread s here k p q) at h.readable))
+  -- a readable list stays readable
+  pub adding_over :
+      (k : NextAddress) → Hands s here k → ((from to : ℕ) (next : ListCursor) → k ≡ Address from to next → ⊥)
+      → Grew roll at (listed_in s) rolls so
+  unfolding or_else is_some
+  adding_over (Address from to next) p n = absurd (n from to next refl)
+  adding_over End p n =
+      record { grown = sym (append-nil (in_roll so rolls)) ∙ rw (hand_end s here End p refl) at h.so_far }
+  adding_over Unreadable p n = absurd (false≢true (rw (hand_unread s here Unreadable p refl) at h.readable))
 
 pub ruleset adding =
-    (adding_begin, adding_roll, adding_tags, adding_places, adding_kept, adding_adds, adding_on, adding_end, adding_never, hand_from, hand_upto, hand_less, rules)
+    (adding_begin, adding_adds, adding_on, adding_over, hand_from, hand_upto, hand_less, rules)
 
 -- a whole list, by its count
 module _ (s : List ℕ) (k : Counted) (t : k ≡ counted_of (addresses s)) where

@@ -2,7 +2,7 @@
 --     pass_stop, pass_on          pieces of tags that are skipped
 --     at_from .. at_same          the address at a place
 --     Looking roll tags places a tag i     whether a is in the roll comes to whether it is among the addresses from the i-th on
---     look_begin .. look_less     the loop's steps
+--     look_begin .. look_on       the loop's steps
 -- Assumes nothing.
 use Prim.Native.Nat.{ℕ, zero, suc, ◌+◌, ◌-◌, ◌<◌, ◌≤◌}
 use mathlib.Core.Path.{◌≡◌, refl, sym, ap, ◌∙◌}
@@ -64,18 +64,18 @@ pass_room tags i width l = simp (length-take, length-drop) (omega arith)
 pub ruleset passing = (skip_begin, pass_room, pass_stop, pass_on, skip_end, rules)
 
 -- the address that begins at a place ends at `to`
-module _ (roll : List ℕ) (place to : ℕ) (e : to ≡ place + length_before 0 (drop place roll)) where
-  pub at_from : place ≤ to
+module _ (roll : List ℕ) (place from to : ℕ) (f : from ≡ place) (e : to ≡ from + length_before 0 (drop from roll)) where
+  pub at_from : from ≤ to
   at_from = omega arith
 
   pub at_upto : place ≤ length roll → to ≤ length roll
-  at_upto l = omega (arith, before_short (by 0 (drop place roll)), length-drop place roll)
+  at_upto l = omega (arith, before_short (by 0 (drop from roll)), length-drop from roll)
 
   pub at_same :
-      (wanted : List ℕ) (b : Bool) → b ≡ same_octets (canonical (take (to - place) (drop place roll))) wanted
+      (wanted : List ℕ) (b : Bool) → b ≡ same_octets (canonical (take (to - from) (drop from roll))) wanted
       → b ≡ same_octets (canonical (address_at roll place)) wanted
   unfolding address_at
-  at_same wanted b q = let n : to - place ≡ length_before 0 (drop place roll) = omega arith in rw n at q
+  at_same wanted b q = let n : to - from ≡ length_before 0 (drop from roll) = omega arith in rw (← f) (rw n at q)
 
 pub ruleset standing = (at_from, at_upto, at_same, rules)
 
@@ -86,62 +86,67 @@ pub record Looking (roll tags places a : List ℕ) (tag i : ℕ) : Type 0 where
   pub upto : i ≤ length tags
   pub so_far : among a (unrolled roll) ≡ among a (drop i (unrolled roll))
 
+-- from an index on, where addresses before the next with the tag are passed over
+look_next : (roll tags places a : List ℕ) (tag i r : ℕ) → Looking roll tags places a tag i → r ≡ i + length_before tag (drop i tags)
+    → Looking roll tags places a tag r
+look_next roll tags places a tag i r h e =
+    let n : length_before tag (drop i tags) ≡ length_before (tag_of (canonical a)) (tags_of (drop i (unrolled roll))) =
+    rw (h.number, h.index.tagged, tags_drop) in
+    record {
+      index = h.index;
+      own = h.own;
+      number = h.number;
+      upto = omega (arith, h.upto, e, before_short (by tag (drop i tags)), length-drop i tags);
+      so_far =
+          h.so_far
+          ∙ tags_pass a (drop i (unrolled roll))
+          ∙ rw (← n, drop-drop (length_before tag (drop i tags)) i (unrolled roll), ← e);
+    }
+
 pub look_begin :
-    (roll tags places a : List ℕ) (tag : ℕ) → Indexed roll tags places → is_canonical a ≡ true → tag ≡ tag_of a → Looking roll tags places a tag 0
-look_begin roll tags places a tag x c e =
+    (roll tags places a : List ℕ) (tag r : ℕ) → Indexed roll tags places → is_canonical a ≡ true → tag ≡ tag_of a
+    → r ≡ 0 + length_before tag (drop 0 tags) → Looking roll tags places a tag r
+look_begin roll tags places a tag r x c e q =
     let own : canonical a ≡ a = canonical_same a c in
-    record { index = x; own = own; number = e ∙ ap tag_of (sym own); upto = omega arith; so_far = refl }
+    look_next roll tags places a tag 0 r
+    (record { index = x; own = own; number = e ∙ ap tag_of (sym own); upto = omega arith; so_far = refl }) q
 
 module _ (roll tags places a : List ℕ) (tag i : ℕ) (h : Looking roll tags places a tag i) where
-  pub look_upto : i ≤ length tags
-  look_upto = h.upto
+  many : length tags ≡ length (unrolled roll)
+  many = ap length h.index.tagged ∙ tags_length (unrolled roll)
 
-  module _ (r : ℕ) (e : r ≡ i + length_before tag (drop i tags)) where
-    passed : among a (unrolled roll) ≡ among a (drop r (unrolled roll))
-    passed =
-        let n : length_before tag (drop i tags) ≡ length_before (tag_of (canonical a)) (tags_of (drop i (unrolled roll))) =
-        rw (h.number, h.index.tagged, tags_drop) in
-        h.so_far
-        ∙ tags_pass a (drop i (unrolled roll))
-        ∙ rw (← n, drop-drop (length_before tag (drop i tags)) i (unrolled roll), ← e)
+  pub look_end : length tags ≤ i → false ≡ among a (unrolled roll)
+  unfolding among
+  look_end l = sym (h.so_far ∙ rw (drop_of_length-le (unrolled roll) {i = i} (omega (arith, many))))
 
-    many : length tags ≡ length (unrolled roll)
-    many = ap length h.index.tagged ∙ tags_length (unrolled roll)
+  module _ (l : i < length tags) where
+    pub look_place : i < length places
+    look_place = omega (arith, many, ap length h.index.placed, places_length 0 (unrolled roll))
 
-    pub look_end : length tags ≤ r → false ≡ among a (unrolled roll)
-    unfolding among
-    look_end l = sym (passed ∙ rw (drop_of_length-le (unrolled roll) {i = r} (omega (arith, many))))
+    here : unrolled (drop (get_or places i 0) roll) ≡ get_or (unrolled roll) i [] ∷ drop (suc i) (unrolled roll)
+    here =
+        rw h.index.placed (place_of roll 0 (unrolled roll) refl i (omega (arith, many)))
+        ∙ drop-cons (unrolled roll) i [] (omega (arith, many))
 
-    module _ (l : r < length tags) where
-      pub look_place : r < length places
-      look_place = omega (arith, many, ap length h.index.placed, places_length 0 (unrolled roll))
+    opened : Opens (drop (get_or places i 0) roll) (get_or (unrolled roll) i []) (drop (suc i) (unrolled roll))
+    opened = opens (drop (get_or places i 0) roll) (get_or (unrolled roll) i []) (drop (suc i) (unrolled roll)) here
 
-      here : unrolled (drop (get_or places r 0) roll) ≡ get_or (unrolled roll) r [] ∷ drop (suc r) (unrolled roll)
-      here =
-          rw h.index.placed (place_of roll 0 (unrolled roll) refl r (omega (arith, many)))
-          ∙ drop-cons (unrolled roll) r [] (omega (arith, many))
+    pub look_within : get_or places i 0 ≤ length roll
+    look_within = omega (arith, opened.there, length-drop (get_or places i 0) roll)
 
-      opened : Opens (drop (get_or places r 0) roll) (get_or (unrolled roll) r []) (drop (suc r) (unrolled roll))
-      opened = opens (drop (get_or places r 0) roll) (get_or (unrolled roll) r []) (drop (suc r) (unrolled roll)) here
+    module _ (b : Bool) (q : b ≡ same_octets (canonical (address_at roll (get_or places i 0))) a) where
+      step : among a (unrolled roll) ≡ (b || among a (drop (i + 1) (unrolled roll)))
+      unfolding address_at among
+      step =
+          let n : address_at roll (get_or places i 0) ≡ get_or (unrolled roll) i [] = rw opened.ends opened.text in
+          h.so_far ∙ rw (drop-cons (unrolled roll) i [] (omega (arith, many)), add-one, h.own, q, n)
 
-      pub look_within : get_or places r 0 ≤ length roll
-      look_within = omega (arith, opened.there, length-drop (get_or places r 0) roll)
+      pub look_found : b ≡ true → true ≡ among a (unrolled roll)
+      look_found p = sym (step ∙ rw p)
 
-      pub look_less : length tags - (r + 1) < length tags - i
-      look_less = omega arith
+      pub look_on : b ≡ false → (r : ℕ) → r ≡ (i + 1) + length_before tag (drop (i + 1) tags) → Looking roll tags places a tag r
+      look_on p r e =
+          look_next roll tags places a tag (i + 1) r
+          (record { index = h.index; own = h.own; number = h.number; upto = omega arith; so_far = step ∙ rw p }) e
 
-      module _ (b : Bool) where
-        step : b ≡ same_octets (canonical (address_at roll (get_or places r 0))) a → among a (unrolled roll) ≡ (b || among a (drop (r + 1) (unrolled roll)))
-        unfolding address_at among
-        step q =
-            let n : address_at roll (get_or places r 0) ≡ get_or (unrolled roll) r [] = rw opened.ends opened.text in
-            passed
-            ∙ rw (drop-cons (unrolled roll) r [] (omega (arith, many)), add-one, h.own, q, n)
-
-        pub look_found : b ≡ true → b ≡ same_octets (canonical (address_at roll (get_or places r 0))) a → true ≡ among a (unrolled roll)
-        look_found p q = sym (step q ∙ rw p)
-
-        pub look_on : b ≡ false → b ≡ same_octets (canonical (address_at roll (get_or places r 0))) a → Looking roll tags places a tag (r + 1)
-        look_on p q = record { index = h.index; own = h.own; number = h.number; upto = omega arith; so_far = step q ∙ rw p }
-
-pub ruleset looking = (look_begin, look_upto, look_end, look_place, look_within, look_less, look_found, look_on, rules)
+pub ruleset looking = (look_begin, look_end, look_place, look_within, look_found, look_on, rules)

@@ -28,6 +28,7 @@ pub struct Rolled {
 }
 
 // The tag of a plain address, by its canonical form (L8).
+#[tactic(auto, using(crate::proofs::Adding::tagging_form))]
 fn tag_of(address: &[u8]) -> u32
     requires { plain address.now ≡ true }
     ensures { result ≡ tag_of (canonical address.now) }
@@ -38,6 +39,7 @@ fn tag_of(address: &[u8]) -> u32
 }
 
 // Adds a plain address behind what the roll has, and answers how far it goes now.
+#[tactic(auto, using(crate::proofs::Adding::adding_one))]
 pub fn add(
     roll: &mut [u8],
     tags: &mut [u32],
@@ -81,6 +83,7 @@ pub fn add_list(
 }
 
 // Adds the addresses of a list that is readable.
+#[tactic(auto, using(crate::proofs::Adding::adding))]
 fn add_readable(
     roll: &mut [u8],
     tags: &mut [u32],
@@ -94,16 +97,11 @@ fn add_readable(
 {
     let mut so_far = at;
     let mut here = addresslist::start();
-    loop {
-        match addresslist::next_address(list, here) {
-            NextAddress::Address { from, to, next } => {
-                so_far = add(roll, tags, places, so_far, &list[from..to]);
-                here = next;
-            }
-            NextAddress::End => return so_far,
-            NextAddress::Unreadable => return so_far,
-        }
+    while let NextAddress::Address { from, to, next } = addresslist::next_address(list, here) {
+        so_far = add(roll, tags, places, so_far, &list[from..to]);
+        here = next;
     }
+    so_far
 }
 
 // From the index `at` on, skips pieces of `width` tags without the one that is wanted, up to where it or the end is less
@@ -134,32 +132,31 @@ fn next_tag(tags: &[u32], from: usize, tag: u32) -> usize
 }
 
 // Is the address that begins at a place the one that is wanted?
+#[tactic(auto, using(crate::proofs::Looking::standing))]
 fn is_at(roll: &[u8], place: u16, wanted: &[u8], ascii: bool) -> bool
     requires { (place ≤ length roll.now) × (is_canonical wanted.now ≡ true) × (ascii ≡ all_ascii wanted.now) }
     ensures { result ≡ same_octets (canonical (address_at roll.now place)) wanted.now }
 {
-    let from = place as usize;
+    let from = usize::from(place);
     let to = octets::find(roll, from, ENDER);
     address::has_known_form(&roll[from..to], wanted, ascii)
 }
 
 // Is one of the roll's addresses the one that is wanted? Addresses are compared only where their tags agree. Whether the one
 // that is wanted is ASCII is found out once, since a stranger can send many with one tag.
+#[tactic(auto, using(crate::proofs::Looking::looking))]
 pub fn holds(roll: &[u8], tags: &[u32], places: &[u16], wanted: &[u8]) -> bool
     requires { Indexed roll.now tags.now places.now × (is_canonical wanted.now ≡ true) }
     ensures { result ≡ among wanted.now (unrolled roll.now) }
 {
     let tag = tags::tag_of(wanted);
     let ascii = utf8::is_ascii(wanted);
-    let mut i = 0;
-    loop {
-        i = next_tag(tags, i, tag);
-        if tags.len() <= i {
-            return false;
-        }
+    let mut i = next_tag(tags, 0, tag);
+    while i < tags.len() {
         if is_at(roll, places[i], wanted, ascii) {
             return true;
         }
-        i += 1;
+        i = next_tag(tags, i + 1, tag);
     }
+    false
 }
