@@ -32,14 +32,11 @@ pub fn sender_of(block: &[u8], survey: Survey, text: &mut [u8], out: &mut [u8]) 
         Only::One { value, end } => {
             let n = header::unfold(&block[value..end], text);
             match addresslist::only_address(&text[0..n]) {
-                addresslist::OnlyAddress::One { from, to } => match address::canonical(
-                    &text[from..to],
-                    out,
-                ) {
+                Some(one) => match address::canonical(&text[one.from..one.to], out) {
                     address::Fitted::Length(length) => Sender::Address(length),
                     address::Fitted::NoRoom => Sender::NotOne,
                 },
-                addresslist::OnlyAddress::Other => Sender::NotOne,
+                None => Sender::NotOne,
             }
         }
         Only::Other => Sender::NotOne,
