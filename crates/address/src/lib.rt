@@ -2,14 +2,14 @@
 // which know no Punycode. Any other address is plain when its form can be written into room for 254 octets.
 #![tactic(auto)]
 
-ghost use Rattle.std.specs.Prelude.{◌≤◌, ◌≡◌, true, false, length, drop};
+ghost use Rattle.std.specs.Prelude.{ℕ, List, Option, ◌≤◌, ◌≡◌, true, false, length, drop};
 ghost use Rattle.octets.specs.Octets.{same_octets, lowered};
 ghost use Rattle.octets.specs.Puts.{PutsText};
 ghost use Rattle.utf8.specs.Steps.{all_ascii};
 ghost use Rattle.asciiaddress.specs.Answers.{local_of};
 ghost use Rattle.asciiaddress.specs.declared.Local.TheVariants.{Part};
 ghost use Rattle.address.specs.Address.{plain, canonical as canonical_of, is_canonical};
-ghost use Rattle.address.specs.Answers.{domain_of, form_of, Fronts, written_of, onto_if_fits};
+ghost use Rattle.address.specs.Answers.{MayWrite, Writes, domain_of, labels_by, form_of, Fronts, written_of, onto_if_fits};
 
 use asciiaddress::Local;
 use octets::Laid;
@@ -28,17 +28,24 @@ pub enum Fitted {
     NoRoom,
 }
 
-// Writes the forms of the labels that stand from the place `from` on, with the dots between them.
-fn put_domain(s: &[u8], from: usize, out: &mut [u8], at: usize) -> Laid
+// Writes what `put` makes of each label.
+pub fn put_labels<F: Fn(&[u8], &mut [u8], usize) -> Laid>(
+    s: &[u8],
+    from: usize,
+    out: &mut [u8],
+    at: usize,
+    put: F,
+) -> Laid
     requires from_in_bounds { from ≤ length s.now }
     requires at_in_bounds { at ≤ length out.old }
-    ensures { PutsText out.old out.new at (domain_of (drop from s.now)) result }
+    requires puts { MayWrite (F.pre put) }
+    ensures { (text : List ℕ → Option (List ℕ)) → Writes (F.post put) text → PutsText out.old out.new at (labels_by text (drop from s.now)) result }
 {
     let mut i = from;
     let mut to = at;
     loop {
         let end = octets::find(s, i, b'.');
-        match labels::put_label(&s[i..end], &mut *out, to) {
+        match put(&s[i..end], &mut *out, to) {
             Laid::At(e) => {
                 if s.len() <= end {
                     return Laid::At(e);
@@ -57,15 +64,16 @@ fn put_domain(s: &[u8], from: usize, out: &mut [u8], at: usize) -> Laid
 
 // Writes the canonical form of a plain address into room for just the longest one. There is none where the text is no plain
 // address.
+#[tactic(auto, using(crate::proofs::Making::putting_form))]
 fn put_form(s: &[u8], out: &mut [u8]) -> Laid
     requires { length out.old ≡ 254 }
     ensures { PutsText out.old out.new 0 (form_of s.now) result }
 {
     match asciiaddress::local_part(s) {
         Local::Part(n) => {
-            utf8::put_lower(&mut *out, 0, &s[0..n]);
+            utf8::put_lower(&mut *out, 0, &s[..n]);
             out[n] = b'@';
-            put_domain(s, n + 1, &mut *out, n + 1)
+            put_labels(s, n + 1, out, n + 1, labels::put_label)
         }
         Local::NoPart => Laid::NoRoom,
     }
