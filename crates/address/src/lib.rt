@@ -2,14 +2,14 @@
 // which know no Punycode. Any other address is plain when its form can be written into room for 254 octets.
 #![tactic(auto)]
 
-ghost use Rattle.std.specs.Prelude.{ℕ, List, Option, ◌≤◌, ◌≡◌, true, false, length, drop};
+ghost use Rattle.std.specs.Prelude.{◌≤◌, ◌≡◌, true, false, length, drop};
 ghost use Rattle.octets.specs.Octets.{same_octets, lowered};
 ghost use Rattle.octets.specs.Puts.{PutsText};
 ghost use Rattle.utf8.specs.Steps.{all_ascii};
 ghost use Rattle.asciiaddress.specs.Answers.{local_of};
 ghost use Rattle.asciiaddress.specs.declared.Local.TheVariants.{Part};
 ghost use Rattle.address.specs.Address.{plain, canonical as canonical_of, is_canonical};
-ghost use Rattle.address.specs.Answers.{MayWrite, Writes, domain_of, labels_by, form_of, Fronts, written_of, onto_if_fits};
+ghost use Rattle.address.specs.Answers.{MayWrite, PutsLabels, form_of, Fronts, written_of, onto_if_fits};
 
 use asciiaddress::Local;
 use octets::Laid;
@@ -28,7 +28,8 @@ pub enum Fitted {
     NoRoom,
 }
 
-// Writes what `put` makes of each label.
+// Writes what `put` writes of each of the labels that stand from the place `from` on, with the dots between them: forms, or
+// what is shown.
 pub fn put_labels<F: Fn(&[u8], &mut [u8], usize) -> Laid>(
     s: &[u8],
     from: usize,
@@ -38,8 +39,8 @@ pub fn put_labels<F: Fn(&[u8], &mut [u8], usize) -> Laid>(
 ) -> Laid
     requires from_in_bounds { from ≤ length s.now }
     requires at_in_bounds { at ≤ length out.old }
-    requires puts { MayWrite (F.pre put) }
-    ensures { (text : List ℕ → Option (List ℕ)) → Writes (F.post put) text → PutsText out.old out.new at (labels_by text (drop from s.now)) result }
+    requires may_put { MayWrite (F.pre put) }
+    ensures { PutsLabels (F.post put) out.old out.new at (drop from s.now) result }
 {
     let mut i = from;
     let mut to = at;
@@ -80,6 +81,7 @@ fn put_form(s: &[u8], out: &mut [u8]) -> Laid
 }
 
 // Is it a plain address, with labels in any script? The length first: a long text costs nothing.
+#[tactic(auto, using(crate::proofs::Making::being_wide))]
 fn is_wide(s: &[u8]) -> bool
     ensures { result ≡ plain s.now }
 {
@@ -95,6 +97,7 @@ fn is_wide(s: &[u8]) -> bool
 
 // Is it a plain address, if its local part has n octets? Labels in ASCII come first, as nearly all are, and none of those is
 // brought into form.
+#[tactic(auto, using(crate::proofs::Making::being_plain))]
 fn is_plain_behind(s: &[u8], n: usize) -> bool
     requires { local_of s.now ≡ Part n }
     ensures { result ≡ plain s.now }
@@ -109,6 +112,7 @@ fn is_plain_behind(s: &[u8], n: usize) -> bool
 }
 
 // Is it a plain address and nothing else? Lists ask this of every word, and most words have no local part with an `@` behind.
+#[tactic(auto, using(crate::proofs::Making::being_plain))]
 pub fn is_plain(s: &[u8]) -> bool
     ensures { result ≡ plain s.now }
 {
@@ -119,6 +123,7 @@ pub fn is_plain(s: &[u8]) -> bool
 }
 
 // Is it a plain address that is its own canonical form (L8)? The form of a label is ASCII, so no label has to be coded to tell.
+#[tactic(auto, using(crate::proofs::Making::being_canonical))]
 pub fn is_canonical(s: &[u8]) -> bool
     ensures { result ≡ is_canonical s.now }
 {
@@ -126,6 +131,7 @@ pub fn is_canonical(s: &[u8]) -> bool
 }
 
 // Makes the canonical form of a plain address that is not ASCII.
+#[tactic(auto, using(crate::proofs::Making::making))]
 fn make_wide(s: &[u8], form: &mut [u8]) -> usize
     requires s_value { plain s.now ≡ true }
     requires form_len { length form.old ≡ 254 }
@@ -139,6 +145,7 @@ fn make_wide(s: &[u8], form: &mut [u8]) -> usize
 
 // Makes the canonical form of a plain address in a buffer of the caller's own, of which only the front counts, and answers its
 // length. For ASCII one loop is enough, which tells on its way that the address is: nearly all go no further.
+#[tactic(auto, using(crate::proofs::Making::making))]
 pub fn form_of(s: &[u8], form: &mut [u8]) -> usize
     requires s_value { plain s.now ≡ true }
     requires form_len { length form.old ≡ 254 }
@@ -154,6 +161,7 @@ pub fn form_of(s: &[u8], form: &mut [u8]) -> usize
 }
 
 // Writes a text to the front of `out` with its ASCII capitals made small, where it fits.
+#[tactic(auto, using(crate::proofs::Making::putting_small))]
 fn put_small(s: &[u8], out: &mut [u8]) -> Fitted
     ensures value { result ≡ written_of (lowered s.now) (length out.old) }
     ensures out_after { out.new ≡ onto_if_fits (lowered s.now) out.old }
@@ -167,6 +175,7 @@ fn put_small(s: &[u8], out: &mut [u8]) -> Fitted
 
 // Writes the canonical form of a plain address to the front of `out`, where it fits. It has no capital, so that what writes
 // texts in lower case writes it as it is.
+#[tactic(auto, using(crate::proofs::Making::writing_canonical))]
 pub fn canonical(s: &[u8], out: &mut [u8]) -> Fitted
     requires { plain s.now ≡ true }
     ensures value { result ≡ written_of (canonical_of s.now) (length out.old) }
@@ -183,6 +192,7 @@ pub fn canonical(s: &[u8], out: &mut [u8]) -> Fitted
 }
 
 // Is `form` the canonical form of `s`, a text of any octets?
+#[tactic(auto, using(crate::proofs::Making::having_wide_form))]
 fn has_wide_form(s: &[u8], form: &[u8]) -> bool
     requires { is_canonical form.now ≡ true }
     ensures { result ≡ same_octets (canonical_of s.now) form.now }
@@ -196,6 +206,7 @@ fn has_wide_form(s: &[u8], form: &[u8]) -> bool
 
 // The same. Addresses are compared in no other way (L8). Where the form is ASCII, which a caller who asks often finds out once, an
 // ASCII address need not be brought into form.
+#[tactic(auto, using(crate::proofs::Making::having_form))]
 pub fn has_known_form(s: &[u8], form: &[u8], ascii: bool) -> bool
     requires { (is_canonical form.now ≡ true) × (ascii ≡ all_ascii form.now) }
     ensures { result ≡ same_octets (canonical_of s.now) form.now }

@@ -1,4 +1,3 @@
-use Rattle.std.proofs.Common.{rules}
 use Rattle.labels.specs.Answers.{label_of}
 use Rattle.address.proofs.Joining.{domain_by}
 use Rattle.address.proofs.Making.{part_domain}
