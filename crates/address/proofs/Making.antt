@@ -9,7 +9,7 @@
 --     none_written .. form_kept       what is written to the front of lent memory
 --     wide_hasnt .. known_other       whether a text has a form
 -- Assumes nothing.
-use Prim.Native.Nat.{ℕ, ◌+◌, ◌-◌, ◌<◌, ◌≤◌}
+use Prim.Native.Nat.{ℕ, ◌+◌, ◌<◌, ◌≤◌}
 use mathlib.Core.Path.{◌≡◌, refl, sym, ap, ◌∙◌}
 use mathlib.Core.Bool.{Bool, true, false, false≢true}
 use mathlib.Core.List.{List, [], ◌∷◌, ◌++◌, append_assoc}
@@ -99,8 +99,8 @@ module _ (s d : List ℕ) (l : length d ≡ 254) (g : Local) (e : g ≡ local_of
     most : n ≤ 64
     most = omega (arith, is.1, local_most (before 64 s) good)
 
-    part : take (n - 0) s ≡ before 64 s
-    part = rw (sub-zero, is.1, before_long) (place_before 64 s)
+    part : take n s ≡ before 64 s
+    part = rw (is.1, before_long) (place_before 64 s)
 
     pub part_upto : n ≤ length s
     part_upto = omega (arith, part_within)
@@ -108,13 +108,13 @@ module _ (s d : List ℕ) (l : length d ≡ 254) (g : Local) (e : g ≡ local_of
     pub part_sum : Fits w64 (n + 1)
     part_sum = omega (arith, most)
 
-    pub part_room : 0 + length (take (n - 0) s) ≤ length d
+    pub part_room : 0 + length (take n s) ≤ length d
     part_room = rw part (omega (arith, is.1, most))
 
     pub part_behind : n + 1 ≤ length s
     part_behind = omega (arith, part_within)
 
-    module _ (u : List ℕ) (p : u ≡ put_at d 0 (lower_text (take (n - 0) s))) where
+    module _ (u : List ℕ) (p : u ≡ put_at d 0 (lower_text (take n s))) where
       small_long : length (lower_text (before 64 s)) ≡ n
       small_long = alike_length (alike_text (before 64 s)) ∙ sym is.1
 

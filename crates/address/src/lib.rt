@@ -9,7 +9,7 @@ ghost use Rattle.utf8.specs.Steps.{all_ascii};
 ghost use Rattle.asciiaddress.specs.Answers.{local_of};
 ghost use Rattle.asciiaddress.specs.declared.Local.TheVariants.{Part};
 ghost use Rattle.address.specs.Address.{plain, canonical as canonical_of, is_canonical};
-ghost use Rattle.address.specs.Answers.{domain_of, form_of, Fronts, written_of, onto_if_fits};
+ghost use Rattle.address.specs.Answers.{MayWrite, PutsLabels, form_of, Fronts, written_of, onto_if_fits};
 
 use asciiaddress::Local;
 use octets::Laid;
@@ -28,17 +28,25 @@ pub enum Fitted {
     NoRoom,
 }
 
-// Writes the forms of the labels that stand from the place `from` on, with the dots between them.
-fn put_domain(s: &[u8], from: usize, out: &mut [u8], at: usize) -> Laid
+// Writes what `put` writes of each of the labels that stand from the place `from` on, with the dots between them: forms, or
+// what is shown.
+pub fn put_labels<F: Fn(&[u8], &mut [u8], usize) -> Laid>(
+    s: &[u8],
+    from: usize,
+    out: &mut [u8],
+    at: usize,
+    put: F,
+) -> Laid
     requires from_in_bounds { from ≤ length s.now }
     requires at_in_bounds { at ≤ length out.old }
-    ensures { PutsText out.old out.new at (domain_of (drop from s.now)) result }
+    requires may_put { MayWrite (F.pre put) }
+    ensures { PutsLabels (F.post put) out.old out.new at (drop from s.now) result }
 {
     let mut i = from;
     let mut to = at;
     loop {
         let end = octets::find(s, i, b'.');
-        match labels::put_label(&s[i..end], &mut *out, to) {
+        match put(&s[i..end], &mut *out, to) {
             Laid::At(e) => {
                 if s.len() <= end {
                     return Laid::At(e);
@@ -57,21 +65,23 @@ fn put_domain(s: &[u8], from: usize, out: &mut [u8], at: usize) -> Laid
 
 // Writes the canonical form of a plain address into room for just the longest one. There is none where the text is no plain
 // address.
+#[tactic(auto, using(crate::proofs::Making::putting_form))]
 fn put_form(s: &[u8], out: &mut [u8]) -> Laid
     requires { length out.old ≡ 254 }
     ensures { PutsText out.old out.new 0 (form_of s.now) result }
 {
     match asciiaddress::local_part(s) {
         Local::Part(n) => {
-            utf8::put_lower(&mut *out, 0, &s[0..n]);
+            utf8::put_lower(&mut *out, 0, &s[..n]);
             out[n] = b'@';
-            put_domain(s, n + 1, &mut *out, n + 1)
+            put_labels(s, n + 1, out, n + 1, labels::put_label)
         }
         Local::NoPart => Laid::NoRoom,
     }
 }
 
 // Is it a plain address, with labels in any script? The length first: a long text costs nothing.
+#[tactic(auto, using(crate::proofs::Making::being_wide))]
 fn is_wide(s: &[u8]) -> bool
     ensures { result ≡ plain s.now }
 {
@@ -87,6 +97,7 @@ fn is_wide(s: &[u8]) -> bool
 
 // Is it a plain address, if its local part has n octets? Labels in ASCII come first, as nearly all are, and none of those is
 // brought into form.
+#[tactic(auto, using(crate::proofs::Making::being_plain))]
 fn is_plain_behind(s: &[u8], n: usize) -> bool
     requires { local_of s.now ≡ Part n }
     ensures { result ≡ plain s.now }
@@ -101,6 +112,7 @@ fn is_plain_behind(s: &[u8], n: usize) -> bool
 }
 
 // Is it a plain address and nothing else? Lists ask this of every word, and most words have no local part with an `@` behind.
+#[tactic(auto, using(crate::proofs::Making::being_plain))]
 pub fn is_plain(s: &[u8]) -> bool
     ensures { result ≡ plain s.now }
 {
@@ -111,6 +123,7 @@ pub fn is_plain(s: &[u8]) -> bool
 }
 
 // Is it a plain address that is its own canonical form (L8)? The form of a label is ASCII, so no label has to be coded to tell.
+#[tactic(auto, using(crate::proofs::Making::being_canonical))]
 pub fn is_canonical(s: &[u8]) -> bool
     ensures { result ≡ is_canonical s.now }
 {
@@ -118,6 +131,7 @@ pub fn is_canonical(s: &[u8]) -> bool
 }
 
 // Makes the canonical form of a plain address that is not ASCII.
+#[tactic(auto, using(crate::proofs::Making::making))]
 fn make_wide(s: &[u8], form: &mut [u8]) -> usize
     requires s_value { plain s.now ≡ true }
     requires form_len { length form.old ≡ 254 }
@@ -131,6 +145,7 @@ fn make_wide(s: &[u8], form: &mut [u8]) -> usize
 
 // Makes the canonical form of a plain address in a buffer of the caller's own, of which only the front counts, and answers its
 // length. For ASCII one loop is enough, which tells on its way that the address is: nearly all go no further.
+#[tactic(auto, using(crate::proofs::Making::making))]
 pub fn form_of(s: &[u8], form: &mut [u8]) -> usize
     requires s_value { plain s.now ≡ true }
     requires form_len { length form.old ≡ 254 }
@@ -146,6 +161,7 @@ pub fn form_of(s: &[u8], form: &mut [u8]) -> usize
 }
 
 // Writes a text to the front of `out` with its ASCII capitals made small, where it fits.
+#[tactic(auto, using(crate::proofs::Making::putting_small))]
 fn put_small(s: &[u8], out: &mut [u8]) -> Fitted
     ensures value { result ≡ written_of (lowered s.now) (length out.old) }
     ensures out_after { out.new ≡ onto_if_fits (lowered s.now) out.old }
@@ -159,6 +175,7 @@ fn put_small(s: &[u8], out: &mut [u8]) -> Fitted
 
 // Writes the canonical form of a plain address to the front of `out`, where it fits. It has no capital, so that what writes
 // texts in lower case writes it as it is.
+#[tactic(auto, using(crate::proofs::Making::writing_canonical))]
 pub fn canonical(s: &[u8], out: &mut [u8]) -> Fitted
     requires { plain s.now ≡ true }
     ensures value { result ≡ written_of (canonical_of s.now) (length out.old) }
@@ -175,6 +192,7 @@ pub fn canonical(s: &[u8], out: &mut [u8]) -> Fitted
 }
 
 // Is `form` the canonical form of `s`, a text of any octets?
+#[tactic(auto, using(crate::proofs::Making::having_wide_form))]
 fn has_wide_form(s: &[u8], form: &[u8]) -> bool
     requires { is_canonical form.now ≡ true }
     ensures { result ≡ same_octets (canonical_of s.now) form.now }
@@ -188,6 +206,7 @@ fn has_wide_form(s: &[u8], form: &[u8]) -> bool
 
 // The same. Addresses are compared in no other way (L8). Where the form is ASCII, which a caller who asks often finds out once, an
 // ASCII address need not be brought into form.
+#[tactic(auto, using(crate::proofs::Making::having_form))]
 pub fn has_known_form(s: &[u8], form: &[u8], ascii: bool) -> bool
     requires { (is_canonical form.now ≡ true) × (ascii ≡ all_ascii form.now) }
     ensures { result ≡ same_octets (canonical_of s.now) form.now }

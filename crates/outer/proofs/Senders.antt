@@ -24,8 +24,7 @@ use Rattle.header.specs.Header.{FieldText}
 use Rattle.header.proofs.Unfolding.{value_within, value_there, value_long}
 use Rattle.addresslist.specs.List.{addresses}
 use Rattle.addresslist.specs.Answers.{between, only_in, Within}
-use Rattle.addresslist.specs.declared.OnlyAddress.{OnlyAddress as ListOnly}
-use Rattle.addresslist.specs.declared.OnlyAddress.TheVariants.{One as OneAddress, Other as NoOne}
+use Rattle.addresslist.specs.declared.Bounds.{Bounds}
 use Rattle.addresslist.proofs.Readable.{only_plain, only_octets}
 use Rattle.slots.specs.Slot.{address_room}
 use Rattle.fields.specs.Fields.{fields_in, values_of}
@@ -85,7 +84,7 @@ module _ (fs : List FieldText) where
 
   -- the value of the one From field was unfolded to the text, and the list in it was read
   module _ (v : List ℕ) (p : Some v ≡ only_one (values_of From fs)) (text d : List ℕ) (n : ℕ) (c : n ≡ length v) (t : text ≡ onto v d)
-      (j : ListOnly) (y : only_in (take n text) j ≡ only_one (or_else [] (addresses (take n text)))) where
+      (j : Option Bounds) (y : only_in (take n text) j ≡ only_one (or_else [] (addresses (take n text)))) where
     there : take n text ≡ v
     there = value_there v d text n c t
 
@@ -96,60 +95,60 @@ module _ (fs : List FieldText) where
     unfolding sender_in sender_by
     told = ap sender_by (sym p) ∙ ap canonical_of (sym one)
 
-    no_one : j ≡ NoOne → sender_in fs ≡ None
+    no_one : j ≡ None → sender_in fs ≡ None
     unfolding only_in canonical_of
-    no_one z = told ∙ ap (λ (i : ListOnly). canonical_of (only_in v i)) z
+    no_one z = told ∙ ap (λ (i : Option Bounds). canonical_of (only_in v i)) z
 
-    pub sent_no_one : j ≡ NoOne → NotOne ≡ sender_of (sender_in fs)
+    pub sent_no_one : j ≡ None → NotOne ≡ sender_of (sender_in fs)
     unfolding sender_of
     sent_no_one z = rw (no_one z)
 
-    pub left_no_one : (out : List ℕ) → j ≡ NoOne → out ≡ left_by_sender (sender_in fs) out
+    pub left_no_one : (out : List ℕ) → j ≡ None → out ≡ left_by_sender (sender_in fs) out
     unfolding left_by_sender
     left_no_one out z = rw (no_one z)
 
-    module _ (from to : ℕ) (z : j ≡ OneAddress from to) (w : Within (take n text) j) where
-      lies : Within v (OneAddress from to)
+    module _ (b : Bounds) (z : j ≡ Some b) (w : Within (take n text) j) where
+      lies : Within v (Some b)
       lies = rw (there, z) at w
 
-      pub sent_from : from ≤ to
+      pub sent_from : b.from ≤ b.to
       sent_from = omega (arith, lies.0)
 
-      pub sent_upto : to ≤ length text
-      sent_upto = part_within v d text t from to sent_from lies.1
+      pub sent_upto : b.to ≤ length text
+      sent_upto = part_within v d text t b.from b.to sent_from lies.1
 
-      part : between text from to ≡ between v from to
-      part = part_there v d text t from to sent_from lies.1
+      part : between text b.from b.to ≡ between v b.from b.to
+      part = part_there v d text t b.from b.to sent_from lies.1
 
-      only : Some (between text from to) ≡ only_one (or_else [] (addresses v))
+      only : Some (between text b.from b.to) ≡ only_one (or_else [] (addresses v))
       unfolding only_in
       only = ap Some part ∙ sym (ap (only_in v) z) ∙ one
 
-      pub sent_plain : plain (between text from to) ≡ true
-      sent_plain = only_plain v (between text from to) only
+      pub sent_plain : plain (between text b.from b.to) ≡ true
+      sent_plain = only_plain v (between text b.from b.to) only
 
-      is : sender_in fs ≡ Some (canonical (between text from to))
+      is : sender_in fs ≡ Some (canonical (between text b.from b.to))
       unfolding canonical_of
       is = told ∙ ap canonical_of (one ∙ sym only)
 
-      fits : (room : ℕ) → address_room ≤ room → length (canonical (between text from to)) ≤ room
-      fits room h = omega (arith, canonical_most (between text from to) sent_plain)
+      fits : (room : ℕ) → address_room ≤ room → length (canonical (between text b.from b.to)) ≤ room
+      fits room h = omega (arith, canonical_most (between text b.from b.to) sent_plain)
 
       module _ (out : List ℕ) (h : address_room ≤ length out) where
-        pub left_one : (left : List ℕ) → left ≡ onto_if_fits (canonical (between text from to)) out → left ≡ left_by_sender (sender_in fs) out
+        pub left_one : (left : List ℕ) → left ≡ onto_if_fits (canonical (between text b.from b.to)) out → left ≡ left_by_sender (sender_in fs) out
         unfolding left_by_sender
-        left_one left r = rw is (r ∙ onto_fits (canonical (between text from to)) out (fits (length out) h))
+        left_one left r = rw is (r ∙ onto_fits (canonical (between text b.from b.to)) out (fits (length out) h))
 
-        module _ (g : Fitted) (u : g ≡ written_of (canonical (between text from to)) (length out)) where
+        module _ (g : Fitted) (u : g ≡ written_of (canonical (between text b.from b.to)) (length out)) where
           pub sent_one : (m : ℕ) → g ≡ Length m → Address m ≡ sender_of (sender_in fs)
           unfolding sender_of
           sent_one m r =
-              rw is (ap Address (written_length (canonical (between text from to)) (length out) m (sym r ∙ u)).0)
+              rw is (ap Address (written_length (canonical (between text b.from b.to)) (length out) m (sym r ∙ u)).0)
 
           -- there is room
           pub sent_no_room : g ≡ NoRoom → NotOne ≡ sender_of (sender_in fs)
           sent_no_room r =
-              absurd (omega (arith, written_no_room (canonical (between text from to)) (length out) (sym r ∙ u), fits (length out) h))
+              absurd (omega (arith, written_no_room (canonical (between text b.from b.to)) (length out) (sym r ∙ u), fits (length out) h))
 
 pub ruleset sending =
     (sent_no_field, left_no_field, sent_no_one, left_no_one, sent_from, sent_upto, sent_plain, left_one, sent_one, sent_no_room, value_within, value_long, rules)

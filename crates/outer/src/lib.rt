@@ -34,13 +34,11 @@ pub fn sender_of(block: &[u8], survey: Survey, text: &mut [u8], out: &mut [u8]) 
     };
     let n = field.unfold(block, text);
     match addresslist::only_address(&text[..n]) {
-        addresslist::OnlyAddress::One { from, to } => {
-            match address::canonical(&text[from..to], out) {
-                address::Fitted::Length(length) => Sender::Address(length),
-                address::Fitted::NoRoom => Sender::NotOne,
-            }
-        }
-        addresslist::OnlyAddress::Other => Sender::NotOne,
+        Some(one) => match address::canonical(&text[one.from..one.to], out) {
+            address::Fitted::Length(length) => Sender::Address(length),
+            address::Fitted::NoRoom => Sender::NotOne,
+        },
+        None => Sender::NotOne,
     }
 }
 

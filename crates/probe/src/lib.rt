@@ -393,11 +393,11 @@ pub extern "C" fn probe_count(s: &[u8]) -> Answer {
 #[unsafe(no_mangle)]
 pub extern "C" fn probe_only(s: &[u8], places: &mut [u64]) -> u64 {
     match addresslist::only_address(s) {
-        addresslist::OnlyAddress::One { from, to } => {
-            let told = [from as u64, to as u64];
+        Some(one) => {
+            let told = [one.from as u64, one.to as u64];
             tell(places, &told, 0)
         }
-        addresslist::OnlyAddress::Other => 1,
+        None => 1,
     }
 }
 

@@ -1,36 +1,33 @@
 -- How an address is shown, where it is written.
---     Laying d out s from at i to     of what is shown of the labels from `from` on, all is written but that of the labels from i on
---     lay_begin .. lay_next           the steps of the loop that writes them. d is the buffer as it came, out as it is before a label
---                                     and e behind it.
+--     labels_shown                    what is shown of labels, written label by label
 --     head_end .. head_labels         an address in canonical form: up to the `@` as it is, and then its labels
 --     front_none .. front_kept        a text at the front of lent memory
 --     never_written .. made_kept      what is shown of the form there
 --     none_written .. its_kept        and of the address
 -- Assumes nothing.
-use Prim.Native.Nat.{ℕ, ◌+◌, ◌-◌, ◌<◌, ◌≤◌}
+use Prim.Native.Nat.{ℕ, ◌+◌, ◌<◌, ◌≤◌}
 use mathlib.Core.Path.{◌≡◌, refl, sym, ap, ◌∙◌}
 use mathlib.Core.Bool.{true}
-use mathlib.Core.List.{List, [], ◌∷◌, ◌++◌, append-nil, append_assoc}
-use mathlib.Core.Logic.{⊎_elim}
+use mathlib.Core.List.{List, [], ◌∷◌, ◌++◌, map, append-nil, append_assoc}
 use native.Mathlib.Nat.{zero-add, sub-zero}
 use native.Mathlib.Omega.{arith}
 use borrow.Author.Rules.{rules}
 use mir.Syntax.{w64}
 use mir.Val.{Fits}
-use lib.ListN.{length, take, drop, set, length-append, length-drop, length-set}
-use lib.Seq.{drop-drop, take_at, length-take-le}
+use lib.ListN.{length, take, drop, length-append}
+use lib.Seq.{take_at, length-take-le}
 use Rattle.octets.specs.Finding.{length_before}
 use Rattle.octets.specs.Written.{put_at, onto}
-use Rattle.octets.specs.Puts.{Written, TooLong, Puts}
+use Rattle.octets.specs.Options.{in_front}
+use Rattle.octets.specs.Puts.{Written, TooLong, Puts, PutsText}
 use Rattle.octets.specs.declared.Laid.{Laid}
 use Rattle.octets.specs.declared.Laid.TheVariants.{At, NoRoom as Full}
-use Rattle.octets.proofs.Finding.{by, before_short}
-use Rattle.octets.proofs.Lists.{lt_or_le}
-use Rattle.octets.proofs.Puts.{wrote_none, wrote_one, wrote_then, wrote_long, full_one, full_then, wrote_before, full_before}
-use Rattle.pieces.specs.Pieces.{before, behind, following, joined}
-use Rattle.pieces.proofs.Pieces.{pieces_first, pieces_sides, pieces_last, sides_join, place_before, before_long, behind_drop}
+use Rattle.octets.proofs.Puts.{wrote_then, wrote_long, full_then, wrote_before, full_before}
+use Rattle.std.specs.Prelude.{Some}
+use Rattle.pieces.specs.Pieces.{pieces, before, behind}
+use Rattle.pieces.proofs.Pieces.{sides_join, before_long, behind_drop}
 use Rattle.address.specs.Address.{plain, canonical}
-use Rattle.address.specs.Answers.{written_of, onto_if_fits}
+use Rattle.address.specs.Answers.{each_of, labels_by, written_of, onto_if_fits}
 use Rattle.address.specs.declared.Fitted.{Fitted}
 use Rattle.address.specs.declared.Fitted.TheVariants.{Length, NoRoom}
 use Rattle.address.proofs.Room.{written_fits, written_none, onto_fits, onto_none}
@@ -41,102 +38,25 @@ use Rattle.showing.specs.Showing.{shown, displayed}
 use Rattle.showing.specs.Answers.{shown_labels, shown_form}
 use Rattle.showing.proofs.Typing.{displayed_most}
 
--- what is shown of labels, by the first
-module _ (t : List ℕ) where
-  last_shown : length t ≤ length (before 46 t) → shown_labels t ≡ shown (before 46 t)
-  unfolding shown_labels joined following
-  last_shown l = rw (pieces_last 46 t l) (append-nil (shown (before 46 t)))
+-- what is shown of labels, label by label
+each_shown : (ps : List (List ℕ)) → each_of (λ p. Some (shown p)) ps ≡ Some (map shown ps)
+unfolding each_of in_front
+each_shown [] = refl
+each_shown (p ∷ ps) = rw (each_of, each_shown ps)
 
-  more_shown : length (before 46 t) < length t → shown_labels t ≡ shown (before 46 t) ++ (46 ∷ shown_labels (behind 46 t))
-  unfolding shown_labels joined following
-  more_shown l = rw (pieces_sides 46 t l, pieces_first 46 (behind 46 t))
+shown_by_labels : (t : List ℕ) → labels_by (λ p. Some (shown p)) t ≡ Some (shown_labels t)
+unfolding labels_by shown_labels
+shown_by_labels t = rw (labels_by, each_shown (pieces 46 t))
 
-pub record Laying (d out s : List ℕ) (from at i to : ℕ) : Type 0 where
-  pub upto : i ≤ length s
-  pub kept : length out ≡ length d
-  pub room : to ≤ length d
-  pub lays : Written d at out to (shown_labels (drop from s)) (shown_labels (drop i s))
+some_puts : (d e : List ℕ) (at : ℕ) (w : List ℕ) (r : Laid) → PutsText d e at (Some w) r → Puts d e at w r
+some_puts d e at w (At m) h =
+    let k : w ≡ h.text = cc (h.is) in
+    record { octets = w; splits = sym (append-nil w); writes = rw k h.writes; counts = rw k h.counts; room = h.room }
+some_puts d e at w Full h = record { long = h.long w refl; same = h.same }
 
-pub lay_begin : (d s : List ℕ) (from at : ℕ) → from ≤ length s → at ≤ length d → Laying d d s from at from at
-lay_begin d s from at l m = record { upto = l; kept = refl; room = m; lays = wrote_none d at (shown_labels (drop from s)) m }
-
-module _ (d out s : List ℕ) (from at i to : ℕ) (h : Laying d out s from at i to) (end : ℕ) (r : end ≡ i + length_before 46 (drop i s)) where
-  abbrev t : List ℕ
-  t = drop i s
-
-  abbrev piece : List ℕ
-  piece = take (end - i) t
-
-  abbrev all : List ℕ
-  all = shown_labels (drop from s)
-
-  first : before 46 t ≡ piece
-  first = let n : end - i ≡ length_before 46 t = omega arith in rw n (sym (place_before 46 t))
-
-  first_long : length (before 46 t) ≡ end - i
-  first_long = before_long 46 t ∙ omega arith
-
-  pub lay_from : i ≤ end
-  lay_from = omega arith
-
-  pub lay_upto : end ≤ length s
-  lay_upto = omega (arith, before_short (by 46 t), length-drop i s, h.upto)
-
-  pub lay_room : to ≤ length out
-  lay_room = omega (arith, h.room, h.kept)
-
-  module _ (e : List ℕ) (g : Laid) (p : Puts out e to (shown piece) g) where
-    pub lay_none : g ≡ Full → TooLong d at e all
-    lay_none q =
-        let k : TooLong out to e (shown piece) = rw q at p in
-        full_then d at out to all (shown_labels t) h.lays e
-        (⊎_elim
-        (λ (l : length (before 46 t) < length t). rw (more_shown t l, first) (full_before out to e (shown piece) _ k))
-        (λ (l : length t ≤ length (before 46 t)). rw (last_shown t l, first) k)
-        (lt_or_le (length (before 46 t)) (length t)))
-
-    module _ (m : ℕ) (q : g ≡ At m) where
-      wrote : Written out to e m (shown piece) []
-      wrote = rw q at p
-
-      pub lay_long : length e ≡ length d
-      lay_long = wrote_long out to e m _ _ wrote ∙ h.kept
-
-      pub lay_last : length s ≤ end → Written d at e m all []
-      lay_last l =
-          let k : length t ≤ length (before 46 t) = omega (arith, first_long, length-drop i s) in
-          wrote_then d at out to all (shown_labels t) h.lays e m [] (rw (last_shown t k, first) wrote)
-
-      module _ (l : end < length s) where
-        k : length (before 46 t) < length t
-        k = omega (arith, first_long, length-drop i s)
-
-        rest : behind 46 t ≡ drop (end + 1) s
-        rest =
-            let n : i + (end - i + 1) ≡ end + 1 = omega arith in
-            behind_drop 46 t ∙ rw (first_long, drop-drop, n)
-
-        more : shown_labels t ≡ shown piece ++ (46 ∷ shown_labels (drop (end + 1) s))
-        more = more_shown t k ∙ rw (first, rest)
-
-        on : Written d at e m all (46 ∷ shown_labels (drop (end + 1) s))
-        on =
-            wrote_then d at out to all (shown_labels t) h.lays e m _
-            (rw more (wrote_before out to e m (shown piece) (46 ∷ shown_labels (drop (end + 1) s)) wrote))
-
-        pub lay_full : length e ≤ m → TooLong d at e all
-        lay_full f = full_one d at e m 46 all _ on f
-
-        pub lay_next : m < length e → Laying d (set e m 46) s from at (end + 1) (m + 1)
-        lay_next f =
-            record {
-              upto = omega arith;
-              kept = length-set e m 46 ∙ lay_long;
-              room = omega (arith, lay_long);
-              lays = wrote_one d at e m 46 all _ on f;
-            }
-
-pub ruleset laying = (lay_begin, lay_from, lay_upto, lay_room, lay_none, lay_long, lay_last, lay_full, lay_next, rules)
+pub labels_shown :
+    (d e : List ℕ) (at : ℕ) (t : List ℕ) (r : Laid) → PutsText d e at (labels_by (λ p. Some (shown p)) t) r → Puts d e at (shown_labels t) r
+labels_shown d e at t r h = some_puts d e at (shown_labels t) r (rw shown_by_labels at h)
 
 -- an address in canonical form: n is the place of its `@`
 module _ (s : List ℕ) (l : length (before 64 s) < length s) (n : ℕ) (r : n ≡ 0 + length_before 64 (drop 0 s)) where

@@ -10,7 +10,7 @@ ghost use Rattle.labels.specs.Labels.{label_form, label};
 ghost use Rattle.address.specs.Address.{plain};
 ghost use Rattle.address.specs.Answers.{written_of, onto_if_fits};
 ghost use Rattle.showing.specs.Showing.{same_form, shown_by, shown, displayed};
-ghost use Rattle.showing.specs.Answers.{text_of, either_of, shown_labels, shown_form};
+ghost use Rattle.showing.specs.Answers.{text_of, either_of, shown_form};
 
 use address::Fitted;
 use decoder::Decoded;
@@ -23,6 +23,7 @@ const LONGEST_LABEL: usize = 63;
 const OPENING: [u8; 4] = *b"xn--";
 
 // Writes a text from a place on, and answers the place behind it, where there is room.
+#[tactic(auto, using(crate::proofs::Making::putting_text))]
 fn put_text(text: &[u8], out: &mut [u8], at: usize) -> Laid
     requires { at ≤ length out.old }
     ensures { Puts out.old out.new at text.now result }
@@ -35,6 +36,7 @@ fn put_text(text: &[u8], out: &mut [u8], at: usize) -> Laid
 }
 
 // Is the text a label with just this form?
+#[tactic(auto, using(crate::proofs::Making::having_form))]
 fn has_form(text: &[u8], form: &[u8]) -> bool
     ensures { result ≡ (label text.now && same_form form.now (label_form text.now)) }
 {
@@ -46,6 +48,7 @@ fn has_form(text: &[u8], form: &[u8]) -> bool
 }
 
 // Writes the text that a code stands for, into room for the longest one: 59 code points of four octets.
+#[tactic(auto, using(crate::proofs::Making::putting_decoded))]
 fn put_decoded(code: &[u8], out: &mut [u8]) -> Laid
     requires { length code.now ≤ 59 }
     ensures { PutsText out.old out.new 0 (text_of (decode_of code.now)) result }
@@ -58,6 +61,7 @@ fn put_decoded(code: &[u8], out: &mut [u8]) -> Laid
 }
 
 // Writes the text where it is a label with just this form, and else the form.
+#[tactic(auto, using(crate::proofs::Making::putting_either))]
 fn put_either(text: &[u8], form: &[u8], out: &mut [u8], at: usize) -> Laid
     requires { at ≤ length out.old }
     ensures { Puts out.old out.new at (either_of form.now text.now) result }
@@ -69,6 +73,7 @@ fn put_either(text: &[u8], form: &[u8], out: &mut [u8], at: usize) -> Laid
 }
 
 // Writes what is shown of a coded label.
+#[tactic(auto, using(crate::proofs::Making::putting_opened))]
 fn put_opened(s: &[u8], out: &mut [u8], at: usize) -> Laid
     requires at_in_bounds { at ≤ length out.old }
     requires in_bounds { (4 ≤ length s.now) × (length s.now ≤ 63) }
@@ -96,46 +101,21 @@ fn put_shown(s: &[u8], out: &mut [u8], at: usize) -> Laid
     put_text(s, out, at)
 }
 
-// Writes what is shown of the labels that stand from the place `from` on, with the dots between them.
-fn put_labels(s: &[u8], from: usize, out: &mut [u8], at: usize) -> Laid
-    requires from_in_bounds { from ≤ length s.now }
-    requires at_in_bounds { at ≤ length out.old }
-    ensures { Puts out.old out.new at (shown_labels (drop from s.now)) result }
-{
-    let mut i = from;
-    let mut to = at;
-    loop {
-        let end = octets::find(s, i, b'.');
-        match put_shown(&s[i..end], &mut *out, to) {
-            Laid::At(e) => {
-                if s.len() <= end {
-                    return Laid::At(e);
-                }
-                if out.len() <= e {
-                    return Laid::NoRoom;
-                }
-                out[e] = b'.';
-                to = e + 1;
-                i = end + 1;
-            }
-            Laid::NoRoom => return Laid::NoRoom,
-        }
-    }
-}
-
 // Writes how a canonical address is shown: up to the `@` it stands as it is.
+#[tactic(auto, using(crate::proofs::Laying::putting_address))]
 fn put_address(s: &[u8], out: &mut [u8]) -> Laid
     requires { (length (before 64 s.now) < length s.now) × (length s.now ≤ 254) }
     ensures { Puts out.old out.new 0 (shown_form s.now) result }
 {
     let n = octets::find(s, 0, b'@');
     match put_text(&s[..n + 1], &mut *out, 0) {
-        Laid::At(to) => put_labels(s, n + 1, out, to),
+        Laid::At(to) => address::put_labels(s, n + 1, out, to, put_shown),
         Laid::NoRoom => Laid::NoRoom,
     }
 }
 
 // Writes a text to the front of `out`, where it fits.
+#[tactic(auto, using(crate::proofs::Laying::putting_front))]
 fn put_front(text: &[u8], out: &mut [u8]) -> Fitted
     ensures value { result ≡ written_of text.now (length out.old) }
     ensures out_after { out.new ≡ onto_if_fits text.now out.old }
@@ -148,6 +128,7 @@ fn put_front(text: &[u8], out: &mut [u8]) -> Fitted
 }
 
 // Writes how a canonical address is shown to the front of `out`, where it fits. It is made in room for every address shown.
+#[tactic(auto, using(crate::proofs::Laying::showing_form))]
 fn show_form(s: &[u8], out: &mut [u8]) -> Fitted
     requires s_in_bounds { (length (before 64 s.now) < length s.now) × (length s.now ≤ 254) }
     requires s_len_bound { length (shown_form s.now) ≤ 1016 }
@@ -162,6 +143,7 @@ fn show_form(s: &[u8], out: &mut [u8]) -> Fitted
 }
 
 // Writes how a plain address is shown to the front of `out`, where it fits (W12).
+#[tactic(auto, using(crate::proofs::Laying::showing_address))]
 pub fn show(s: &[u8], out: &mut [u8]) -> Fitted
     requires { plain s.now ≡ true }
     ensures value { result ≡ written_of (displayed s.now) (length out.old) }
