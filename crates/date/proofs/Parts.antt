@@ -22,7 +22,7 @@ use Rattle.datewords.specs.declared.token.WordAt.TheVariants.{Between, End, Unre
 use Rattle.datewords.specs.declared.meaning.Place.TheVariants.{East, West}
 use Rattle.datewords.specs.declared.meaning.Meaning.{Meaning}
 use Rattle.datewords.specs.declared.meaning.Meaning.TheVariants.{Value, Nothing}
-use Rattle.date.specs.declared.Part.{Part}
+use Rattle.date.specs.declared.PartRead.{PartRead}
 use Rattle.date.specs.declared.Dated.{Dated}
 use Rattle.date.specs.declared.Dated.TheVariants.{Available, Unavailable}
 use Rattle.datewords.proofs.Digits.{value_is, nothing_is}
@@ -60,13 +60,13 @@ got_read s to n m e = rw e
 
 pub ruleset parts = (then_got, then_missing, value_read, nothing_read, got_read, ranges, rules)
 
-module _ (s u : List ℕ) (local : ℕ) (g : Option Part) (e : read_in s g ≡ next East u) where
-  pub zone_east : (o : Part) (n to : ℕ) → g ≡ Some o → n ≡ local - o.value → to ≡ o.to → read_in s (Some (record { value = n; to = to })) ≡ zoned local u
+module _ (s u : List ℕ) (local : ℕ) (g : Option PartRead) (e : read_in s g ≡ next East u) where
+  pub zone_east : (o : PartRead) (n to : ℕ) → g ≡ Some o → n ≡ local - o.value → to ≡ o.to → read_in s (Some (record { value = n; to = to })) ≡ zoned local u
   unfolding zoned read_in
   zone_east o n to q p r = rw (zoned, read_got s g (next East u) e o q, p, r)
 
-  module _ (q : g ≡ None) (h : Option Part) (p : read_in s h ≡ next West u) where
-    pub zone_west : (o : Part) (n to : ℕ) → h ≡ Some o → n ≡ local + o.value → to ≡ o.to → read_in s (Some (record { value = n; to = to })) ≡ zoned local u
+  module _ (q : g ≡ None) (h : Option PartRead) (p : read_in s h ≡ next West u) where
+    pub zone_west : (o : PartRead) (n to : ℕ) → h ≡ Some o → n ≡ local + o.value → to ≡ o.to → read_in s (Some (record { value = n; to = to })) ≡ zoned local u
     unfolding zoned and_then read_in
     zone_west o n to r v w = rw (zoned, read_missing s g (next East u) e q, read_got s h (next West u) p o r, v, w)
 
@@ -96,8 +96,8 @@ module _ (s u : List ℕ) (n : ℕ) (g : WordAt) (e : token_in s g ≡ first_tok
 pub ruleset endings = (end_here, end_more, end_unreadable, rules)
 
 -- the Date, where the reader's answer g is u
-module _ (s : List ℕ) (g : Option Part) (u : Read) (e : read_in s g ≡ u) where
-  pub date_last : (p : Part) (r : Dated) → g ≡ Some p → r ≡ dated_of (ended (got p.value (drop p.to s))) → r ≡ dated_of (ended u)
+module _ (s : List ℕ) (g : Option PartRead) (u : Read) (e : read_in s g ≡ u) where
+  pub date_last : (p : PartRead) (r : Dated) → g ≡ Some p → r ≡ dated_of (ended (got p.value (drop p.to s))) → r ≡ dated_of (ended u)
   date_last p r q h = rw (read_got s g u e p q) h
 
   pub date_missing : g ≡ None → Unavailable ≡ dated_of (ended u)
@@ -105,7 +105,7 @@ module _ (s : List ℕ) (g : Option Part) (u : Read) (e : read_in s g ≡ u) whe
   date_missing q = rw (read_missing s g u e q)
 
   module _ (f : ℕ → List ℕ → Read) where
-    pub date_then : (p : Part) (r : Dated) → g ≡ Some p → r ≡ dated_of (ended (f p.value (drop p.to s))) → r ≡ dated_of (ended (and_then u f))
+    pub date_then : (p : PartRead) (r : Dated) → g ≡ Some p → r ≡ dated_of (ended (f p.value (drop p.to s))) → r ≡ dated_of (ended (and_then u f))
     unfolding and_then
     date_then p r q h = rw (read_got s g u e p q) h
 

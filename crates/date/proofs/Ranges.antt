@@ -18,7 +18,7 @@ use Rattle.date.specs.Date.{Read, got, missing, read_of, and_then, next, optiona
 use Rattle.date.specs.Answers.{read_in}
 use Rattle.datewords.specs.declared.meaning.Place.{Place}
 use Rattle.datewords.specs.declared.meaning.Place.TheVariants.{Day, Month, Year, UpTo, Colon, West}
-use Rattle.date.specs.declared.Part.{Part}
+use Rattle.date.specs.declared.PartRead.{PartRead}
 use Rattle.calendar.proofs.Counting.{month_length_small, day_bound}
 use Rattle.datewords.proofs.Digits.{only_if_true, only_if_some, both_right}
 use Rattle.datewords.proofs.Large.{two_most, month_some, year_some, west_some}
@@ -116,7 +116,7 @@ module _ (u v : List ℕ) (n : ℕ) where
       omega (arith, days_in u a days pd, time_in a b seconds ps)))
 
 -- what a reader's answer g is, at most
-module _ (s u : List ℕ) (g : Option Part) (p : Part) (q : g ≡ Some p) where
+module _ (s u : List ℕ) (g : Option PartRead) (p : PartRead) (q : g ≡ Some p) where
   pub range_upto : (most : ℕ) → read_in s g ≡ next (UpTo most) u → p.value ≤ most
   range_upto most e = upto_most u (drop p.to s) p.value most (read_got s g _ e p q)
 

@@ -20,7 +20,7 @@ use Rattle.datewords.specs.declared.token.WordAt.TheVariants.{Between, End, Unre
 use Rattle.datewords.specs.declared.meaning.Place.{Place}
 use Rattle.datewords.specs.declared.meaning.Meaning.{Meaning}
 use Rattle.datewords.specs.declared.meaning.Meaning.TheVariants.{Value, Nothing}
-use Rattle.date.specs.declared.Part.{Part}
+use Rattle.date.specs.declared.PartRead.{PartRead}
 use Rattle.datewords.proofs.Digits.{value_is, nothing_is}
 
 -- what an answer of `token` says of the text u that is left
@@ -68,8 +68,8 @@ module _ (s : List ℕ) (g : WordAt) (h : Inside s g) (from to : ℕ) (q : g ≡
 pub ruleset nexts = (next_end, next_unreadable, next_got, next_missing, inside_order, inside_upto, rules)
 
 -- what an answer of a reader says of what was to be read
-module _ (s : List ℕ) (g : Option Part) (u : Read) (e : read_in s g ≡ u) where
-  pub read_got : (p : Part) → g ≡ Some p → u ≡ got p.value (drop p.to s)
+module _ (s : List ℕ) (g : Option PartRead) (u : Read) (e : read_in s g ≡ u) where
+  pub read_got : (p : PartRead) → g ≡ Some p → u ≡ got p.value (drop p.to s)
   unfolding read_in
   read_got p q = sym e ∙ rw q
 
@@ -78,21 +78,21 @@ module _ (s : List ℕ) (g : Option Part) (u : Read) (e : read_in s g ≡ u) whe
   read_missing q = sym e ∙ rw q
 
   module _ (f : ℕ → List ℕ → Read) where
-    pub then_got : (p : Part) (r : Option Part) → g ≡ Some p → read_in s r ≡ f p.value (drop p.to s) → read_in s r ≡ and_then u f
+    pub then_got : (p : PartRead) (r : Option PartRead) → g ≡ Some p → read_in s r ≡ f p.value (drop p.to s) → read_in s r ≡ and_then u f
     unfolding and_then
     then_got p r q h = rw (read_got p q) h
 
-    pub then_missing : (r : Option Part) → r ≡ None → g ≡ None → read_in s r ≡ and_then u f
+    pub then_missing : (r : Option PartRead) → r ≡ None → g ≡ None → read_in s r ≡ and_then u f
     unfolding and_then read_in
     then_missing r p q = rw (p, read_missing q)
 
-module _ (s t : List ℕ) (g : Option Part) (opening closing : Place) (e : read_in s g ≡ next opening t) where
-  pub optional_got : (p : Part) (r : Option Part) → g ≡ Some p → read_in s r ≡ next closing (drop p.to s) → read_in s r ≡ optional opening closing t
+module _ (s t : List ℕ) (g : Option PartRead) (opening closing : Place) (e : read_in s g ≡ next opening t) where
+  pub optional_got : (p : PartRead) (r : Option PartRead) → g ≡ Some p → read_in s r ≡ next closing (drop p.to s) → read_in s r ≡ optional opening closing t
   unfolding optional
   optional_got p r q h = rw (optional, read_got s g (next opening t) e p q) h
 
 pub optional_missing :
-    (s : List ℕ) (at : ℕ) (g : Option Part) (opening closing : Place) → read_in s g ≡ next opening (drop at s) → g ≡ None
+    (s : List ℕ) (at : ℕ) (g : Option PartRead) (opening closing : Place) → read_in s g ≡ next opening (drop at s) → g ≡ None
     → read_in s (Some (record { value = 0; to = at })) ≡ optional opening closing (drop at s)
 unfolding optional read_in
 optional_missing s at g opening closing e q = rw (optional, read_missing s g (next opening (drop at s)) e q)

@@ -6,7 +6,7 @@ use Rattle.std.specs.Prelude.{Option, Some, None}
 use Rattle.date.specs.Date.{Read, got, missing}
 use Rattle.date.specs.declared.Dated.{Dated}
 use Rattle.date.specs.declared.Dated.TheVariants.{Available, Unavailable}
-use Rattle.date.specs.declared.Part.{Part}
+use Rattle.date.specs.declared.PartRead.{PartRead}
 
 unfoldable pub dated_of : Option ℕ → Dated
 dated_of None = Unavailable
@@ -16,6 +16,6 @@ unfoldable pub option_of : Dated → Option ℕ
 option_of (Available n) = Some n
 option_of Unavailable = None
 
-unfoldable pub read_in : List ℕ → Option Part → Read
+unfoldable pub read_in : List ℕ → Option PartRead → Read
 read_in s (Some p) = got p.value (drop p.to s)
 read_in s None = missing

@@ -16,7 +16,7 @@ const EPOCH: u64 = 2_208_988_800;
 
 // A number that was read, and the place behind it.
 #[derive(Clone, Copy)]
-struct Part {
+struct PartRead {
     value: u64,
     to: usize,
 }
@@ -30,12 +30,12 @@ pub enum Dated {
 
 // The token that is to stand at a place of a date, from the place `at` of the text on.
 #[tactic(auto, using(crate::proofs::Reading::nexts))]
-fn next(s: &[u8], at: usize, what: Place) -> Option<Part>
+fn next(s: &[u8], at: usize, what: Place) -> Option<PartRead>
     ensures { read_in s.now result ≡ next_of what (drop at s.now) }
 {
     match token::token(s, at) {
         WordAt::Between { from, to } => match meaning::meant(what, &s[from..to]) {
-            Meaning::Value(value) => Some(Part { value, to }),
+            Meaning::Value(value) => Some(PartRead { value, to }),
             Meaning::Nothing => None,
         },
         WordAt::End | WordAt::Unreadable => None,
@@ -44,12 +44,12 @@ fn next(s: &[u8], at: usize, what: Place) -> Option<Part>
 
 // A part of two tokens that may both be missing (D3), and count as 0 then (D10).
 #[tactic(auto, using(crate::proofs::Reading::optionals))]
-fn optional(s: &[u8], at: usize, opening: Place, closing: Place) -> Option<Part>
+fn optional(s: &[u8], at: usize, opening: Place, closing: Place) -> Option<PartRead>
     ensures { read_in s.now result ≡ optional_of opening closing (drop at s.now) }
 {
     match next(s, at, opening) {
         Some(first) => next(s, first.to, closing),
-        None => Some(Part { value: 0, to: at }),
+        None => Some(PartRead { value: 0, to: at }),
     }
 }
 
@@ -71,14 +71,14 @@ fn existing(year: u64, month: u64, day: u64) -> Meaning
 
 // Day, month and year (D3): the days since 1900.
 #[tactic(auto, using(crate::proofs::Parts::parts), unfolding(crate::specs::Date::calendar_day))]
-fn calendar_day(s: &[u8], at: usize) -> Option<Part>
+fn calendar_day(s: &[u8], at: usize) -> Option<PartRead>
     ensures { read_in s.now result ≡ calendar_day (drop at s.now) }
 {
     let day = next(s, at, Place::Day)?;
     let month = next(s, day.to, Place::Month)?;
     let year = next(s, month.to, Place::Year)?;
     match existing(year.value, month.value, day.value) {
-        Meaning::Value(value) => Some(Part { value, ..year }),
+        Meaning::Value(value) => Some(PartRead { value, ..year }),
         Meaning::Nothing => None,
     }
 }
@@ -86,14 +86,14 @@ fn calendar_day(s: &[u8], at: usize) -> Option<Part>
 // Hour, colon, minute, and a colon with the second, which may be missing (D3): the seconds since midnight, 86,400
 // of them where the last second of a day is 60 (D10).
 #[tactic(auto, using(crate::proofs::Parts::parts), unfolding(crate::specs::Date::time_of_day))]
-fn time_of_day(s: &[u8], at: usize) -> Option<Part>
+fn time_of_day(s: &[u8], at: usize) -> Option<PartRead>
     ensures { read_in s.now result ≡ time_of_day (drop at s.now) }
 {
     let hours = next(s, at, Place::UpTo(23))?;
     let colon = next(s, hours.to, Place::Colon)?;
     let minutes = next(s, colon.to, Place::UpTo(59))?;
     let seconds = optional(s, minutes.to, Place::Colon, Place::UpTo(60))?;
-    Some(Part {
+    Some(PartRead {
         value: 3600 * hours.value + 60 * minutes.value + seconds.value,
         ..seconds
     })
@@ -102,12 +102,12 @@ fn time_of_day(s: &[u8], at: usize) -> Option<Part>
 // Day and time of day: the seconds since 1900, as the zone's own clock has them. No day that can be written (D9)
 // lies 3,000,000 days after 1900.
 #[tactic(auto, using(crate::proofs::Parts::parts), unfolding(crate::specs::Date::local_time))]
-fn local_time(s: &[u8], at: usize) -> Option<Part>
+fn local_time(s: &[u8], at: usize) -> Option<PartRead>
     ensures { read_in s.now result ≡ local_time (drop at s.now) }
 {
     let days = calendar_day(s, at)?;
     let seconds = time_of_day(s, days.to)?;
-    Some(Part {
+    Some(PartRead {
         value: 86_400 * days.value + seconds.value,
         ..seconds
     })
@@ -115,18 +115,18 @@ fn local_time(s: &[u8], at: usize) -> Option<Part>
 
 // The zone: the seconds since 1900 in UTC, which are the local ones less an east offset, or with a west one added on (D13).
 #[tactic(auto, using(crate::proofs::Parts::zoning))]
-fn zoned(s: &[u8], at: usize, local: u64) -> Option<Part>
+fn zoned(s: &[u8], at: usize, local: u64) -> Option<PartRead>
     requires { local ≤ 300_000_000_000 }
     ensures { read_in s.now result ≡ zoned_of local (drop at s.now) }
 {
     if let Some(east) = next(s, at, Place::East) {
-        return Some(Part {
+        return Some(PartRead {
             value: local.saturating_sub(east.value),
             ..east
         });
     }
     let west = next(s, at, Place::West)?;
-    Some(Part {
+    Some(PartRead {
         value: local + west.value,
         ..west
     })

@@ -6,6 +6,7 @@ use Prim.Native.Nat.{ℕ, ◌-◌, ◌<◌, ◌≤◌}
 use mathlib.Core.Path.{◌≡◌, sym, ap, ◌∙◌}
 use mathlib.Core.Bool.{true}
 use mathlib.Core.List.{List}
+use Rattle.std.specs.Prelude.{Option, Some, None}
 use native.Mathlib.Omega.{arith}
 use native.Mathlib.Nat.{sub-zero}
 use borrow.Author.Rules.{rules}
@@ -22,7 +23,6 @@ use Rattle.update.specs.Message.{Gossiped, heard_all}
 use Rattle.fields.proofs.Values.{block_begin}
 use Rattle.keys.specs.Answers.{gossip_from, gossip_of, HeardAt, HeardAs}
 use Rattle.keys.specs.declared.Heard.{Heard}
-use Rattle.keys.specs.declared.Heard.TheVariants.{Next, Over}
 use Rattle.keys.proofs.GossipFields.{gossip_all, heard_at, heard_less, heard_over}
 use Rattle.delivery.specs.Sending.{Listens}
 use Rattle.delivery.proofs.Fronts.{front_length}
@@ -55,49 +55,49 @@ module _ (limit date : ℕ) (recipients payload t₀ t tags : List ℕ) (at : �
   pub spread_clear : is_some (fields_from payload at) ≡ true
   spread_clear = h.clear
 
-  module _ (address key : List ℕ) (r : Heard) (p : HeardAs limit (unrolled recipients) payload at address key r) where
-    pub spread_end : r ≡ Over → t ≡ heard_all date (gossip_of limit recipients payload) t₀
+  module _ (address key : List ℕ) (r : Option Heard) (p : HeardAs limit (unrolled recipients) payload at address key r) where
+    pub spread_end : r ≡ None → t ≡ heard_all date (gossip_of limit recipients payload) t₀
     unfolding heard_all
     spread_end q = sym (h.so_far ∙ ap (λ (gs : List Gossiped). heard_all date gs t) (heard_over limit (unrolled recipients) payload at address key r p q))
 
-    module _ (e n k : ℕ) (q : r ≡ Next e n k) where
-      one : HeardAt limit (unrolled recipients) payload at address key e n k
-      one = heard_at limit (unrolled recipients) payload at address key r p e n k q
+    module _ (g : Heard) (q : r ≡ Some g) where
+      one : HeardAt limit (unrolled recipients) payload at address key g
+      one = heard_at limit (unrolled recipients) payload at address key r p g q
 
-      pub spread_canonical : is_canonical (take (n - 0) (drop 0 address)) ≡ true
+      pub spread_canonical : is_canonical (take (g.gossip.address - 0) (drop 0 address)) ≡ true
       spread_canonical = rw sub-zero one.canonical
 
-      pub spread_address : n ≤ length address
+      pub spread_address : g.gossip.address ≤ length address
       spread_address = one.address_within
 
-      pub spread_key : k ≤ length key
+      pub spread_key : g.gossip.key ≤ length key
       spread_key = one.opens.within
 
-      pub spread_some : 1 ≤ length (take (k - 0) (drop 0 key))
-      spread_some = omega (arith, front_length k key spread_key, one.opens.some_octet)
+      pub spread_some : 1 ≤ length (take (g.gossip.key - 0) (drop 0 key))
+      spread_some = omega (arith, front_length g.gossip.key key spread_key, one.opens.some_octet)
 
-      pub spread_most : length (take (k - 0) (drop 0 key)) ≤ key_limit
-      spread_most = omega (arith, front_length k key spread_key, one.opens.most, h.most)
+      pub spread_most : length (take (g.gossip.key - 0) (drop 0 key)) ≤ key_limit
+      spread_most = omega (arith, front_length g.gossip.key key spread_key, one.opens.most, h.most)
 
-      pub spread_less : length payload - e < length payload - at
-      spread_less = heard_less limit (unrolled recipients) payload at address key r p e n k q
+      pub spread_less : length payload - g.end < length payload - at
+      spread_less = heard_less limit (unrolled recipients) payload at address key r p g q
 
       pub spread_on :
-          (u vs : List ℕ) → u ≡ put t (take (n - 0) (drop 0 address)) (heard date (take (k - 0) (drop 0 key))) → Open u vs
-          → Spreads limit date recipients payload t₀ u vs e
+          (u vs : List ℕ) → u ≡ put t (take (g.gossip.address - 0) (drop 0 address)) (heard date (take (g.gossip.key - 0) (drop 0 key))) → Open u vs
+          → Spreads limit date recipients payload t₀ u vs g.end
       unfolding heard_all
       spread_on u vs w s =
           record {
             so_far =
                 h.so_far
                 ∙ ap (λ (gs : List Gossiped). heard_all date gs t) one.first
-                ∙ rw (w, sub-zero n, sub-zero k);
+                ∙ rw (w, sub-zero g.gossip.address, sub-zero g.gossip.key);
             opened = s;
             most = h.most;
             in_range = h.in_range;
             clear = one.readable;
           }
 
-pub ruleset spreading = (spread_begin, spread_clear, spread_address, spread_key, spread_less, rules)
+pub ruleset spreading = (spread_begin, spread_clear, spread_address, spread_key, spread_less, spread_on, spread_end, rules)
 
 pub ruleset hearing = (spread_open, spread_date, spread_canonical, spread_some, spread_most, rules)

@@ -12,13 +12,12 @@ ghost use Rattle.message.specs.Answers.{direct_from, mail_of};
 ghost use Rattle.delivery.specs.Delivery.{room_rows, delivered};
 ghost use Rattle.delivery.specs.Sending.{Listens, Sends, Carries};
 
-use keyowner::Own;
-use keys::Heard;
 use message::Brought;
 use refusals::{Answer, Refusal};
 use slots::Slot;
 
 // Puts the accepted gossip of the payload into the table, field by field in order (G5, G9).
+#[tactic(auto, using(crate::proofs::Spreading::spreading))]
 fn hear_all(
     table: &mut [u8],
     tags: &mut [u32; Slot::MOST],
@@ -36,32 +35,31 @@ fn hear_all(
     let mut address = [0u8; Slot::ADDRESS_ROOM];
     let mut key = [0u8; Slot::KEY_LIMIT];
     let mut at = 0;
-    loop {
-        match keys::next_gossip(
-            payload,
-            limit,
-            at,
-            recipients,
-            listed,
-            places,
-            text,
-            &mut address,
-            &mut key,
-        ) {
-            Heard::Next {
-                end,
-                address: n,
-                key: length,
-            } => {
-                update::hear(table, tags, &address[0..n], date, &key[0..length]);
-                at = end;
-            }
-            Heard::Over => return,
-        }
+    while let Some(heard) = keys::next_gossip(
+        payload,
+        limit,
+        at,
+        recipients,
+        listed,
+        places,
+        text,
+        &mut address,
+        &mut key,
+    ) {
+        let gossip = heard.gossip;
+        update::hear(
+            table,
+            tags,
+            &address[0..gossip.address],
+            date,
+            &key[0..gossip.key],
+        );
+        at = heard.end;
     }
 }
 
 // Updates the entry of the sender, with the field that counts or without one (U5).
+#[tactic(auto, using(crate::proofs::Updating::updating))]
 fn update_sender(
     table: &mut [u8],
     tags: &mut [u32; Slot::MOST],
@@ -75,12 +73,16 @@ fn update_sender(
     ensures fact { Open table.new tags.new }
 {
     let date = brought.date;
-    let own = brought.own;
-    match own {
-        Own::Key { mutual, length } => {
-            update::update_with_key(table, tags, sender, date, &key[0..length], mutual);
-        }
-        Own::NoKey => update::update_keyless(table, tags, sender, date),
+    match brought.own {
+        Some(own) => update::update_with_key(
+            table,
+            tags,
+            sender,
+            date,
+            &key[0..own.length],
+            own.mutual,
+        ),
+        None => update::update_keyless(table, tags, sender, date),
     }
 }
 

@@ -4,8 +4,8 @@
 -- Assumes nothing.
 use Prim.Native.Nat.{ℕ}
 use mathlib.Core.Path.{◌≡◌, ap, sym, ◌∙◌}
-use mathlib.Core.Bool.{Bool}
 use mathlib.Core.List.{List, ◌∷◌}
+use Rattle.std.specs.Prelude.{Option, Some, None}
 use native.Mathlib.Omega.{arith}
 use borrow.Author.Rules.{rules}
 use lib.ListN.{length, take}
@@ -16,11 +16,10 @@ use Rattle.fields.specs.Fields.{fields_in, values_of}
 use Rattle.fields.specs.declared.Kind.TheVariants.{Autocrypt}
 use Rattle.fields.specs.declared.Survey.{Survey}
 use Rattle.keyowner.specs.Answers.{OwnAs}
-use Rattle.keyowner.specs.declared.Own.TheVariants.{Key, NoKey}
+use Rattle.keyowner.specs.declared.OwnKey.{OwnKey}
 use Rattle.keys.specs.Keys.{counted_in}
 use Rattle.keys.specs.Answers.{valid_from, Seeks, ValidAs, Weighs}
 use Rattle.keys.specs.declared.Valid.{Valid}
-use Rattle.keys.specs.declared.Valid.TheVariants.{Key as KeyAt, NoMore}
 use Rattle.keys.proofs.ValidFields.{valid_at, valid_none}
 
 module _ (limit : ℕ) (sender s : List ℕ) (v : Survey) (text₀ key₀ : List ℕ) (c : Weighs limit s v sender text₀ key₀) where
@@ -32,7 +31,7 @@ module _ (limit : ℕ) (sender s : List ℕ) (v : Survey) (text₀ key₀ : List
         key_room = c.key_room;
       }
 
-  module _ (key : List ℕ) (k : Valid) (p : ValidAs limit sender s v.autocrypt.first key k) where
+  module _ (key : List ℕ) (k : Option Valid) (p : ValidAs limit sender s v.autocrypt.first key k) where
     abbrev values : List (List ℕ)
     values = values_of Autocrypt (fields_in s)
 
@@ -43,17 +42,17 @@ module _ (limit : ℕ) (sender s : List ℕ) (v : Survey) (text₀ key₀ : List
     unfolding valid_from
     all = ap (valid_fields limit sender) (sym c.surveyed.autocrypt.all)
 
-    pub count_none : k ≡ NoMore → OwnAs limit sender (counted_in limit (fields_in s) sender) key NoKey
+    pub count_none : (o : Option OwnKey) → o ≡ None → k ≡ None → OwnAs limit sender (counted_in limit (fields_in s) sender) key o
     unfolding OwnAs counted_in
-    count_none q = counted_none limit sender values (all ∙ valid_none limit sender s begin key k p q)
+    count_none o z q = rw z (counted_none limit sender values (all ∙ valid_none limit sender s begin key k p q))
 
-    module _ (m : Bool) (n e : ℕ) (q : k ≡ KeyAt m n e) where
-      pub count_second : (text spare : List ℕ) → length text ≡ length text₀ → length spare ≡ key_limit → Seeks limit s e v.autocrypt.last sender text spare
+    module _ (u : Valid) (q : k ≡ Some u) where
+      pub count_second : (text spare : List ℕ) → length text ≡ length text₀ → length spare ≡ key_limit → Seeks limit s u.end v.autocrypt.last sender text spare
       count_second text spare l w =
           record {
             takes =
                 record {
-                  clear = (valid_at limit sender s begin key k p m n e q).readable;
+                  clear = (valid_at limit sender s begin key k p u q).readable;
                   no_more = c.surveyed.autocrypt.no_more;
                   room = omega (arith, c.room);
                 };
@@ -61,27 +60,27 @@ module _ (limit : ℕ) (sender s : List ℕ) (v : Survey) (text₀ key₀ : List
             key_room = omega (arith, c.spare_room);
           }
 
-      module _ (spare : List ℕ) (j : Valid) (r : ValidAs limit sender s e spare j) where
+      module _ (spare : List ℕ) (j : Option Valid) (r : ValidAs limit sender s u.end spare j) where
         abbrev first : Field
-        first = record { address = sender; is_mutual = m; key = take n key }
+        first = record { address = sender; is_mutual = u.own.«mutual»; key = take u.own.length key }
 
-        front : valid_fields limit sender values ≡ first ∷ valid_from limit sender s e
-        front = all ∙ (valid_at limit sender s begin key k p m n e q).first
+        front : valid_fields limit sender values ≡ first ∷ valid_from limit sender s u.end
+        front = all ∙ (valid_at limit sender s begin key k p u q).first
 
-        pub count_two : (o : Bool) (w f : ℕ) → j ≡ KeyAt o w f → OwnAs limit sender (counted_in limit (fields_in s) sender) key NoKey
+        pub count_two : (w : Valid) → j ≡ Some w → OwnAs limit sender (counted_in limit (fields_in s) sender) key None
         unfolding OwnAs counted_in
-        count_two o w f y =
+        count_two w y =
             counted_two limit sender values first
-            (record { address = sender; is_mutual = o; key = take w spare })
-            (valid_from limit sender s f)
-            (front ∙ ap (λ (fs : List Field). first ∷ fs) (valid_at limit sender s e spare j r o w f y).first)
+            (record { address = sender; is_mutual = w.own.«mutual»; key = take w.own.length spare })
+            (valid_from limit sender s w.end)
+            (front ∙ ap (λ (fs : List Field). first ∷ fs) (valid_at limit sender s u.end spare j r w y).first)
 
-        pub count_one : j ≡ NoMore → OwnAs limit sender (counted_in limit (fields_in s) sender) key (Key m n)
+        pub count_one : j ≡ None → OwnAs limit sender (counted_in limit (fields_in s) sender) key (Some u.own)
         unfolding OwnAs counted_in
         count_one y =
             record {
-              is = counted_one limit sender values first (front ∙ ap (λ (fs : List Field). first ∷ fs) (valid_none limit sender s e spare j r y));
-              opens = (valid_at limit sender s begin key k p m n e q).opens;
+              is = counted_one limit sender values first (front ∙ ap (λ (fs : List Field). first ∷ fs) (valid_none limit sender s u.end spare j r y));
+              opens = (valid_at limit sender s begin key k p u q).opens;
             }
 
 pub ruleset counting = (count_first, count_second, count_none, count_two, count_one, rules)

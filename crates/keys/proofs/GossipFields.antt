@@ -7,6 +7,7 @@ use Prim.Native.Nat.{ℕ, ◌-◌, ◌<◌}
 use mathlib.Core.Path.{◌≡◌, ap}
 use mathlib.Core.Bool.{true}
 use mathlib.Core.List.{List, []}
+use Rattle.std.specs.Prelude.{Option, Some, None}
 use native.Mathlib.Omega.{arith}
 use native.Mathlib.Nat.{sub-zero}
 use borrow.Author.Rules.{rules}
@@ -18,14 +19,12 @@ use Rattle.fields.proofs.Values.{values_all, values_end}
 use Rattle.keyowner.specs.Owners.{accepted_for}
 use Rattle.keyowner.specs.Answers.{Accepts, AcceptedAt, AcceptedAs}
 use Rattle.keyowner.specs.declared.Accepted.{Accepted}
-use Rattle.keyowner.specs.declared.Accepted.TheVariants.{Gossip, NotAccepted}
 use Rattle.keyowner.proofs.Accepting.{accepted_at, accepted_nothing}
 use Rattle.keys.specs.Keys.{accepted, gossip_in}
 use Rattle.keys.specs.Answers.{Takes, TakenAs, gossip_from, Hears, HeardAt, HeardAs}
 use Rattle.keys.specs.declared.Taken.{Taken}
 use Rattle.keys.specs.declared.Taken.TheVariants.{Value, NoValue}
 use Rattle.keys.specs.declared.Heard.{Heard}
-use Rattle.keys.specs.declared.Heard.TheVariants.{Next, Over}
 use Rattle.keys.proofs.Walking.{Past, past_begin, past_takes, past_end, past_next, past_found, past_later, taken_within, taken_upto, taken_readable, taken_less}
 
 -- what asking for a field asks for, in memory of the same length
@@ -52,28 +51,28 @@ module _ (limit : ℕ) (recipients : List (List ℕ)) (s : List ℕ) (at : ℕ) 
 
   module _ (place : ℕ) (text : List ℕ) (r : Taken) (h : Past (accepted_for limit recipients) AutocryptGossip s at place)
       (p : TakenAs AutocryptGossip s place text r) where
-    pub hear_end : r ≡ NoValue → (address key : List ℕ) → HeardAs limit recipients s at address key Over
+    pub hear_end : r ≡ NoValue → (address key : List ℕ) → HeardAs limit recipients s at address key None
     unfolding HeardAs gossip_from accepted
     hear_end q address key = past_end (accepted_for limit recipients) AutocryptGossip s at place h text r p q
 
-    module _ (n e : ℕ) (q : r ≡ Value n e) (address key : List ℕ) (o : Accepted)
+    module _ (n e : ℕ) (q : r ≡ Value n e) (address key : List ℕ) (o : Option Accepted)
         (a : AcceptedAs limit (accepted_for limit recipients (take (n - 0) (drop 0 text))) address key o) where
       answered : AcceptedAs limit (accepted_for limit recipients (take n text)) address key o
       answered = rw sub-zero at a
 
-      pub hear_next : o ≡ NotAccepted → Past (accepted_for limit recipients) AutocryptGossip s at e
+      pub hear_next : o ≡ None → Past (accepted_for limit recipients) AutocryptGossip s at e
       hear_next y =
           past_next (accepted_for limit recipients) AutocryptGossip s at place h text r p n e q
           (accepted_nothing limit (accepted_for limit recipients (take n text)) address key o answered y)
 
-      pub hear_found : (l m : ℕ) → o ≡ Gossip l m → HeardAs limit recipients s at address key (Next e l m)
+      pub hear_found : (w : Accepted) → o ≡ Some w → HeardAs limit recipients s at address key (Some (record { gossip = w; end = e }))
       unfolding HeardAs gossip_from accepted
-      hear_found l m y =
-          let g : AcceptedAt limit (accepted_for limit recipients (take n text)) address key l m = accepted_at limit _ address key o answered l m y in
+      hear_found w y =
+          let g : AcceptedAt limit (accepted_for limit recipients (take n text)) address key w = accepted_at limit _ address key o answered w y in
           record {
             first =
                 past_found (accepted_for limit recipients) AutocryptGossip s at place h text r p n e q
-                (record { address = take l address; key = take m key })
+                (record { address = take w.address address; key = take w.key key })
                 g.is;
             canonical = g.canonical;
             address_within = g.address_within;
@@ -92,14 +91,14 @@ gossip_all limit recipients s c = ap (accepted limit recipients) (values_all Aut
 pub ruleset hearing = (hear_accepts, hear_begin, hear_takes, hear_end, hear_next, hear_found, taken_within, taken_less, rules)
 
 -- as a caller asks it of an answer r
-module _ (limit : ℕ) (recipients : List (List ℕ)) (s : List ℕ) (at : ℕ) (address key : List ℕ) (r : Heard) (p : HeardAs limit recipients s at address key r) where
-  pub heard_at : (e n k : ℕ) → r ≡ Next e n k → HeardAt limit recipients s at address key e n k
+module _ (limit : ℕ) (recipients : List (List ℕ)) (s : List ℕ) (at : ℕ) (address key : List ℕ) (r : Option Heard) (p : HeardAs limit recipients s at address key r) where
+  pub heard_at : (h : Heard) → r ≡ Some h → HeardAt limit recipients s at address key h
   unfolding HeardAs
-  heard_at e n k q = rw q at p
+  heard_at h q = rw q at p
 
-  pub heard_less : (e n k : ℕ) → r ≡ Next e n k → length s - e < length s - at
-  heard_less e n k q = let h = heard_at e n k q in omega (arith, h.later, h.upto)
+  pub heard_less : (h : Heard) → r ≡ Some h → length s - h.end < length s - at
+  heard_less h q = let a = heard_at h q in omega (arith, a.later, a.upto)
 
-  pub heard_over : r ≡ Over → gossip_from limit recipients s at ≡ []
+  pub heard_over : r ≡ None → gossip_from limit recipients s at ≡ []
   unfolding HeardAs
   heard_over q = rw q at p

@@ -4,8 +4,8 @@
 -- Assumes nothing.
 use Prim.Native.Nat.{ℕ, ◌-◌}
 use mathlib.Core.Path.{◌≡◌}
-use mathlib.Core.Bool.{Bool}
 use mathlib.Core.List.{List, []}
+use Rattle.std.specs.Prelude.{Option, Some, None}
 use native.Mathlib.Nat.{sub-zero}
 use native.Mathlib.Omega.{arith}
 use borrow.Author.Rules.{rules}
@@ -13,14 +13,12 @@ use lib.ListN.{length, take, drop}
 use Rattle.keyfield.specs.Field.{valid_for, valid_fields}
 use Rattle.fields.specs.declared.Kind.TheVariants.{Autocrypt}
 use Rattle.keyowner.specs.Answers.{OwnAt, OwnAs}
-use Rattle.keyowner.specs.declared.Own.{Own}
-use Rattle.keyowner.specs.declared.Own.TheVariants.{Key as OwnKey, NoKey}
+use Rattle.keyowner.specs.declared.OwnKey.{OwnKey}
 use Rattle.keyowner.proofs.OwnField.{own_at, own_nothing}
 use Rattle.keys.specs.Answers.{Takes, TakenAs, valid_from, Seeks, ValidAt, ValidAs}
 use Rattle.keys.specs.declared.Taken.{Taken}
 use Rattle.keys.specs.declared.Taken.TheVariants.{Value, NoValue}
 use Rattle.keys.specs.declared.Valid.{Valid}
-use Rattle.keys.specs.declared.Valid.TheVariants.{Key, NoMore}
 use Rattle.keys.proofs.Walking.{Past, past_begin, past_takes, past_end, past_next, past_found, taken_within, taken_readable, taken_less}
 
 module _ (limit : ℕ) (sender s : List ℕ) (at : ℕ) where
@@ -32,27 +30,27 @@ module _ (limit : ℕ) (sender s : List ℕ) (at : ℕ) where
     try_takes place t h l = past_takes (valid_for limit sender) Autocrypt s at place h last t k.takes.no_more (omega (arith, k.takes.room))
 
   module _ (place : ℕ) (text : List ℕ) (r : Taken) (h : Past (valid_for limit sender) Autocrypt s at place) (p : TakenAs Autocrypt s place text r) where
-    pub try_end : r ≡ NoValue → (key : List ℕ) → ValidAs limit sender s at key NoMore
+    pub try_end : r ≡ NoValue → (key : List ℕ) → ValidAs limit sender s at key None
     unfolding ValidAs valid_from valid_fields
     try_end q key = past_end (valid_for limit sender) Autocrypt s at place h text r p q
 
-    module _ (n e : ℕ) (q : r ≡ Value n e) (key : List ℕ) (o : Own) (a : OwnAs limit sender (valid_for limit sender (take (n - 0) (drop 0 text))) key o) where
+    module _ (n e : ℕ) (q : r ≡ Value n e) (key : List ℕ) (o : Option OwnKey) (a : OwnAs limit sender (valid_for limit sender (take (n - 0) (drop 0 text))) key o) where
       answered : OwnAs limit sender (valid_for limit sender (take n text)) key o
       answered = rw sub-zero at a
 
-      pub try_next : o ≡ NoKey → Past (valid_for limit sender) Autocrypt s at e
+      pub try_next : o ≡ None → Past (valid_for limit sender) Autocrypt s at e
       try_next y =
           past_next (valid_for limit sender) Autocrypt s at place h text r p n e q
           (own_nothing limit sender (valid_for limit sender (take n text)) key o answered y)
 
-      pub try_found : (m : Bool) (l : ℕ) → o ≡ OwnKey m l → ValidAs limit sender s at key (Key m l e)
+      pub try_found : (w : OwnKey) → o ≡ Some w → ValidAs limit sender s at key (Some (record { own = w; end = e }))
       unfolding ValidAs valid_from valid_fields
-      try_found m l y =
-          let f : OwnAt limit sender (valid_for limit sender (take n text)) key m l = own_at limit sender _ key o answered m l y in
+      try_found w y =
+          let f : OwnAt limit sender (valid_for limit sender (take n text)) key w = own_at limit sender _ key o answered w y in
           record {
             first =
                 past_found (valid_for limit sender) Autocrypt s at place h text r p n e q
-                (record { address = sender; is_mutual = m; key = take l key })
+                (record { address = sender; is_mutual = w.«mutual»; key = take w.length key })
                 f.is;
             opens = f.opens;
             readable = taken_readable Autocrypt s place text r p n e q;
@@ -61,11 +59,11 @@ module _ (limit : ℕ) (sender s : List ℕ) (at : ℕ) where
 pub ruleset trying = (try_begin, try_takes, try_end, try_next, try_found, taken_within, taken_less, rules)
 
 -- as a caller asks it of an answer r
-module _ (limit : ℕ) (sender s : List ℕ) (at : ℕ) (key : List ℕ) (r : Valid) (p : ValidAs limit sender s at key r) where
-  pub valid_at : (m : Bool) (n e : ℕ) → r ≡ Key m n e → ValidAt limit sender s at key m n e
+module _ (limit : ℕ) (sender s : List ℕ) (at : ℕ) (key : List ℕ) (r : Option Valid) (p : ValidAs limit sender s at key r) where
+  pub valid_at : (v : Valid) → r ≡ Some v → ValidAt limit sender s at key v
   unfolding ValidAs
-  valid_at m n e q = rw q at p
+  valid_at v q = rw q at p
 
-  pub valid_none : r ≡ NoMore → valid_from limit sender s at ≡ []
+  pub valid_none : r ≡ None → valid_from limit sender s at ≡ []
   unfolding ValidAs
   valid_none q = rw q at p

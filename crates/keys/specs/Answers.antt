@@ -5,7 +5,8 @@
 --     Weighs                         the one that counts, asked for
 --     gossip_from, gossip_of         the accepted gossip from a place of a payload on, and that of the whole, by the roll of the recipients
 --     Hears, HeardAt, HeardAs        some of it asked for, and the first of it
-use Rattle.std.specs.Prelude.{ℕ, ◌<◌, ◌≤◌, ◌≡◌, Bool, true, List, [], ◌∷◌, length, take}
+use Rattle.std.specs.Prelude.{ℕ, ◌<◌, ◌≤◌, ◌≡◌, true, List, [], ◌∷◌, length, take}
+use Rattle.std.specs.Prelude.{Option, Some, None}
 use Rattle.octets.specs.Options.{is_some}
 use Rattle.header.specs.Answers.{fields_from}
 use Rattle.address.specs.Address.{is_canonical}
@@ -25,9 +26,7 @@ use Rattle.keys.specs.Keys.{accepted, gossip_in}
 use Rattle.keys.specs.declared.Taken.{Taken}
 use Rattle.keys.specs.declared.Taken.TheVariants.{Value, NoValue}
 use Rattle.keys.specs.declared.Valid.{Valid}
-use Rattle.keys.specs.declared.Valid.TheVariants.{Key, NoMore}
 use Rattle.keys.specs.declared.Heard.{Heard}
-use Rattle.keys.specs.declared.Heard.TheVariants.{Next, Over}
 
 -- The fields of the block are readable from `at` on, none of the kind stands from `last` on, and the text has room for a value.
 pub record Takes (kind : Kind) (block : List ℕ) (at last : ℕ) (text : List ℕ) : Type 0 where
@@ -58,16 +57,18 @@ pub record Seeks (limit : ℕ) (block : List ℕ) (at last : ℕ) (sender text k
   pub canonical : is_canonical sender ≡ true
   pub key_room : limit ≤ length key
 
--- The first valid field has this preference, its key opens the lent memory, and the rest stand from e on.
-pub record ValidAt (limit : ℕ) (sender s : List ℕ) (at : ℕ) (key : List ℕ) (m : Bool) (n e : ℕ) : Type 0 where
-  pub first : valid_from limit sender s at ≡ record { address = sender; is_mutual = m; key = take n key } ∷ valid_from limit sender s e
-  pub opens : Opens limit key n
-  pub readable : is_some (fields_from s e) ≡ true
+-- The first valid field has this preference, its key opens the lent memory, and the rest stand behind it.
+pub record ValidAt (limit : ℕ) (sender s : List ℕ) (at : ℕ) (key : List ℕ) (r : Valid) : Type 0 where
+  pub first :
+      valid_from limit sender s at
+      ≡ record { address = sender; is_mutual = r.own.«mutual»; key = take r.own.length key } ∷ valid_from limit sender s r.end
+  pub opens : Opens limit key r.own.length
+  pub readable : is_some (fields_from s r.end) ≡ true
 
 -- the answer: the first valid field, or that there is none
-unfoldable pub ValidAs : ℕ → List ℕ → List ℕ → ℕ → List ℕ → Valid → Type 0
-ValidAs limit sender s at key (Key m n e) = ValidAt limit sender s at key m n e
-ValidAs limit sender s at key NoMore = valid_from limit sender s at ≡ []
+unfoldable pub ValidAs : ℕ → List ℕ → List ℕ → ℕ → List ℕ → Option Valid → Type 0
+ValidAs limit sender s at key (Some r) = ValidAt limit sender s at key r
+ValidAs limit sender s at key None = valid_from limit sender s at ≡ []
 
 -- The block was surveyed, the sender's address is canonical, and there is room for a value, for a key, and for another one.
 pub record Weighs (limit : ℕ) (block : List ℕ) (survey : Survey) (sender text key : List ℕ) : Type 0 where
@@ -93,17 +94,19 @@ pub record Hears (limit : ℕ) (payload : List ℕ) (at : ℕ) (recipients tags 
   pub room_for_address : address_room ≤ length address
   pub key_room : limit ≤ length key
 
--- The first accepted gossip has this address, in canonical form, and this key, which open the two lent memories, and the rest stand from e on.
-pub record HeardAt (limit : ℕ) (recipients : List (List ℕ)) (payload : List ℕ) (at : ℕ) (address key : List ℕ) (e n k : ℕ) : Type 0 where
-  pub first : gossip_from limit recipients payload at ≡ record { address = take n address; key = take k key } ∷ gossip_from limit recipients payload e
-  pub canonical : is_canonical (take n address) ≡ true
-  pub address_within : n ≤ length address
-  pub opens : Opens limit key k
-  pub later : at < e
-  pub upto : e ≤ length payload
-  pub readable : is_some (fields_from payload e) ≡ true
+-- The first accepted gossip has this address, in canonical form, and this key, which open the two lent memories, and the rest stand behind it.
+pub record HeardAt (limit : ℕ) (recipients : List (List ℕ)) (payload : List ℕ) (at : ℕ) (address key : List ℕ) (r : Heard) : Type 0 where
+  pub first :
+      gossip_from limit recipients payload at
+      ≡ record { address = take r.gossip.address address; key = take r.gossip.key key } ∷ gossip_from limit recipients payload r.end
+  pub canonical : is_canonical (take r.gossip.address address) ≡ true
+  pub address_within : r.gossip.address ≤ length address
+  pub opens : Opens limit key r.gossip.key
+  pub later : at < r.end
+  pub upto : r.end ≤ length payload
+  pub readable : is_some (fields_from payload r.end) ≡ true
 
 -- the answer: the first accepted gossip, or that there is none
-unfoldable pub HeardAs : ℕ → List (List ℕ) → List ℕ → ℕ → List ℕ → List ℕ → Heard → Type 0
-HeardAs limit recipients payload at address key (Next e n k) = HeardAt limit recipients payload at address key e n k
-HeardAs limit recipients payload at address key Over = gossip_from limit recipients payload at ≡ []
+unfoldable pub HeardAs : ℕ → List (List ℕ) → List ℕ → ℕ → List ℕ → List ℕ → Option Heard → Type 0
+HeardAs limit recipients payload at address key (Some r) = HeardAt limit recipients payload at address key r
+HeardAs limit recipients payload at address key None = gossip_from limit recipients payload at ≡ []

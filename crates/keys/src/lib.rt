@@ -12,7 +12,7 @@ ghost use Rattle.keys.specs.Keys.{counted_in};
 ghost use Rattle.keys.specs.Answers.{Takes, TakenAs, Seeks, ValidAs, Weighs, Hears, HeardAs};
 
 use fields::{Kind, Survey};
-use keyowner::{Accepted, Own};
+use keyowner::{Accepted, OwnKey};
 use slots::Slot;
 
 // The value of a field, unfolded: its length, and where the next line begins.
@@ -22,26 +22,18 @@ enum Taken {
     NoValue,
 }
 
-// A valid Autocrypt field: its preference, the length of its key, and where the next line begins.
+// A valid Autocrypt field: what it brings, and where the next line begins.
 #[derive(Clone, Copy)]
-pub enum Valid {
-    Key {
-        mutual: bool,
-        length: usize,
-        end: usize,
-    },
-    NoMore,
+struct Valid {
+    own: OwnKey,
+    end: usize,
 }
 
-// Accepted gossip: where the next line begins, and the lengths of its address and its key.
+// Accepted gossip: what it brings, and where the next line begins.
 #[derive(Clone, Copy)]
-pub enum Heard {
-    Next {
-        end: usize,
-        address: usize,
-        key: usize,
-    },
-    Over,
+pub struct Heard {
+    pub gossip: Accepted,
+    pub end: usize,
 }
 
 // The value of the first field of the kind from the place `at` on, unfolded to the front of the text.
@@ -61,6 +53,7 @@ fn take_value(block: &[u8], at: usize, last: usize, kind: Kind, text: &mut [u8])
 
 // The first Autocrypt field from the place `at` on that is valid for the sender (F12), its key written to the front of
 // `key`.
+#[tactic(auto, using(crate::proofs::ValidFields::trying))]
 fn next_valid(
     block: &[u8],
     limit: usize,
@@ -69,32 +62,23 @@ fn next_valid(
     sender: &[u8],
     text: &mut [u8],
     key: &mut [u8],
-) -> Valid
+) -> Option<Valid>
     requires { Seeks limit block.now at last sender.now text.old key.old }
     ensures { ValidAs limit sender.now block.now at key.new result }
 {
     let mut place = at;
-    loop {
-        match take_value(block, place, last, Kind::Autocrypt, text) {
-            Taken::Value { length: n, end } => {
-                match keyowner::valid_for(&text[0..n], limit, sender, key) {
-                    Own::Key { mutual, length } => {
-                        return Valid::Key {
-                            mutual,
-                            length,
-                            end,
-                        };
-                    }
-                    Own::NoKey => place = end,
-                }
-            }
-            Taken::NoValue => return Valid::NoMore,
+    while let Taken::Value { length, end } = take_value(block, place, last, Kind::Autocrypt, text) {
+        if let Some(own) = keyowner::valid_for(&text[0..length], limit, sender, key) {
+            return Some(Valid { own, end });
         }
+        place = end;
     }
+    None
 }
 
 // The Autocrypt field that counts, its key written to the front of `key`: there is a valid one and no second (F13). The
 // key of a second one is read into spare memory, which has room for the longest key of a table.
+#[tactic(auto, using(crate::proofs::Counting::counting))]
 pub fn counted_field(
     block: &[u8],
     limit: usize,
@@ -102,34 +86,23 @@ pub fn counted_field(
     sender: &[u8],
     text: &mut [u8],
     key: &mut [u8],
-) -> Own
+) -> Option<OwnKey>
     requires { Weighs limit block.now survey sender.now text.old key.old }
     ensures { OwnAs limit sender.now (counted_in limit (fields_in block.now) sender.now) key.new result }
 {
     let span = survey.autocrypt;
     let last = span.last;
-    match next_valid(block, limit, span.first, last, sender, text, key) {
-        Valid::Key {
-            mutual,
-            length,
-            end,
-        } => {
-            let mut spare = [0u8; Slot::KEY_LIMIT];
-            match next_valid(block, limit, end, last, sender, text, &mut spare) {
-                Valid::Key {
-                    mutual: _,
-                    length: _,
-                    end: _,
-                } => Own::NoKey,
-                Valid::NoMore => Own::Key { mutual, length },
-            }
-        }
-        Valid::NoMore => Own::NoKey,
+    let first = next_valid(block, limit, span.first, last, sender, text, key)?;
+    let mut spare = [0u8; Slot::KEY_LIMIT];
+    match next_valid(block, limit, first.end, last, sender, text, &mut spare) {
+        Some(_) => None,
+        None => Some(first.own),
     }
 }
 
 // The next accepted gossip of the payload from the place `at` on (G5), its address and key written to the front of
 // `address` and `key`.
+#[tactic(auto, using(crate::proofs::GossipFields::hearing))]
 pub fn next_gossip(
     payload: &[u8],
     limit: usize,
@@ -140,29 +113,20 @@ pub fn next_gossip(
     text: &mut [u8],
     address: &mut [u8],
     key: &mut [u8],
-) -> Heard
+) -> Option<Heard>
     requires { Hears limit payload.now at recipients.now tags.now places.now text.old address.old key.old }
     ensures { HeardAs limit (unrolled recipients.now) payload.now at address.new key.new result }
 {
     let mut place = at;
-    loop {
-        match take_value(payload, place, payload.len(), Kind::AutocryptGossip, text) {
-            Taken::Value { length: n, end } => {
-                match keyowner::accept(&text[0..n], limit, recipients, tags, places, address, key) {
-                    Accepted::Gossip {
-                        address: length,
-                        key: octets,
-                    } => {
-                        return Heard::Next {
-                            end,
-                            address: length,
-                            key: octets,
-                        };
-                    }
-                    Accepted::NotAccepted => place = end,
-                }
-            }
-            Taken::NoValue => return Heard::Over,
+    let kind = Kind::AutocryptGossip;
+    while let Taken::Value { length, end } = take_value(payload, place, payload.len(), kind, text) {
+        let value = &text[0..length];
+        if let Some(gossip) = keyowner::accept(
+            value, limit, recipients, tags, places, address, key,
+        ) {
+            return Some(Heard { gossip, end });
         }
+        place = end;
     }
+    None
 }

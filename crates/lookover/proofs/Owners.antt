@@ -6,6 +6,7 @@ use Prim.Native.Nat.{ℕ, ◌-◌}
 use mathlib.Core.Path.{◌≡◌, ap, ◌∙◌}
 use mathlib.Core.Bool.{Bool, true, false}
 use mathlib.Core.List.{List}
+use Rattle.std.specs.Prelude.{Option, Some, None}
 use borrow.Author.Rules.{rules}
 use lib.ListN.{take, drop}
 use Rattle.octets.specs.Octets.{same_octets}
@@ -14,35 +15,34 @@ use Rattle.address.specs.Answers.{Fronts}
 use Rattle.address.proofs.Spelling.{plain_is_canonical}
 use Rattle.address.proofs.Forming.{fronts_end, fronts_count}
 use Rattle.addresslist.specs.List.{among}
-use Rattle.attributes.specs.declared.AddressAt.{AddressAt}
-use Rattle.attributes.specs.declared.AddressAt.TheVariants.{Unseen, At}
+use Rattle.attributes.specs.declared.Bounds.{Bounds}
 use Rattle.asked.specs.Answers.{NamedAs}
 use Rattle.asked.proofs.Addressed.{named_order, named_upto, named_plain, named_is, named_unseen}
 use Rattle.lookover.specs.Looking.{is_just, names_only, is_one_of, lists}
 
-module _ (s : List ℕ) (r : AddressAt) (h : NamedAs s r) where
+module _ (s : List ℕ) (r : Option Bounds) (h : NamedAs s r) where
   -- the sender
   module _ (sender : List ℕ) where
     pub sole_address :
-        (from to : ℕ) → r ≡ At from to → (b : Bool) → b ≡ same_octets (canonical (take (to - from) (drop from s))) sender
+        (at : Bounds) → r ≡ Some at → (b : Bool) → b ≡ same_octets (canonical (take (at.to - at.from) (drop at.from s))) sender
         → b ≡ names_only sender s
     unfolding names_only is_just
-    sole_address from to q b e = rw (named_is s r h from to q) e
+    sole_address at q b e = rw (named_is s r h at q) e
 
-    pub sole_nobody : r ≡ Unseen → false ≡ names_only sender s
+    pub sole_nobody : r ≡ None → false ≡ names_only sender s
     unfolding names_only is_just
     sole_nobody q = rw (named_unseen s r h q)
 
   -- the recipients: the form is made at the front of a buffer
-  module _ (from to : ℕ) (q : r ≡ At from to) (form : List ℕ) (n : ℕ) (f : Fronts (canonical (take (to - from) (drop from s))) form n) where
+  module _ (at : Bounds) (q : r ≡ Some at) (form : List ℕ) (n : ℕ) (f : Fronts (canonical (take (at.to - at.from) (drop at.from s))) form n) where
     pub listed_form : is_canonical (take n form) ≡ true
-    listed_form = rw f.there (plain_is_canonical (take (to - from) (drop from s)) (named_plain s r h from to q))
+    listed_form = rw f.there (plain_is_canonical (take (at.to - at.from) (drop at.from s)) (named_plain s r h at q))
 
     pub listed_address : (recipients : List (List ℕ)) (b : Bool) → b ≡ among (take n form) recipients → b ≡ lists recipients s
     unfolding lists is_one_of
-    listed_address recipients b e = rw (named_is s r h from to q) (e ∙ ap (λ (x : List ℕ). among x recipients) f.there)
+    listed_address recipients b e = rw (named_is s r h at q) (e ∙ ap (λ (x : List ℕ). among x recipients) f.there)
 
-  pub listed_nobody : (recipients : List (List ℕ)) → r ≡ Unseen → false ≡ lists recipients s
+  pub listed_nobody : (recipients : List (List ℕ)) → r ≡ None → false ≡ lists recipients s
   unfolding lists is_one_of
   listed_nobody recipients q = rw (named_unseen s r h q)
 

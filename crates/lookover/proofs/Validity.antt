@@ -13,12 +13,14 @@ use mathlib.Core.Path.{◌≡◌, refl, sym, ap, ◌∙◌}
 use mathlib.Core.Bool.{Bool, true, false, not, cond, false≢true, and-true, and-false}
 use mathlib.Core.List.{List, [], ◌∷◌}
 use Rattle.std.specs.Prelude.{Option, Some, None}
+use Rattle.std.specs.Option.{is_some as is_there}
 use native.Mathlib.Omega.{arith}
 use lib.Dec.{eqb}
 use lib.ListN.{take}
 use Rattle.octets.specs.Octets.{ascii, same_octets, starts_with}
 use Rattle.octets.specs.Finding.{holds}
 use Rattle.octets.specs.Options.{is_some, only_one}
+use Rattle.octets.proofs.Options.{by_option}
 use Rattle.octets.proofs.Tests.{by_test}
 use Rattle.octets.proofs.Comparing.{same_true, same_refl}
 use Rattle.names.specs.Names as names
@@ -33,11 +35,11 @@ use Rattle.keyfield.specs.Field.{Said, mutual_by, said_with, if_last, said_from,
 use Rattle.keyfield.proofs.Fields.{said_plain, key_parts, FieldOf, field_parts}
 use Rattle.keyfield.proofs.Counted.{valid_is}
 use Rattle.keyowner.specs.Answers.{OwnAt, OwnAs}
-use Rattle.keyowner.specs.declared.Own.{Own}
-use Rattle.keyowner.specs.declared.Own.TheVariants.{Key, NoKey}
+use Rattle.keyowner.specs.declared.OwnKey.{OwnKey}
 use Rattle.asked.specs.Asked.{is_empty, is_other, is_unknown, is_name, is_called, value_of, values_called, saying, occurs, named_by, named, last_of, is_base64, has_key_data}
 use Rattle.asked.specs.declared.Called.{Called}
 use Rattle.asked.specs.declared.Called.TheVariants.{Addr, PreferEncrypt, Keydata, Unknown}
+use Rattle.faults.specs.Faults.{no_flaws}
 use Rattle.faults.specs.declared.Flaws.{Flaws}
 use Rattle.lookover.specs.Looking.{is_valid, is_just, names_only, own_flaws}
 use Rattle.lookover.specs.Answers.{JudgedAs}
@@ -320,22 +322,52 @@ module _ (sender v : List ℕ) where
     unfolding own_flaws
     own_spoiled seen = rw (← valid_false, and-false)
 
--- the same by what `keyowner::valid_for` answers, as the code has it
-module _ (sender v key : List ℕ) (seen : Bool) (o : Own) (a : OwnAs key_limit sender (valid_for key_limit sender v) key o) where
-  pub judged_valid : (m : Bool) (n : ℕ) → o ≡ Key m n
+-- the same by what `keyowner::valid_for` answers, as the code has it; w has no flaws
+module _ (sender v key : List ℕ) (seen : Bool) (o : Option OwnKey) (a : OwnAs key_limit sender (valid_for key_limit sender v) key o)
+    (b : Bool) (i : b ≡ is_there o) (w : Flaws) (z : w ≡ no_flaws) where
+  pub judged_valid :
+      b ≡ true
       → JudgedAs sender seen v
-      (record { flaws = flaws_by seen false false false; valid = true })
-  unfolding OwnAs
-  judged_valid m n q =
-      let h : OwnAt key_limit sender (valid_for key_limit sender v) key m n = rw q at a in
-      let f : Field = record { address = sender; is_mutual = m; key = take n key } in
-      record { flawed = own_valid sender v f h.is seen; validly = valid_true sender v f h.is }
+      (record {
+        flaws = record {
+          more_valid = seen;
+          wrong_address = w.wrong_address;
+          unknown_attribute = w.unknown_attribute;
+          key_data = w.key_data;
+          gossip_outside = w.gossip_outside;
+          gossip_unlisted = w.gossip_unlisted;
+          gossip_preference = w.gossip_preference;
+        };
+        valid = true;
+      })
+  unfolding OwnAs no_flaws
+  judged_valid t =
+      by_option o
+      (λ q. absurd (false≢true (sym (rw q at i) ∙ t)))
+      (λ k q.
+      let h : OwnAt key_limit sender (valid_for key_limit sender v) key k = rw q at a in
+      let f : Field = record { address = sender; is_mutual = k.«mutual»; key = take k.length key } in
+      record { flawed = rw z (own_valid sender v f h.is seen); validly = valid_true sender v f h.is })
 
   pub judged_spoiled :
-      o ≡ NoKey → (n u k : Bool) → n ≡ names_only sender v → u ≡ occurs Unknown v → k ≡ has_key_data v
+      b ≡ false → (n u k : Bool) → n ≡ names_only sender v → u ≡ occurs Unknown v → k ≡ has_key_data v
       → JudgedAs sender seen v
-      (record { flaws = flaws_by false (not n) u (not k); valid = false })
-  unfolding OwnAs
-  judged_spoiled q n u k en eu ek =
+      (record {
+        flaws = record {
+          more_valid = w.more_valid;
+          wrong_address = not n;
+          unknown_attribute = u;
+          key_data = not k;
+          gossip_outside = w.gossip_outside;
+          gossip_unlisted = w.gossip_unlisted;
+          gossip_preference = w.gossip_preference;
+        };
+        valid = false;
+      })
+  unfolding OwnAs no_flaws
+  judged_spoiled t n u k en eu ek =
+      by_option o
+      (λ q.
       let h : valid_for key_limit sender v ≡ None = rw q at a in
-      record { flawed = rw (en, eu, ek) (own_spoiled sender v h seen); validly = valid_false sender v h }
+      record { flawed = rw (z, en, eu, ek) (own_spoiled sender v h seen); validly = valid_false sender v h })
+      (λ r q. absurd (false≢true (sym t ∙ rw q at i)))

@@ -5,11 +5,12 @@
 --     Walked                                the faults of the fields before the place `start` are written
 --     look_judges, look_begin               what one field asks for, and the walk's begin
 --     look_kept, look_room, look_place      what it needs on its way: the list's length, room in it, a place that fits
---     look_over, look_broken                its end
+--     look_end                              its end
 --     look_next                             its step
 --     the ruleset                           walking, for `look_over`
 -- Assumes nothing.
 use Prim.Native.Nat.{ℕ, ◌+◌, ◌-◌, ◌*◌, ◌^◌, ◌<◌, ◌≤◌}
+use mathlib.Core.Logic.{◌⊎◌, ⊎_elim}
 use mathlib.Core.Path.{◌≡◌, refl, sym, ap, ◌∙◌}
 use mathlib.Core.Bool.{Bool, true, false, ◌||◌, or-false, or_assoc}
 use mathlib.Core.List.{List, [], ◌∷◌, ◌++◌, append_assoc, append-nil}
@@ -107,7 +108,7 @@ module _ (side : Side) (sender : List ℕ) (recipients : List (List ℕ)) (s d :
   look_place = omega (arith, h.placed, h.upto, h.fits)
 
   module _ (r : Step) (t : r ≡ step_at s start) where
-    pub look_over : r ≡ Over → LookedAs side sender recipients s d at list (record { end = to; valid = seen })
+    look_over : r ≡ Over → LookedAs side sender recipients s d at list (record { end = to; valid = seen })
     unfolding faults_from valid_behind or_else
     look_over q =
         let none_left : left s start ≡ [] = ap (or_else []) (from_over s start r t q) in
@@ -118,8 +119,11 @@ module _ (side : Side) (sender : List ℕ) (recipients : List (List ℕ)) (s d :
           validly = sym (or-false seen) ∙ sym (rw none_left at h.validly);
         }
 
-    pub look_broken : r ≡ Broken → LookedAs side sender recipients s d at list (record { end = to; valid = seen })
+    look_broken : r ≡ Broken → LookedAs side sender recipients s d at list (record { end = to; valid = seen })
     look_broken q = absurd (clear_whole s start r h.clear t q)
+
+    pub look_end : (r ≡ Over) ⊎ (r ≡ Broken) → LookedAs side sender recipients s d at list (record { end = to; valid = seen })
+    look_end = ⊎_elim look_over look_broken
 
 -- The field that stands there was judged, and the numbers of its faults are written. Each premise tells what the next ones speak of, as `search` asks it.
 module _ (side : Side) (sender : List ℕ) (recipients : List (List ℕ)) (s d : List ℕ) (at : ℕ) (r : Step) (n v e : ℕ) (q : r ≡ Field n v e)
@@ -173,4 +177,4 @@ module _ (side : Side) (sender : List ℕ) (recipients : List (List ℕ)) (s d :
       })
 
 pub ruleset walking =
-    (look_judges, look_begin, look_kept, look_room, look_place, look_over, look_broken, look_next, name_from, name_upto, value_order, value_upto, field_less, rules)
+    (look_judges, look_begin, look_kept, look_room, look_place, look_end, look_next, name_from, name_upto, value_order, value_upto, field_less, rules)

@@ -9,7 +9,7 @@ use Prim.Native.Nat.{ℕ, ◌≤◌}
 use mathlib.Core.Path.{◌≡◌, refl, sym, ◌∙◌}
 use mathlib.Core.Bool.{true}
 use mathlib.Core.List.{List}
-use Rattle.std.specs.Prelude.{Option}
+use Rattle.std.specs.Prelude.{Option, Some, None}
 use native.Mathlib.Omega.{arith}
 use borrow.Author.Rules.{rules}
 use lib.ListN.{length}
@@ -27,8 +27,7 @@ use Rattle.outer.specs.Outer.{said_date, date_in, recipients_in}
 use Rattle.outer.proofs.Senders.{sender_canonical}
 use Rattle.outer.proofs.Dates.{date_effective, date_in_range}
 use Rattle.keyowner.specs.Answers.{OwnAs}
-use Rattle.keyowner.specs.declared.Own.{Own}
-use Rattle.keyowner.specs.declared.Own.TheVariants.{Key, NoKey}
+use Rattle.keyowner.specs.declared.OwnKey.{OwnKey}
 use Rattle.keys.specs.Keys.{counted_in, gossip_in}
 use Rattle.message.specs.Message.{direct_by, message_by}
 use Rattle.message.specs.Lent.{Sent}
@@ -38,22 +37,22 @@ pub block_short : (s : List ℕ) → readable s ≡ true → length s ≤ limit
 block_short s h = clear_fits s true (sym h) refl
 
 module _ (most : ℕ) (sender : List ℕ) (field : Option Field) (key : List ℕ) where
-  pub own_in : most ≤ key_limit → (o : Own) → OwnAs most sender field key o → OwnIn key o
+  pub own_in : most ≤ key_limit → (o : Option OwnKey) → OwnAs most sender field key o → OwnIn key o
   unfolding OwnAs OwnIn
-  own_in l (Key m n) h = record { some_octet = h.opens.some_octet; most = omega (arith, h.opens.most); within = h.opens.within }
-  own_in l NoKey h = tt
+  own_in l (Some r) h = record { some_octet = h.opens.some_octet; most = omega (arith, h.opens.most); within = h.opens.within }
+  own_in l None h = tt
 
-  pub own_direct : (date : ℕ) (o : Own) → OwnAs most sender field key o → direct_from date key o ≡ direct_by date field
+  pub own_direct : (date : ℕ) (o : Option OwnKey) → OwnAs most sender field key o → direct_from date key o ≡ direct_by date field
   unfolding OwnAs direct_from direct_by
-  own_direct date (Key m n) h = rw h.is
-  own_direct date NoKey h = rw h
+  own_direct date (Some r) h = rw h.is
+  own_direct date None h = rw h
 
 module _ (most receipt : ℕ) (outer : List ℕ) (survey : Survey) (text sender old : List ℕ) (h : Sent most receipt outer survey text sender old) where
   pub sent_canonical : is_canonical sender ≡ true
   sent_canonical = sender_canonical (fields_in outer) sender h.sent
 
   module _ (r : Dated) (said : r ≡ dated_of (said_date (fields_in outer))) (date : ℕ) (e : date ≡ effective_date (option_of r) receipt)
-      (key : List ℕ) (own : Own) (o : OwnAs most sender (counted_in most (fields_in outer) sender) key own) where
+      (key : List ℕ) (own : Option OwnKey) (o : OwnAs most sender (counted_in most (fields_in outer) sender) key own) where
     dated : date ≡ date_in (fields_in outer) receipt
     dated = e ∙ date_effective (fields_in outer) receipt r said
 

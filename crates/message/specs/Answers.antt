@@ -20,8 +20,7 @@ use Rattle.slots.specs.Slot.{key_limit}
 use Rattle.heads.specs.Entry.{Direct}
 use Rattle.update.specs.Message.{Gossiped, Message}
 use Rattle.outer.specs.Outer.{recipients_in}
-use Rattle.keyowner.specs.declared.Own.{Own}
-use Rattle.keyowner.specs.declared.Own.TheVariants.{Key, NoKey}
+use Rattle.keyowner.specs.declared.OwnKey.{OwnKey}
 use Rattle.keys.specs.Keys.{gossip_in}
 use Rattle.message.specs.Message.{payload_in, message_rows, message_by, message_of}
 use Rattle.message.specs.declared.Brought.{Brought}
@@ -55,9 +54,9 @@ JudgedAs reported payload g Passed = Passes reported payload g []
 JudgedAs reported payload g Searched = IsSearched reported payload g
 
 -- the direct half of the field that was found, whose key opens the lent memory
-unfoldable pub direct_from : ℕ → List ℕ → Own → Option Direct
-direct_from date key NoKey = None
-direct_from date key (Key m n) = Some (record { timestamp = date; key = take n key; «mutual» = m })
+unfoldable pub direct_from : ℕ → List ℕ → Option OwnKey → Option Direct
+direct_from date key None = None
+direct_from date key (Some r) = Some (record { timestamp = date; key = take r.length key; «mutual» = r.«mutual» })
 
 -- the message that an answer brings, by the sender and the key in lent memory
 unfoldable pub mail_of : List ℕ → List ℕ → Brought → List Gossiped → Message
@@ -70,9 +69,9 @@ pub record KeyIn (key : List ℕ) (n : ℕ) : Type 0 where
   pub within : n ≤ length key
 
 -- the field that counts has such a key, if there is one
-unfoldable pub OwnIn : List ℕ → Own → Type 0
-OwnIn key (Key m n) = KeyIn key n
-OwnIn key NoKey = Unit
+unfoldable pub OwnIn : List ℕ → Option OwnKey → Type 0
+OwnIn key None = Unit
+OwnIn key (Some r) = KeyIn key r.length
 
 -- what an answer brings can be put into a table: a canonical sender, a date that is a time, and a key of 1 to 2,048 octets
 pub record Ready (sender key : List ℕ) (b : Brought) : Type 0 where

@@ -13,7 +13,7 @@ ghost use Rattle.message.specs.Lent.{Lent, Walked, Opened, Sent};
 
 use fields::{Survey, Surveyed};
 use heads::Head;
-use keyowner::Own;
+use keyowner::OwnKey;
 use outer::Sender;
 use refusals::Refusal;
 use settings::Settings;
@@ -24,7 +24,7 @@ use settings::Settings;
 pub struct Brought {
     pub sender: usize,
     pub date: u64,
-    pub own: Own,
+    pub own: Option<OwnKey>,
 }
 
 // A message without a payload in which gossip is looked for; one with such a payload, and the survey that tells where its

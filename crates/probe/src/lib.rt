@@ -449,18 +449,16 @@ pub extern "C" fn probe_read_field(value: &[u8], key: &mut [u8], told: &mut [u64
     if told.len() < 4 {
         return TOO_FEW;
     }
-    match keyfield::read_field(value, limit_for(key.len()), key) {
-        keyfield::Read::Valid {
-            from,
-            to,
-            mutual,
-            key,
-        } => {
-            let parts = [from as u64, to as u64, key as u64, mutual as u64];
-            tell(told, &parts, 0)
-        }
-        keyfield::Read::Spoiled => 1,
-    }
+    let Some(said) = keyfield::read_field(value, limit_for(key.len()), key) else {
+        return 1;
+    };
+    let parts = [
+        said.address.from as u64,
+        said.address.to as u64,
+        said.key as u64,
+        said.mutual as u64,
+    ];
+    tell(told, &parts, 0)
 }
 
 // How many octets the listing program prints; they open `out`.

@@ -8,7 +8,9 @@ use Prim.Native.Nat.{ℕ, ◌+◌, ◌-◌, ◌≤◌}
 use mathlib.Core.Path.{◌≡◌, sym, ap, ◌∙◌}
 use mathlib.Core.Bool.{Bool, true, false, not}
 use mathlib.Core.List.{List, [], ◌∷◌}
+use Rattle.std.specs.Prelude.{Option, Some, None}
 use native.Mathlib.Omega.{arith}
+use borrow.Author.Rules.{rules}
 use lib.ListN.{length, take, drop, length-append}
 use Rattle.octets.specs.Tests.{every}
 use Rattle.octets.proofs.Every.{every_append}
@@ -26,8 +28,6 @@ use Rattle.roll.specs.declared.Rolled.{Rolled}
 use Rattle.roll.proofs.Growing.{begin_none, kept_begin, kept_list, adds_one}
 use Rattle.room.specs.Room.{is_new, with_new}
 use Rattle.room.specs.Counting.{Asks, Rolls, Meets, IsTooMany, MetAs, RollsAs}
-use Rattle.room.specs.declared.Met.{Met}
-use Rattle.room.specs.declared.Met.TheVariants.{Seated, Full}
 
 module _ (t a : List ℕ) (f : Found) (e : f ≡ found t a) where
   pub told_found : (old : List (List ℕ)) (i : ℕ) → f ≡ At i → false ≡ is_new t old a
@@ -68,7 +68,7 @@ module _ (t tags : List ℕ) (free : ℕ) (known numbers spots : List ℕ) (at :
   pub meet_shared : at.many ≤ free
   meet_shared = m.rolls.shared
 
-  pub meet_stays : RollsAs t free known numbers spots (Seated at)
+  pub meet_stays : RollsAs t free known numbers spots (Some at)
   unfolding RollsAs
   meet_stays = m.rolls
 
@@ -87,7 +87,7 @@ module _ (t tags : List ℕ) (free : ℕ) (known numbers spots : List ℕ) (at :
 
     pub meet_grown :
         (out outs places : List ℕ) (r : Rolled) → Grew known at (a ∷ []) out r → Kept out outs places r → length out ≡ length known
-        → length outs ≡ length numbers → length places ≡ length spots → RollsAs t free out outs places (Seated r)
+        → length outs ≡ length numbers → length places ≡ length spots → RollsAs t free out outs places (Some r)
     unfolding RollsAs every
     meet_grown out outs places r w k l n o =
         record {
@@ -110,12 +110,12 @@ module _ (t tags : List ℕ) (free : ℕ) (known numbers spots : List ℕ) (at :
         }
 
   module _ (b : Bool) (e : b ≡ is_new t (in_roll at known) a) where
-    pub meet_known : b ≡ false → MetAs t (in_roll at known) a known (Seated at)
+    pub meet_known : b ≡ false → MetAs t (in_roll at known) a known (Some at)
     unfolding MetAs with_new
     meet_known y = rw (with_new, ← e, y)
 
     module _ (y : b ≡ true) where
-      pub meet_full : free - at.many ≡ 0 → (out : List ℕ) → MetAs t (in_roll at known) a out Full
+      pub meet_full : free - at.many ≡ 0 → (out : List ℕ) → MetAs t (in_roll at known) a out None
       unfolding MetAs
       meet_full g out =
           record {
@@ -123,26 +123,29 @@ module _ (t tags : List ℕ) (free : ℕ) (known numbers spots : List ℕ) (at :
             full = omega (arith, g, m.rolls.shared, m.rolls.counted, m.rolls.kept.count);
           }
 
-      pub meet_added : (out : List ℕ) (r : Rolled) → Grew known at (a ∷ []) out r → MetAs t (in_roll at known) a out (Seated r)
+      pub meet_added : (out : List ℕ) (r : Rolled) → Grew known at (a ∷ []) out r → MetAs t (in_roll at known) a out (Some r)
       unfolding MetAs with_new
       meet_added out r w = rw (with_new, ← e, y) w.grown
 
-pub meet_none : (t : List ℕ) (free : ℕ) (known numbers spots : List ℕ) → RollsAs t free known numbers spots Full
+pub meet_none : (t : List ℕ) (free : ℕ) (known numbers spots : List ℕ) → RollsAs t free known numbers spots None
 unfolding RollsAs
 meet_none t free known numbers spots = tt
 
+pub ruleset meeting =
+    (meet_asks, meet_shared, meet_stays, meet_adds, meet_grown, meet_known, meet_full, meet_added, meet_none, rules)
+
 -- as a caller asks it of an answer m
-module _ (t : List ℕ) (old : List (List ℕ)) (a known : List ℕ) (m : Met) (p : MetAs t old a known m) where
-  pub met_list : (r : Rolled) → m ≡ Seated r → in_roll r known ≡ with_new t old a
+module _ (t : List ℕ) (old : List (List ℕ)) (a known : List ℕ) (m : Option Rolled) (p : MetAs t old a known m) where
+  pub met_list : (r : Rolled) → m ≡ Some r → in_roll r known ≡ with_new t old a
   unfolding MetAs
   met_list r q = rw q at p
 
-  pub met_full : m ≡ Full → IsTooMany t old a
+  pub met_full : m ≡ None → IsTooMany t old a
   unfolding MetAs
   met_full q = rw q at p
 
 pub met_rolls :
-    (t : List ℕ) (free : ℕ) (known numbers spots : List ℕ) (m : Met) → RollsAs t free known numbers spots m → (r : Rolled) → m ≡ Seated r
+    (t : List ℕ) (free : ℕ) (known numbers spots : List ℕ) (m : Option Rolled) → RollsAs t free known numbers spots m → (r : Rolled) → m ≡ Some r
     → Rolls t free known numbers spots r
 unfolding RollsAs
 met_rolls t free known numbers spots m p r q = rw q at p

@@ -7,6 +7,7 @@ use Prim.Native.Nat.{ℕ, ◌-◌, ◌<◌, ◌≤◌}
 use mathlib.Core.Path.{◌≡◌, refl, sym, ap, ◌∙◌}
 use mathlib.Core.Bool.{Bool, true, false}
 use mathlib.Core.List.{List, [], ◌∷◌}
+use Rattle.std.specs.Prelude.{Option, Some, None}
 use native.Mathlib.Omega.{arith}
 use native.Mathlib.Nat.{sub-zero}
 use borrow.Author.Rules.{rules}
@@ -26,12 +27,9 @@ use Rattle.update.specs.Message.{Gossiped, gossip_addresses, newcomers}
 use Rattle.fields.proofs.Values.{block_begin}
 use Rattle.keys.specs.Answers.{gossip_from, Hears, HeardAt, HeardAs}
 use Rattle.keys.specs.declared.Heard.{Heard}
-use Rattle.keys.specs.declared.Heard.TheVariants.{Next, Over}
 use Rattle.keys.proofs.GossipFields.{gossip_all, heard_at, heard_less, heard_over}
 use Rattle.room.specs.Room.{gossiped_in, room_beside}
 use Rattle.room.specs.Counting.{Rolls, Meets, MetAs, RollsAs, Seats, Seeks}
-use Rattle.room.specs.declared.Met.{Met}
-use Rattle.room.specs.declared.Met.TheVariants.{Seated, Full}
 use Rattle.room.proofs.Beside.{beside_over, beside_known, beside_new, beside_one, beside_full}
 use Rattle.room.proofs.Meeting.{told_found, told_held, rolls_begin, met_list, met_full, met_rolls}
 
@@ -55,7 +53,7 @@ module _ (t tags : List ℕ) (free limit : ℕ) (payload recipients listed place
         so_far =
             ap (λ (gs : List Gossiped). room_beside t (in_roll at₀ known₀) (gossip_addresses gs))
             (sym (gossip_all limit (unrolled recipients) payload k.reads.readably));
-        rolls = met_rolls t free known₀ numbers₀ spots₀ (Seated at₀) k.rolls at₀ refl;
+        rolls = met_rolls t free known₀ numbers₀ spots₀ (Some at₀) k.rolls at₀ refl;
         clear = block_begin payload k.reads.readably;
       }
 
@@ -74,19 +72,19 @@ module _ (t tags : List ℕ) (free limit : ℕ) (payload recipients listed place
         }
 
     pub count_meets :
-        (address key : List ℕ) (r : Heard) → HeardAs limit (unrolled recipients) payload place address key r → (end n o : ℕ) → r ≡ Next end n o
-        → Meets t tags free known numbers spots at (take (n - 0) (drop 0 address))
-    count_meets address key r p end n o q =
+        (address key : List ℕ) (r : Option Heard) → HeardAs limit (unrolled recipients) payload place address key r → (w : Heard) → r ≡ Some w
+        → Meets t tags free known numbers spots at (take (w.gossip.address - 0) (drop 0 address))
+    count_meets address key r p w q =
         record {
           tagged = k.tagged;
           rolls = h.rolls;
-          canonical = rw sub-zero (heard_at limit (unrolled recipients) payload place address key r p end n o q).canonical;
+          canonical = rw sub-zero (heard_at limit (unrolled recipients) payload place address key r p w q).canonical;
         }
 
 module _ (t : List ℕ) (free limit : ℕ) (recipients payload : List ℕ) (old : List (List ℕ)) (known numbers spots : List ℕ) (at : Rolled) (place : ℕ)
-    (h : Counts t free limit recipients payload old known numbers spots at place) (address key : List ℕ) (r : Heard)
+    (h : Counts t free limit recipients payload old known numbers spots at place) (address key : List ℕ) (r : Option Heard)
     (p : HeardAs limit (unrolled recipients) payload place address key r) where
-  pub count_over : r ≡ Over → true ≡ room_beside t old (gossiped_in limit recipients payload)
+  pub count_over : r ≡ None → true ≡ room_beside t old (gossiped_in limit recipients payload)
   unfolding gossiped_from gossip_addresses
   count_over q =
       sym
@@ -95,21 +93,21 @@ module _ (t : List ℕ) (free limit : ℕ) (recipients payload : List ℕ) (old 
       (heard_over limit (unrolled recipients) payload place address key r p q)
       ∙ beside_over t (in_roll at known) (omega (arith, h.rolls.shared, h.rolls.counted, h.rolls.kept.count)))
 
-  module _ (end n o : ℕ) (q : r ≡ Next end n o) where
-    heard : HeardAt limit (unrolled recipients) payload place address key end n o
-    heard = heard_at limit (unrolled recipients) payload place address key r p end n o q
+  module _ (w : Heard) (q : r ≡ Some w) where
+    heard : HeardAt limit (unrolled recipients) payload place address key w
+    heard = heard_at limit (unrolled recipients) payload place address key r p w q
 
-    pub count_within : n ≤ length address
+    pub count_within : w.gossip.address ≤ length address
     count_within = heard.address_within
 
-    pub count_less : length payload - end < length payload - place
-    count_less = heard_less limit (unrolled recipients) payload place address key r p end n o q
+    pub count_less : length payload - w.end < length payload - place
+    count_less = heard_less limit (unrolled recipients) payload place address key r p w q
 
     abbrev a : List ℕ
-    a = take (n - 0) (drop 0 address)
+    a = take (w.gossip.address - 0) (drop 0 address)
 
     abbrev rest : List (List ℕ)
-    rest = gossiped_from limit recipients payload end
+    rest = gossiped_from limit recipients payload w.end
 
     stands : room_beside t old (gossiped_in limit recipients payload) ≡ room_beside t (in_roll at known) (a ∷ rest)
     unfolding gossiped_from gossip_addresses
@@ -118,21 +116,23 @@ module _ (t : List ℕ) (free limit : ℕ) (recipients payload : List ℕ) (old 
         ∙ ap (λ (gs : List Gossiped). room_beside t (in_roll at known) (gossip_addresses gs)) heard.first
         ∙ rw sub-zero
 
-    module _ (out : List ℕ) (m : Met) (met : MetAs t (in_roll at known) (take (n - 0) (drop 0 address)) out m) where
-      pub count_full : m ≡ Full → false ≡ room_beside t old (gossiped_in limit recipients payload)
+    module _ (out : List ℕ) (m : Option Rolled) (met : MetAs t (in_roll at known) (take (w.gossip.address - 0) (drop 0 address)) out m) where
+      pub count_full : m ≡ None → false ≡ room_beside t old (gossiped_in limit recipients payload)
       count_full y =
           let f = met_full t (in_roll at known) a out m met y in
           sym (stands ∙ beside_full t (in_roll at known) a rest f.new f.full)
 
       pub count_on :
-          (outs ends : List ℕ) → RollsAs t free out outs ends m → (behind : Rolled) → m ≡ Seated behind
-          → Counts t free limit recipients payload old out outs ends behind end
-      count_on outs ends w behind y =
+          (outs ends : List ℕ) → RollsAs t free out outs ends m → (behind : Rolled) → m ≡ Some behind
+          → Counts t free limit recipients payload old out outs ends behind w.end
+      count_on outs ends v behind y =
           record {
             so_far = stands ∙ beside_one t (in_roll at known) a rest ∙ rw (met_list t (in_roll at known) a out m met behind y);
-            rolls = met_rolls t free out outs ends m w behind y;
+            rolls = met_rolls t free out outs ends m v behind y;
             clear = heard.readable;
           }
+
+pub ruleset counting = (count_begin, count_hears, count_within, count_less, count_meets, count_over, count_full, count_on, rules)
 
 -- the sender first
 pub first_meets :
@@ -142,24 +142,24 @@ first_meets t tags limit sender payload recipients listed places text h free kno
     record { tagged = h.opened.tagged; rolls = k; canonical = h.canonical }
 
 pub first_rolls :
-    (t : List ℕ) (free : ℕ) (known numbers spots : List ℕ) (m : Met) → RollsAs t free known numbers spots m → (at : Rolled) → m ≡ Seated at
-    → RollsAs t free known numbers spots (Seated at)
+    (t : List ℕ) (free : ℕ) (known numbers spots : List ℕ) (m : Option Rolled) → RollsAs t free known numbers spots m → (at : Rolled) → m ≡ Some at
+    → RollsAs t free known numbers spots (Some at)
 first_rolls t free known numbers spots m w at q = rw q at w
 
-module _ (t known : List ℕ) (none : Rolled) (e : none.end ≡ 0) (sender out : List ℕ) (m : Met) (met : MetAs t (in_roll none known) sender out m)
+module _ (t known : List ℕ) (none : Rolled) (e : none.end ≡ 0) (sender out : List ℕ) (m : Option Rolled) (met : MetAs t (in_roll none known) sender out m)
     (gossiped : List (List ℕ)) where
-  pub first_full : m ≡ Full → false ≡ room_beside t [] (sender ∷ gossiped)
+  pub first_full : m ≡ None → false ≡ room_beside t [] (sender ∷ gossiped)
   first_full q =
       let f = met_full t (in_roll none known) sender out m met q in
       rw (← begin_none known none e) (sym (beside_full t (in_roll none known) sender gossiped f.new f.full))
 
-  pub first_seated : (at : Rolled) → m ≡ Seated at → (b : Bool) → b ≡ room_beside t (in_roll at out) gossiped → b ≡ room_beside t [] (sender ∷ gossiped)
+  pub first_seated : (at : Rolled) → m ≡ Some at → (b : Bool) → b ≡ room_beside t (in_roll at out) gossiped → b ≡ room_beside t [] (sender ∷ gossiped)
   first_seated at q b r =
       r
       ∙ rw (met_list t (in_roll none known) sender out m met at q, ← begin_none known none e)
       (sym (beside_one t (in_roll none known) sender gossiped))
 
-pub ruleset seating = (first_meets, rolls_begin, rules)
+pub ruleset seating = (first_meets, first_rolls, first_full, first_seated, rolls_begin, rules)
 
 -- the sender and no other
 module _ (t sender : List ℕ) (f : Found) (e : f ≡ found t sender) where

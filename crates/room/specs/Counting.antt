@@ -7,6 +7,7 @@
 --     Seats                     the gossip of a payload, beside those that are known to be new
 --     Seeks                     a message, with a table, its sender, its payload and the roll of its recipients
 use Rattle.std.specs.Prelude.{ℕ, ◌≤◌, ◌≡◌, true, List, length}
+use Rattle.std.specs.Prelude.{Option, Some, None}
 use Rattle.header.specs.Header.{readable}
 use Rattle.octets.specs.Tests.{every}
 use Rattle.address.specs.Address.{is_canonical}
@@ -17,8 +18,6 @@ use Rattle.roll.specs.Growing.{in_roll, Kept}
 use Rattle.roll.specs.Index.{Indexed}
 use Rattle.roll.specs.declared.Rolled.{Rolled}
 use Rattle.room.specs.Room.{is_new, with_new}
-use Rattle.room.specs.declared.Met.{Met}
-use Rattle.room.specs.declared.Met.TheVariants.{Seated, Full}
 
 pub record Reads (block text : List ℕ) : Type 0 where
   pub readably : readable block ≡ true
@@ -52,20 +51,20 @@ pub record IsTooMany (t : List ℕ) (old : List (List ℕ)) (a : List ℕ) : Typ
   pub full : length old ≡ free_count t
 
 -- what comes of an address a, by those that were known to be new before it and by the roll as it is then
-unfoldable pub MetAs : List ℕ → List (List ℕ) → List ℕ → List ℕ → Met → Type 0
-MetAs t old a known (Seated at) = in_roll at known ≡ with_new t old a
-MetAs t old a known Full = IsTooMany t old a
+unfoldable pub MetAs : List ℕ → List (List ℕ) → List ℕ → List ℕ → Option Rolled → Type 0
+MetAs t old a known (Some at) = in_roll at known ≡ with_new t old a
+MetAs t old a known None = IsTooMany t old a
 
 -- the roll as it is then, where there is a slot for the address
-unfoldable pub RollsAs : List ℕ → ℕ → List ℕ → List ℕ → List ℕ → Met → Type 0
-RollsAs t free known numbers spots (Seated at) = Rolls t free known numbers spots at
-RollsAs t free known numbers spots Full = Unit
+unfoldable pub RollsAs : List ℕ → ℕ → List ℕ → List ℕ → List ℕ → Option Rolled → Type 0
+RollsAs t free known numbers spots (Some at) = Rolls t free known numbers spots at
+RollsAs t free known numbers spots None = Unit
 
 -- What is asked for where the gossip of a payload is counted: keys have at most `limit` octets, for which there is room, and the roll is as `meet`
 -- leaves it.
 pub record Seats (t tags : List ℕ) (free limit : ℕ) (payload recipients listed places text known numbers spots : List ℕ) (at : Rolled) : Type 0 where
   pub tagged : Tagged t tags
-  pub rolls : RollsAs t free known numbers spots (Seated at)
+  pub rolls : RollsAs t free known numbers spots (Some at)
   pub reads : Reads payload text
   pub index : Indexed recipients listed places
   pub most : limit ≤ key_limit

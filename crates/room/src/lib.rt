@@ -8,7 +8,6 @@ ghost use Rattle.roll.specs.Growing.{in_roll};
 ghost use Rattle.room.specs.Room.{is_new, gossiped_in, room_beside};
 ghost use Rattle.room.specs.Counting.{Asks, Meets, MetAs, RollsAs, Seats, Seeks};
 
-use keys::Heard;
 use roll::Rolled;
 use slots::Slot;
 use table::Found;
@@ -37,15 +36,10 @@ fn is_new(
     }
 }
 
-// What comes of an address: there is a slot for it, its own or a free one, and the roll of newcomers goes up to there then;
-// or it is new, and those before it take all free slots.
-#[derive(Clone, Copy)]
-enum Met {
-    Seated(Rolled),
-    Full,
-}
-
-// Adds an address to the roll of those that are known to be new, if it is new and they leave it one of the free slots.
+// Adds an address to the roll of those that are known to be new, if it is new and they leave it one of the free slots. Where
+// there is a slot for it, its own or a free one, the answer is how far the roll goes then; there is none where it is new and
+// those before it take all free slots.
+#[tactic(auto, using(crate::proofs::Meeting::meeting))]
 fn meet(
     table: &[u8],
     tags: &[u32; Slot::MOST],
@@ -55,23 +49,24 @@ fn meet(
     spots: &mut [u16; Slot::MOST],
     at: Rolled,
     address: &[u8],
-) -> Met
+) -> Option<Rolled>
     requires { Meets table.now tags.now free known.old numbers.old spots.old at address.now }
     ensures met_as { MetAs table.now (in_roll at known.old) address.now known.new result }
     ensures rolls_as { RollsAs table.now free known.new numbers.new spots.new result }
 {
     if !is_new(table, tags, known, numbers, spots, at, address) {
-        return Met::Seated(at);
+        return Some(at);
     }
     let left = free - at.many;
     if left == 0 {
-        return Met::Full;
+        return None;
     }
-    Met::Seated(roll::add(known, numbers, spots, at, address))
+    Some(roll::add(known, numbers, spots, at, address))
 }
 
 // Is there one of the free slots for each address that is new with the gossip, beside those that are known already to be
 // new?
+#[tactic(auto, using(crate::proofs::Newcomers::counting))]
 fn has_room_for(
     table: &[u8],
     tags: &[u32; Slot::MOST],
@@ -96,35 +91,29 @@ fn has_room_for(
     let mut key = [0u8; Slot::KEY_LIMIT];
     let mut at = from;
     let mut place = 0;
-    loop {
-        match keys::next_gossip(
-            payload,
-            limit,
-            place,
-            recipients,
-            listed,
-            places,
-            text,
-            &mut address,
-            &mut key,
-        ) {
-            Heard::Next {
-                end,
-                address: n,
-                key: _,
-            } => match meet(table, tags, free, known, numbers, spots, at, &address[0..n]) {
-                Met::Seated(behind) => {
-                    at = behind;
-                    place = end;
-                }
-                Met::Full => return false,
-            },
-            Heard::Over => return true,
-        }
+    while let Some(heard) = keys::next_gossip(
+        payload,
+        limit,
+        place,
+        recipients,
+        listed,
+        places,
+        text,
+        &mut address,
+        &mut key,
+    ) {
+        let newcomer = &address[0..heard.gossip.address];
+        let Some(behind) = meet(table, tags, free, known, numbers, spots, at, newcomer) else {
+            return false;
+        };
+        at = behind;
+        place = heard.end;
     }
+    true
 }
 
 // Is there a free slot for each address that is new with the message, its sender first (R8)?
+#[tactic(auto, using(crate::proofs::Newcomers::seating))]
 pub fn has_room(
     table: &[u8],
     tags: &[u32; Slot::MOST],
@@ -145,7 +134,7 @@ pub fn has_room(
     let mut spots = [0u16; Slot::MOST];
     let none = Rolled { end: 0, many: 0 };
     let free = table::count_free(table);
-    match meet(
+    let Some(seated) = meet(
         table,
         tags,
         free,
@@ -154,24 +143,24 @@ pub fn has_room(
         &mut spots,
         none,
         sender,
-    ) {
-        Met::Seated(at) => has_room_for(
-            table,
-            tags,
-            free,
-            limit,
-            payload,
-            recipients,
-            listed,
-            places,
-            text,
-            &mut known,
-            &mut numbers,
-            &mut spots,
-            at,
-        ),
-        Met::Full => false,
-    }
+    ) else {
+        return false;
+    };
+    has_room_for(
+        table,
+        tags,
+        free,
+        limit,
+        payload,
+        recipients,
+        listed,
+        places,
+        text,
+        &mut known,
+        &mut numbers,
+        &mut spots,
+        seated,
+    )
 }
 
 // Is there a slot for the sender of a message without gossip: its own entry's, or a free one (R8)?
