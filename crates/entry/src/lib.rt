@@ -22,14 +22,15 @@ fn start_of(at: usize, offset: usize, count: usize) -> u64
     if count == 0 { 0 } else { (at + offset) as u64 }
 }
 
-// The eleven numbers: the first five, and start and length of address, direct key and gossip key.
+// The eleven numbers of a used slot that begins at `at`: the first five, and start and length of address, direct key and
+// gossip key.
 #[tactic(auto, unfolding(crate::specs::Shown::told, crate::specs::Shown::stated, crate::specs::Shown::parts, crate::specs::Shown::placed))]
-fn told(used: u64, at: usize, n: Head) -> [u64; SHOWN]
+fn told(at: usize, n: Head) -> [u64; SHOWN]
     requires { at + slot_length < 2 ^ 64 }
-    ensures { result ≡ told used at n }
+    ensures { result ≡ told 1 at n }
 {
     [
-        used,
+        1,
         n.bits(),
         n.last_seen,
         n.timestamp,
@@ -57,7 +58,7 @@ fn shown(table: &[u8], slot: usize) -> [u64; SHOWN]
     ensures { result ≡ shown_at table.now slot }
 {
     if is_used(table, slot) {
-        told(1, slot * Slot::LEN, table::numbers(table, slot))
+        told(slot * Slot::LEN, table::numbers(table, slot))
     } else {
         [0; SHOWN]
     }
