@@ -16,10 +16,10 @@ use borrow.Author.Rules.{rules}
 use mir.Syntax.{w64}
 use mir.Val.{Fits}
 use lib.ListN.{length, set, length-append}
+use Rattle.std.specs.Prelude.{Option, Some, None}
 use Rattle.octets.specs.Octets.{ascii}
 use Rattle.octets.specs.Written.{put_at}
 use Rattle.octets.proofs.Writing.{begin_at, put, puts, done_at}
-use Rattle.heads.specs.Entry.{present}
 use Rattle.heads.proofs.Parts.{put_more, put_length}
 use Rattle.columns.specs.Columns.{decimal, time_text, preference_text, ended}
 use Rattle.columns.specs.Putting.{Room, Put}
@@ -140,15 +140,16 @@ module _ (v w d : List ℕ) (at x : ℕ) (s : v ≡ w) where
   pub same_put : (out : List ℕ) (o : ℕ) → Put d out at (ended w x) o → Put d out at (ended v x) o
   same_put out o p = rw s p
 
-module _ (b : Bool) where
-  pub time_there : (t : ℕ) → b ≡ true → time_text (present b t) ≡ decimal t
+module _ (o : Option ℕ) where
+  pub time_there : (t : ℕ) → o ≡ Some t → time_text o ≡ decimal t
   unfolding time_text
   time_there t e = rw e
 
-  pub time_absent : (t : ℕ) → b ≡ false → time_text (present b t) ≡ ascii "-"
+  pub time_absent : o ≡ None → time_text o ≡ ascii "-"
   unfolding time_text
-  time_absent t e = rw e
+  time_absent e = rw e
 
+module _ (b : Bool) where
   pub is_mutual : b ≡ true → preference_text b ≡ ascii "mutual"
   unfolding preference_text
   is_mutual e = rw e

@@ -2,16 +2,16 @@
 // written into a lent buffer. What they are stands in specs/Columns.antt.
 #![tactic(auto)]
 
-ghost use Rattle.heads.specs.Entry.{present};
 ghost use Rattle.columns.specs.Columns.{decimal, time_text, preference_text, ended};
 ghost use Rattle.columns.specs.Putting.{Room, Put};
 
 // Writes `text` from the place `at` on and `end` behind it, and answers the place behind both.
+#[tactic(auto, using(crate::proofs::Placing::ending))]
 pub fn put_text(out: &mut [u8], at: usize, text: &[u8], end: u8) -> usize
     requires { Room out.old at (ended text.now end) }
     ensures { Put out.old out.new at (ended text.now end) result }
 {
-    octets::put(&mut *out, at, text);
+    octets::put(out, at, text);
     let o = at + text.len();
     out[o] = end;
     o + 1
@@ -27,31 +27,30 @@ pub fn put_decimal(out: &mut [u8], at: usize, n: u64) -> usize
         out[at] = b'0' + n as u8;
         return at + 1;
     }
-    let o = put_decimal(&mut *out, at, n / 10);
+    let o = put_decimal(out, at, n / 10);
     out[o] = b'0' + (n % 10) as u8;
     o + 1
 }
 
 // Writes a number and `end` behind it.
+#[tactic(auto, using(crate::proofs::Placing::ending))]
 pub fn put_number(out: &mut [u8], at: usize, n: u64, end: u8) -> usize
     requires { Room out.old at (ended (decimal n) end) }
     ensures { Put out.old out.new at (ended (decimal n) end) result }
 {
-    let o = put_decimal(&mut *out, at, n);
+    let o = put_decimal(out, at, n);
     out[o] = end;
     o + 1
 }
 
 // Writes a time, or a hyphen where there is none (W9), and a space behind it.
-#[tactic(auto, using(crate::proofs::Placing::choosing))]
-pub fn put_time(out: &mut [u8], at: usize, is_there: bool, seconds: u64) -> usize
-    requires { Room out.old at (ended (time_text (present is_there seconds)) 32) }
-    ensures { Put out.old out.new at (ended (time_text (present is_there seconds)) 32) result }
+pub fn put_time(out: &mut [u8], at: usize, time: Option<u64>) -> usize
+    requires { Room out.old at (ended (time_text time) 32) }
+    ensures { Put out.old out.new at (ended (time_text time) 32) result }
 {
-    if is_there {
-        put_number(out, at, seconds, b' ')
-    } else {
-        put_text(out, at, b"-", b' ')
+    match time {
+        Some(seconds) => put_number(out, at, seconds, b' '),
+        None => put_text(out, at, b"-", b' '),
     }
 }
 
@@ -61,9 +60,6 @@ pub fn put_preference(out: &mut [u8], at: usize, mutual: bool) -> usize
     requires { Room out.old at (ended (preference_text «mutual») 32) }
     ensures { Put out.old out.new at (ended (preference_text «mutual») 32) result }
 {
-    if mutual {
-        put_text(out, at, b"mutual", b' ')
-    } else {
-        put_text(out, at, b"none", b' ')
-    }
+    let text: &[u8] = if mutual { b"mutual" } else { b"none" };
+    put_text(out, at, text, b' ')
 }

@@ -12,10 +12,7 @@ use mathlib.Core.Bool.{Bool, true, false}
 use mathlib.Core.List.{List, ◌++◌}
 use native.Mathlib.Omega.{arith}
 use borrow.Author.Rules.{rules}
-use mir.Syntax.{w64}
-use mir.Val.{Fits}
-use lib.ListN.{length, take, drop, replicate, length-replicate}
-use Rattle.octets.specs.Written.{put_at}
+use lib.ListN.{length, take, drop}
 use Rattle.address.specs.Address.{plain, canonical}
 use Rattle.address.specs.Answers.{written_of, onto_if_fits}
 use Rattle.address.specs.declared.Fitted.{Fitted}
@@ -24,7 +21,6 @@ use Rattle.address.proofs.Spelling.{canonical_most}
 use Rattle.address.proofs.Ascii.{was_plain}
 use Rattle.address.proofs.Forming as forming
 use Rattle.heads.specs.Entry.{renamed}
-use Rattle.heads.proofs.Parts.{put_over}
 use Rattle.slots.specs.Slot.{slot_length, address_room, free_slot, address_of, marked, spelled, sound_by}
 use Rattle.slots.specs.Entry.{entry_of, slot_of}
 use Rattle.slots.specs.declared.Spelling.TheVariants.{Ascii}
@@ -45,15 +41,9 @@ use Rattle.convert.proofs.Stepwise as stepwise
 
 -- slot i is merged into slot j
 module _ (t : List ℕ) (j i : ℕ) (h : Absorbs t j i) where
-  pub absorb_place : Fits w64 (j * 4392)
-  absorb_place = record { fits = omega (arith, h.within, h.few, h.lower) }
-
-  pub absorb_fits : Fits w64 (j * 4392 + 4392)
-  absorb_fits = record { fits = omega (arith, h.within, h.few, h.lower) }
-
   -- its octets, copied
-  copied : (s x : List ℕ) → (s ≡ slot_at t i) × (length s ≡ slot_length) → x ≡ put_at (replicate 4392 0) 0 s → x ≡ slot_at t i
-  copied s x e p = p ∙ put_over (replicate 4392 0) s (length-replicate {A = ℕ} 4392 0 ∙ sym e.1) ∙ e.0
+  copied : (s x : List ℕ) → (s ≡ slot_at t i) × (length s ≡ slot_length) → x ≡ s → x ≡ slot_at t i
+  copied s x e p = p ∙ e.0
 
   -- and it is freed
   module _ (u : List ℕ) (eu : u ≡ with_slot t i free_slot) where
@@ -73,7 +63,7 @@ module _ (t : List ℕ) (j i : ℕ) (h : Absorbs t j i) where
     part : take (j * 4392 + 4392 - j * 4392) (drop (j * 4392) u) ≡ slot_at t j
     part = slotwise.part_is u j absorb_within ∙ other_slot
 
-    module _ (s x : List ℕ) (es : (s ≡ slot_at t i) × (length s ≡ slot_length)) (ex : x ≡ put_at (replicate 4392 0) 0 s) where
+    module _ (s x : List ℕ) (es : (s ≡ slot_at t i) × (length s ≡ slot_length)) (ex : x ≡ s) where
       pub absorb_merges : Merges (take (j * 4392 + 4392 - j * 4392) (drop (j * 4392) u)) x
       absorb_merges =
           record {
@@ -89,7 +79,7 @@ module _ (t : List ℕ) (j i : ℕ) (h : Absorbs t j i) where
       unfolding brought_at
       absorbed w k e = slotwise.put_slot u j absorb_within w k ∙ rw (e, part, copied s x es ex, eu)
 
-pub ruleset absorbing = (absorb_place, absorb_fits, absorb_end, absorb_merges, absorbed, rules)
+pub ruleset absorbing = (absorb_end, absorb_merges, absorbed, rules)
 
 -- the used slot i, whose form is a
 module _ (t tags a : List ℕ) (i : ℕ) (h : Settles t tags i a) where
@@ -149,14 +139,16 @@ module _ (t tags : List ℕ) (i : ℕ) (h : Brings t tags i) (used : marked (slo
       pub form_end : n ≤ length out
       form_end = forming.form_end s plainly 256 (omega arith) g e n r b out o l
 
-      form : take (n - 0) (drop 0 out) ≡ form_of (slot_at t i)
+      form : take n out ≡ form_of (slot_at t i)
       unfolding form_of
-      form = forming.form_there s plainly 256 (omega arith) g e n r b out o l ∙ ap canonical es
+      form =
+          let there : take n out ≡ canonical s = grind (arith, forming.form_there s plainly 256 (omega arith) g e n r b out o l) in
+          there ∙ ap canonical es
 
-      pub form_settles : Settles t tags i (take (n - 0) (drop 0 out))
+      pub form_settles : Settles t tags i (take n out)
       form_settles = record { brings = h; used = used; own = form }
 
-      pub form_brought : (v : List ℕ) → v ≡ brought_at t i (lowest (has_address (take (n - 0) (drop 0 out))) t 0 i) → v ≡ brought t i
+      pub form_brought : (v : List ℕ) → v ≡ brought_at t i (lowest (has_address (take n out)) t 0 i) → v ≡ brought t i
       form_brought v ev = ev ∙ rw form (sym (stepwise.brought_used t i used))
 
 pub ruleset bringing_used = (plainly, form_never, form_end, form_settles, form_brought, rules)

@@ -18,18 +18,20 @@ use table::Found;
 
 // Merges slot i into the lower slot j, and frees it (T17). Its octets are copied first, so that the one slot can be read
 // while the other is written.
+#[tactic(auto, using(crate::proofs::Bringing::absorbing))]
 fn absorb(table: &mut [u8], j: usize, i: usize)
     requires { Absorbs table.old j i }
     ensures { table.new ≡ brought_at table.old i (At j) }
 {
     let mut other = [0u8; Slot::LEN];
-    octets::put(&mut other, 0, table::slot_at(table, i));
+    other.copy_from_slice(table::slot_at(table, i));
     table::clear(table, i);
     let at = j * Slot::LEN;
     merge::merge(&mut table[at..at + Slot::LEN], &other);
 }
 
 // Brings the used slot i to its form: into the lower slot that has the form already, or in its own place (T17).
+#[tactic(auto, using(crate::proofs::Bringing::settling))]
 fn settle(table: &mut [u8], tags: &[u32; Slot::MOST], i: usize, form: &[u8])
     requires { Settles table.old tags.now i form.now }
     ensures { table.new ≡ brought_at table.old i (lowest (has_address form.now) table.old 0 i) }
@@ -41,18 +43,20 @@ fn settle(table: &mut [u8], tags: &[u32; Slot::MOST], i: usize, form: &[u8])
 }
 
 // Brings slot i to its form, which is made in a buffer; it is used, and the slots below it are in their form.
+#[tactic(auto, using(crate::proofs::Bringing::bringing_used))]
 fn bring_used(table: &mut [u8], tags: &[u32; Slot::MOST], i: usize)
     requires { Brings table.old tags.now i × (marked (slot_at table.old i) ≡ true) }
     ensures { table.new ≡ brought table.old i }
 {
     let mut form = [0u8; Slot::ADDRESS_ROOM];
     match address::canonical(table::address(table, i), &mut form) {
-        address::Fitted::Length(n) => settle(table, tags, i, &form[0..n]),
+        address::Fitted::Length(n) => settle(table, tags, i, &form[..n]),
         address::Fitted::NoRoom => {}
     }
 }
 
 // Brings slot i to its form, where it is used.
+#[tactic(auto, using(crate::proofs::Bringing::bringing))]
 fn bring(table: &mut [u8], tags: &[u32; Slot::MOST], i: usize)
     requires { Brings table.old tags.now i }
     ensures { table.new ≡ brought table.old i }
@@ -64,20 +68,19 @@ fn bring(table: &mut [u8], tags: &[u32; Slot::MOST], i: usize)
 
 // Converts a table that is sound by the old rule, slot by slot. The tags of the slots that are in their form are there for
 // the slots above.
+#[tactic(auto, using(crate::proofs::Looping::going))]
 fn convert_slots(table: &mut [u8], tags: &mut [u32; Slot::MOST])
     requires { OpenBy Ascii table.old tags.old }
     ensures { table.new ≡ converted table.old }
 {
-    let n = table::count(table);
-    let mut i = 0;
-    while i < n {
+    for i in 0..table::count(table) {
         bring(table, tags, i);
         tags[i] = lookup::tag_at(table, i);
-        i += 1;
     }
 }
 
 // Refusals by the old rule, and the conversion.
+#[tactic(auto, using(crate::proofs::Outcomes::converting_old))]
 fn convert_old(table: &mut [u8]) -> Answer
     ensures value { result ≡ answer_of (refused_converting table.old) }
     ensures table_after { table.new ≡ left_by_converting table.old }
@@ -99,6 +102,7 @@ fn convert_old(table: &mut [u8]) -> Answer
 // slot holds the merged entry, and the others become free (T17): last seen and the two halves are the latest that there
 // are, those of the lowest slot where they are equal (T18). No other slot changes. A sound table stays as it is (T19), and
 // costs no more than its check.
+#[tactic(auto, using(crate::proofs::Outcomes::converting))]
 pub fn convert(table: &mut [u8]) -> Answer
     ensures value { result ≡ answer_of (refused_converting table.old) }
     ensures table_after { table.new ≡ left_by_converting table.old }

@@ -3,9 +3,9 @@
 #![tactic(auto)]
 
 ghost use Rattle.std.specs.Prelude.{◌+◌, ◌^◌, ◌<◌, ◌≤◌, ◌≡◌, length};
-ghost use Rattle.octets.specs.Written.{put_at, onto};
+ghost use Rattle.octets.specs.Written.{onto};
 ghost use Rattle.slots.specs.Slot.{slot_length};
-ghost use Rattle.entry.specs.Shown.{shown_count, start_of, stated, parts, told, used_at, shown_at};
+ghost use Rattle.entry.specs.Shown.{shown_count, start_of, told, used_at, shown_at};
 
 use heads::Head;
 use slots::Slot;
@@ -14,69 +14,61 @@ use slots::Slot;
 pub const SHOWN: usize = 11;
 
 // Where a part starts, so many octets from an offset on in the slot that begins at `at`: at 0 where it is empty.
+#[tactic(auto, unfolding(crate::specs::Shown::start_of))]
 fn start_of(at: usize, offset: usize, count: usize) -> u64
     requires { at + offset < 2 ^ 64 }
     ensures { result ≡ start_of at offset count }
 {
-    if count == 0 {
-        return 0;
-    }
-    (at + offset) as u64
+    if count == 0 { 0 } else { (at + offset) as u64 }
 }
 
-// Writes the first five of the eleven numbers.
-fn put_stated(numbers: &mut [u64], used: u64, n: Head)
-    requires { shown_count ≤ length numbers.old }
-    ensures { numbers.new ≡ put_at numbers.old 0 (stated used n) }
+// The eleven numbers of a used slot that begins at `at`: the first five, and start and length of address, direct key and
+// gossip key.
+#[tactic(auto, unfolding(crate::specs::Shown::told, crate::specs::Shown::stated, crate::specs::Shown::parts, crate::specs::Shown::placed))]
+fn told(at: usize, n: Head) -> [u64; SHOWN]
+    requires { at + slot_length < 2 ^ 64 }
+    ensures { result ≡ told 1 at n }
 {
-    numbers[0] = used;
-    numbers[1] = n.bits();
-    numbers[2] = n.last_seen;
-    numbers[3] = n.timestamp;
-    numbers[4] = n.gossip_timestamp;
-}
-
-// Writes the other six: start and length of address, direct key and gossip key.
-fn put_parts(numbers: &mut [u64], at: usize, n: Head)
-    requires { (shown_count ≤ length numbers.old) × (at + slot_length < 2 ^ 64) }
-    ensures { numbers.new ≡ put_at numbers.old 5 (parts at n) }
-{
-    numbers[5] = start_of(at, Slot::ADDRESS_AT, n.address_length);
-    numbers[6] = n.address_length as u64;
-    numbers[7] = start_of(at, Slot::DIRECT_AT, n.direct_length);
-    numbers[8] = n.direct_length as u64;
-    numbers[9] = start_of(at, Slot::GOSSIP_AT, n.gossip_length);
-    numbers[10] = n.gossip_length as u64;
-}
-
-// Writes all eleven.
-fn put(numbers: &mut [u64], used: u64, at: usize, n: Head)
-    requires { (shown_count ≤ length numbers.old) × (at + slot_length < 2 ^ 64) }
-    ensures { numbers.new ≡ onto (told used at n) numbers.old }
-{
-    put_stated(numbers, used, n);
-    put_parts(numbers, at, n);
+    [
+        1,
+        n.bits(),
+        n.last_seen,
+        n.timestamp,
+        n.gossip_timestamp,
+        start_of(at, Slot::ADDRESS_AT, n.address_length),
+        n.address_length as u64,
+        start_of(at, Slot::DIRECT_AT, n.direct_length),
+        n.direct_length as u64,
+        start_of(at, Slot::GOSSIP_AT, n.gossip_length),
+        n.gossip_length as u64,
+    ]
 }
 
 // Is there such a slot, and is it used?
+#[tactic(auto, unfolding(crate::specs::Shown::used_at))]
 fn is_used(table: &[u8], slot: usize) -> bool
     ensures { result ≡ used_at table.now slot }
 {
-    if table::count(table) <= slot {
-        return false;
-    }
-    table::is_used(table, slot)
+    slot < table::count(table) && table::is_used(table, slot)
 }
 
-// Writes the numbers of a slot to the front of `numbers`. Where there is no entry they are those of one that is empty and
-// not used: zeros (T14).
+// The numbers of a slot. Where there is no entry they are zeros (T14).
+#[tactic(auto, using(crate::proofs::Telling::telling), unfolding(crate::specs::Shown::shown_at))]
+fn shown(table: &[u8], slot: usize) -> [u64; SHOWN]
+    ensures { result ≡ shown_at table.now slot }
+{
+    if is_used(table, slot) {
+        told(slot * Slot::LEN, table::numbers(table, slot))
+    } else {
+        [0; SHOWN]
+    }
+}
+
+// Writes the numbers of a slot to the front of `numbers`.
+#[tactic(auto, unfolding(octets::specs::Written::onto))]
 pub fn tell(table: &[u8], slot: usize, numbers: &mut [u64])
     requires { shown_count ≤ length numbers.old }
     ensures { numbers.new ≡ onto (shown_at table.now slot) numbers.old }
 {
-    if !is_used(table, slot) {
-        put(numbers, 0, 0, Head::empty(0));
-        return;
-    }
-    put(numbers, 1, slot * Slot::LEN, table::numbers(table, slot));
+    numbers[..SHOWN].copy_from_slice(&shown(table, slot));
 }

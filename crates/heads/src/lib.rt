@@ -5,6 +5,7 @@
 
 ghost use Rattle.std.specs.Prelude.{◌≤◌, max, ◌≡◌, cond, length};
 ghost use Rattle.octets.specs.Written.{put_at};
+ghost use Rattle.heads.specs.Entry.{present};
 ghost use Rattle.heads.specs.Head.{head_length, head_of, empty_head, clear, seen_sound, direct_sound, gossip_sound, head_address, head_seen, head_direct, head_gossip, bits_of, times, lengths, head_octets};
 
 // What octets 2 to 39 say: the lengths, the four bits and the times of an entry (T3).
@@ -146,6 +147,25 @@ impl Head {
             + 2 * u64::from(self.direct)
             + 4 * u64::from(self.gossip)
             + 8 * u64::from(self.mutual)
+    }
+
+    // The three times, each where it is there (T5).
+    pub fn seen_time(self) -> Option<u64>
+        ensures { result ≡ present self.seen self.last_seen }
+    {
+        self.seen.then_some(self.last_seen)
+    }
+
+    pub fn direct_time(self) -> Option<u64>
+        ensures { result ≡ present self.direct self.timestamp }
+    {
+        self.direct.then_some(self.timestamp)
+    }
+
+    pub fn gossip_time(self) -> Option<u64>
+        ensures { result ≡ present self.gossip self.gossip_timestamp }
+    {
+        self.gossip.then_some(self.gossip_timestamp)
     }
 
     // With another address, of so many octets (T17).

@@ -19,6 +19,7 @@ pub fn open_table(table: &[u8], tags: &mut [u32; Slot::MOST]) -> Answer
 }
 
 // The same, for addresses in the one spelling or the other (T16).
+#[tactic(auto, using(crate::proofs::Tables::opening))]
 pub fn open_by(table: &[u8], tags: &mut [u32; Slot::MOST], how: Spelling) -> Answer
     requires { length tags.old ≡ most_slots }
     ensures { OpensBy how table.now tags.new result }
@@ -52,6 +53,7 @@ pub fn check(table: &[u8]) -> Answer
 // for the table, as in `check`, and 12 where fewer than eleven numbers are lent (R12). With a refusal `numbers` stay as
 // they were (R32); what stands behind the eleventh always does. The starts and lengths are parts of the table until the
 // next call that writes it.
+#[tactic(auto, using(crate::proofs::Showing::showing), unfolding(crate::specs::Inspecting::refused_showing, crate::specs::Inspecting::showing_rows, crate::specs::Inspecting::left_by_showing))]
 pub fn entry(table: &[u8], slot: usize, numbers: &mut [u64]) -> Answer
     ensures value { result ≡ answer_of (refused_showing table.now (length numbers.old)) }
     ensures numbers_after { numbers.new ≡ left_by_showing table.now slot numbers.old }

@@ -1,6 +1,6 @@
 -- What merging two slots leaves, part by part (T18).
 --     seen_taken .. direct_left      the answers of the three steps
---     direct_sum .. gossip_key_room  the keys that are cut out of the other slot
+--     direct_room .. gossip_key_room  the keys that are cut out of the other slot
 --     seen_merges, gossip_merges     the slot is sound between the steps
 --     all_merged                     and the three make the merged entry
 --     the rulesets                   taking, for the steps; merging, for `merge`
@@ -12,7 +12,7 @@ use mathlib.Core.List.{List}
 use Rattle.std.specs.Prelude.{Option, Some}
 use native.Mathlib.Omega.{arith}
 use borrow.Author.Rules.{rules}
-use mir.Syntax.{w8, w64}
+use mir.Syntax.{w8}
 use mir.Val.{Fits}
 use lib.Dec.{ltb}
 use lib.ListN.{length, get_or, take, drop}
@@ -84,20 +84,8 @@ module _ (s o : List ℕ) (m : Merges s o) where
     unfolding head_of
     gossip_long = ap (λ (x : Head). x.gossip_length) e
 
-    pub direct_sum : Fits w64 (296 + n.direct_length)
-    direct_sum = record { fits = omega (arith, direct_room, direct_long) }
-
-    pub direct_order : 296 ≤ 296 + n.direct_length
-    direct_order = omega arith
-
     pub direct_end : 296 + n.direct_length ≤ length o
     direct_end = omega (arith, direct_room, direct_long, m.other_long)
-
-    pub gossip_sum : Fits w64 (2344 + n.gossip_length)
-    gossip_sum = record { fits = omega (arith, gossip_room, gossip_long) }
-
-    pub gossip_order : 2344 ≤ 2344 + n.gossip_length
-    gossip_order = omega arith
 
     pub gossip_end : 2344 + n.gossip_length ≤ length o
     gossip_end = omega (arith, gossip_room, gossip_long, m.other_long)
@@ -180,7 +168,7 @@ module _ (s o : List ℕ) (m : Merges s o) where
               ∙ same_direct (entry_of s) _ _
               (later_kept (λ (x : Direct). x.timestamp) (direct_in s) (direct_in o) b (has_direct s) (has_direct o) direct_test f)
 
-pub ruleset taking = (direct_sum, direct_order, direct_end, gossip_sum, gossip_order, gossip_end, direct_key_room, gossip_key_room, seen_taken, seen_left, gossip_taken, gossip_left, direct_taken, direct_left, rules)
+pub ruleset taking = (direct_end, gossip_end, direct_key_room, gossip_key_room, seen_taken, seen_left, gossip_taken, gossip_left, direct_taken, direct_left, rules)
 
 -- one step behind the other: what a step leaves is the slot of a good entry
 module _ (s o : List ℕ) (m : Merges s o) (g : (i : ℕ) → Fits w8 (get_or s i 0)) (h : (i : ℕ) → Fits w8 (get_or o i 0)) where

@@ -8,13 +8,12 @@
 -- Assumes nothing.
 use Prim.Native.Nat.{ℕ, ◌+◌, ◌-◌, ◌<◌, ◌≤◌}
 use mathlib.Core.Path.{◌≡◌, refl, sym, ◌∙◌}
-use mathlib.Core.Bool.{Bool, true, false, not}
+use mathlib.Core.Bool.{Bool, true, false}
 use Rattle.std.specs.Prelude.{Option, Some, None, option_map}
 use mathlib.Core.List.{List, [], ◌++◌, append_assoc}
 use native.Mathlib.Nat.{sub-zero}
 use native.Mathlib.Omega.{arith}
 use borrow.Author.Rules.{rules}
-use borrow.Author.Tests.{not-true, not-false}
 use lib.ListN.{length, length-append}
 use Rattle.octets.specs.Options.{or_else, is_some}
 use Rattle.octets.proofs.Lists.{left_one}
@@ -77,15 +76,15 @@ module _ (t : List ℕ) (i : ℕ) where
 -- `put_slot`: b is whether the slot is used, a its address and n its numbers
 module _ (t d : List ℕ) (i at : ℕ) (b : Bool) (e : b ≡ marked (slot_at t i))
     (c : (checked t ≡ Sound) × (i < slots t) × Room d at (slot_text (slot_at t i))) where
-  pub free_put : not b ≡ true → Put d d at (slot_text (slot_at t i)) at
+  pub free_put : b ≡ false → Put d d at (slot_text (slot_at t i)) at
   free_put f =
-      let z : slot_text (slot_at t i) ≡ [] = slot_free t i (sym e ∙ not-true b f) in
+      let z : slot_text (slot_at t i) ≡ [] = slot_free t i (sym e ∙ f) in
       let h : at + length {A = ℕ} [] ≤ length d = rw z at c.2.fits in
       rw z (record { text = done_at [] d d at at h (begin_at [] d at h); place = omega arith })
 
-  module _ (f : not b ≡ false) (a : List ℕ) (ea : a ≡ address_of (slot_at t i)) where
+  module _ (f : b ≡ true) (a : List ℕ) (ea : a ≡ address_of (slot_at t i)) where
     parts : (n : Head) → n ≡ head_of (slot_at t i) → slot_text (slot_at t i) ≡ ended a 32 ++ numbers_part n
-    parts n en = slot_parts t i c.0 c.1 (sym e ∙ not-false b f) ∙ rw (ea, en)
+    parts n en = slot_parts t i c.0 c.1 (sym e ∙ f) ∙ rw (ea, en)
 
     pub room_for_address : Room d at (ended a 32)
     room_for_address = room_one (slot_text (slot_at t i)) (ended a 32) (numbers_part (head_of (slot_at t i))) d at c.2 (parts _ refl)

@@ -31,9 +31,9 @@ fn put_direct(out: &mut [u8], at: usize, n: Head) -> usize
     requires { Room out.old at (direct_part n) }
     ensures { Put out.old out.new at (direct_part n) result }
 {
-    let timed = columns::put_time(&mut *out, at, n.direct, n.timestamp);
-    let measured = columns::put_number(&mut *out, timed, n.direct_length as u64, b' ');
-    columns::put_preference(&mut *out, measured, n.mutual)
+    let timed = columns::put_time(out, at, n.direct_time());
+    let measured = columns::put_number(out, timed, n.direct_length as u64, b' ');
+    columns::put_preference(out, measured, n.mutual)
 }
 
 // Writes what a line says of the gossip half, and ends the line.
@@ -41,8 +41,8 @@ fn put_gossip(out: &mut [u8], at: usize, n: Head) -> usize
     requires { Room out.old at (gossip_part n) }
     ensures { Put out.old out.new at (gossip_part n) result }
 {
-    let timed = columns::put_time(&mut *out, at, n.gossip, n.gossip_timestamp);
-    columns::put_number(&mut *out, timed, n.gossip_length as u64, b'\n')
+    let timed = columns::put_time(out, at, n.gossip_time());
+    columns::put_number(out, timed, n.gossip_length as u64, b'\n')
 }
 
 // Writes what a line says behind the address: last seen and the two halves (W8).
@@ -50,9 +50,9 @@ fn put_numbers(out: &mut [u8], at: usize, n: Head) -> usize
     requires { Room out.old at (numbers_part n) }
     ensures { Put out.old out.new at (numbers_part n) result }
 {
-    let seen = columns::put_time(&mut *out, at, n.seen, n.last_seen);
-    let direct = put_direct(&mut *out, seen, n);
-    put_gossip(&mut *out, direct, n)
+    let seen = columns::put_time(out, at, n.seen_time());
+    let direct = put_direct(out, seen, n);
+    put_gossip(out, direct, n)
 }
 
 // Writes the line of a slot, if it is used (W8).
@@ -63,8 +63,8 @@ fn put_slot(t: &[u8], i: usize, out: &mut [u8], at: usize) -> usize
     if !table::is_used(t, i) {
         return at;
     }
-    let addressed = columns::put_text(&mut *out, at, table::address(t, i), b' ');
-    put_numbers(&mut *out, addressed, table::numbers(t, i))
+    let addressed = columns::put_text(out, at, table::address(t, i), b' ');
+    put_numbers(out, addressed, table::numbers(t, i))
 }
 
 // Writes the lines of a table to the front of `out`.
@@ -72,12 +72,9 @@ fn put_lines(t: &[u8], out: &mut [u8]) -> usize
     requires { (checked t.now ≡ Sound) × Room out.old 0 (lines_from t.now 0 (slots_of t.now)) }
     ensures { Put out.old out.new 0 (lines_from t.now 0 (slots_of t.now)) result }
 {
-    let n = table::count(t);
     let mut o = 0;
-    let mut i = 0;
-    while i < n {
-        o = put_slot(t, i, &mut *out, o);
-        i += 1;
+    for i in 0..table::count(t) {
+        o = put_slot(t, i, out, o);
     }
     o
 }

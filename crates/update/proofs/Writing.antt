@@ -51,14 +51,14 @@ unfolding stays above
 half_test half date true x = refl
 half_test half date false x = refl
 
-module _ (s : List ℕ) (n : Head) (date : ℕ) (e : n ≡ head_of s) where
-  pub younger_is : (n.direct && ltb date n.timestamp) ≡ younger date (entry_of s).direct
+module _ (s : List ℕ) (n : Head) (date : ℕ) (e : n ≡ head_of s) (b : Bool) where
+  pub younger_is : b ≡ (n.direct && ltb date n.timestamp) → b ≡ younger date (entry_of s).direct
   unfolding younger entry_of head_of
-  younger_is = rw e (half_test the_direct date (has_direct s) (record { timestamp = timestamp s; key = direct_key_of s; «mutual» = is_mutual s }))
+  younger_is p = p ∙ rw e (half_test the_direct date (has_direct s) (record { timestamp = timestamp s; key = direct_key_of s; «mutual» = is_mutual s }))
 
-  pub younger_gossip_is : (n.gossip && ltb date n.gossip_timestamp) ≡ younger_gossip date (entry_of s).gossip
+  pub younger_gossip_is : b ≡ (n.gossip && ltb date n.gossip_timestamp) → b ≡ younger_gossip date (entry_of s).gossip
   unfolding younger_gossip entry_of head_of
-  younger_gossip_is = rw e (half_test the_gossip date (has_gossip s) (record { timestamp = gossip_timestamp s; key = gossip_key_of s }))
+  younger_gossip_is p = p ∙ rw e (half_test the_gossip date (has_gossip s) (record { timestamp = gossip_timestamp s; key = gossip_key_of s }))
 
 pub ruleset weighing = (younger_is, younger_gossip_is, rules)
 

@@ -18,6 +18,7 @@ use slots::Slot;
 use table::Found;
 
 // The slot of an address, begun in the lowest free one where it has none (U4).
+#[tactic(auto, using(crate::proofs::Placing::placing))]
 fn place(table: &mut [u8], tags: &mut [u32; Slot::MOST], address: &[u8]) -> Found
     requires { Open table.old tags.old × (is_canonical address.now ≡ true) }
     ensures value { result ≡ found (begun table.old address.now) address.now }
@@ -37,40 +38,39 @@ fn place(table: &mut [u8], tags: &mut [u32; Slot::MOST], address: &[u8]) -> Foun
 }
 
 // Is there a direct half in the slot that is younger than the date (U6)?
+#[tactic(auto, using(crate::proofs::Writing::weighing))]
 fn has_younger(table: &[u8], i: usize, date: u64) -> bool
     requires { i < slots table.now }
     ensures { result ≡ younger date (entry_of (slot_at table.now i)).direct }
 {
-    let entry = table::numbers(table, i);
-    entry.direct & (date < entry.timestamp)
+    Some(date) < table::numbers(table, i).direct_time()
 }
 
 // Is there a gossip half in the slot that is younger than the date (G7)?
+#[tactic(auto, using(crate::proofs::Writing::weighing))]
 fn has_younger_gossip(table: &[u8], i: usize, date: u64) -> bool
     requires { i < slots table.now }
     ensures { result ≡ younger_gossip date (entry_of (slot_at table.now i)).gossip }
 {
-    let entry = table::numbers(table, i);
-    entry.gossip & (date < entry.gossip_timestamp)
+    Some(date) < table::numbers(table, i).gossip_time()
 }
 
 // A message of the sender without a field that counts: it only raises last seen (U6, U7, U9).
+#[tactic(auto, using(crate::proofs::Writing::seeing))]
 pub fn update_keyless(table: &mut [u8], tags: &mut [u32; Slot::MOST], sender: &[u8], date: u64)
     requires { Open table.old tags.old × (is_canonical sender.now ≡ true) × (date ≤ time_limit) }
     ensures table_after { table.new ≡ put table.old sender.now (updated date None) }
     ensures fact { Open table.new tags.new }
 {
-    match place(table, tags, sender) {
-        Found::At(i) => {
-            if !has_younger(table, i, date) {
-                table::raise_seen(table, i, date);
-            }
-        }
-        Found::Nothing => {}
+    if let Found::At(i) = place(table, tags, sender)
+        && !has_younger(table, i, date)
+    {
+        table::raise_seen(table, i, date);
     }
 }
 
 // Raises last seen to the date and sets the direct half: what a field that counts does to an entry (U7, U8).
+#[tactic(auto, using(crate::proofs::Writing::setting))]
 fn set_field(table: &mut [u8], i: usize, date: u64, key: &[u8], mutual: bool)
     requires { (i < slots table.old) × (sound (slot_at table.old i) ≡ true) × (date ≤ time_limit)
         × (1 ≤ length key.now) × (length key.now ≤ key_limit) }
@@ -83,6 +83,7 @@ fn set_field(table: &mut [u8], i: usize, date: u64, key: &[u8], mutual: bool)
 }
 
 // A message of the sender with a field that counts (U6, U7, U8).
+#[tactic(auto, using(crate::proofs::Writing::keying))]
 pub fn update_with_key(
     table: &mut [u8],
     tags: &mut [u32; Slot::MOST],
@@ -97,29 +98,24 @@ pub fn update_with_key(
         (updated date (Some (record { timestamp = date; key = key.now; «mutual» = «mutual» }))) }
     ensures fact { Open table.new tags.new }
 {
-    match place(table, tags, sender) {
-        Found::At(i) => {
-            if !has_younger(table, i, date) {
-                set_field(table, i, date, key, mutual);
-            }
-        }
-        Found::Nothing => {}
+    if let Found::At(i) = place(table, tags, sender)
+        && !has_younger(table, i, date)
+    {
+        set_field(table, i, date, key, mutual);
     }
 }
 
 // Gossip about an address (G7, G8).
+#[tactic(auto, using(crate::proofs::Writing::hearing))]
 pub fn hear(table: &mut [u8], tags: &mut [u32; Slot::MOST], address: &[u8], date: u64, key: &[u8])
     requires { Open table.old tags.old × (is_canonical address.now ≡ true) × (date ≤ time_limit)
         × (1 ≤ length key.now) × (length key.now ≤ key_limit) }
     ensures table_after { table.new ≡ put table.old address.now (heard date key.now) }
     ensures fact { Open table.new tags.new }
 {
-    match place(table, tags, address) {
-        Found::At(i) => {
-            if !has_younger_gossip(table, i, date) {
-                table::set_gossip(table, i, date, key);
-            }
-        }
-        Found::Nothing => {}
+    if let Found::At(i) = place(table, tags, address)
+        && !has_younger_gossip(table, i, date)
+    {
+        table::set_gossip(table, i, date, key);
     }
 }

@@ -1,0 +1,8 @@
+use Rattle.convert.proofs.Bringing.{bringing_used}
+use Rattle.convert.proofs.bring_used.Goals as goal
+
+pub settle-requires : goal.settle-requires
+settle-requires c = search bringing_used
+
+pub returns-in-Length : goal.returns-in-Length
+returns-in-Length c = search bringing_used

@@ -1,8 +1,0 @@
--- `merge::take_seen` meets its contract: the laws of `Parts` answer every need. Assumes nothing.
-use Rattle.merge.proofs.Parts.{taking}
-use Rattle.merge.proofs.take_seen as fn
-
-pub take_seen_spec : {M : Type 1} → fn.Statement.statement M
-take_seen_spec =
-    fn.Tie.close (fn.Tie.spec (λ c. search taking) (λ c. search taking) (λ c. search taking) (λ c. search taking)
-    (λ c. search taking))
