@@ -4,21 +4,19 @@ ghost use Rattle.refusals.specs.Rows.{answer_of};
 ghost use Rattle.process.specs.Processing.{refused_processing, left_by_processing};
 ghost use Rattle.cabi.specs.Numbers.{in_numbers, setting_of};
 
-use crate::numbers;
 use crate::numbers::Answer;
 use autocrypt::Gossip;
 
 // G1: 1 is take, 2 is skip, and every other number is unset, which skips as 2 does.
+#[tactic(auto, unfolding(crate::specs::Numbers::setting_of))]
 fn setting_of(gossip: u8) -> Gossip
     ensures { result ≡ setting_of gossip }
 {
-    if gossip == 1 {
-        return Gossip::Take;
+    match gossip {
+        1 => Gossip::Take,
+        2 => Gossip::Skip,
+        _ => Gossip::Unset,
     }
-    if gossip == 2 {
-        return Gossip::Skip;
-    }
-    Gossip::Unset
 }
 
 // `process` of the library: brings the table up to date with one received mail (U1). `receipt` is in seconds since 1970,
@@ -37,6 +35,5 @@ pub fn vienghulac_process(
         ≡ in_numbers (answer_of (refused_processing table.old receipt outer.now payload.now (setting_of gossip))) }
     ensures table_after { table.new ≡ left_by_processing table.old receipt outer.now payload.now (setting_of gossip) }
 {
-    let setting = setting_of(gossip);
-    numbers::in_numbers(autocrypt::process(table, receipt, outer, payload, setting))
+    autocrypt::process(table, receipt, outer, payload, setting_of(gossip)).into()
 }

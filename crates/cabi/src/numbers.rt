@@ -56,34 +56,40 @@ pub struct Linted {
 }
 
 // R33: the number of a refusal and the index that it carries, 0 and 0 where there is none.
-pub fn in_numbers(answer: autocrypt::Answer) -> Answer
-    ensures { result ≡ in_numbers answer }
-{
-    match answer {
-        autocrypt::Answer::Done => Answer {
-            number: 0,
-            index: 0,
-        },
-        autocrypt::Answer::Refused(r) => Answer {
-            number: autocrypt::number(r),
-            index: autocrypt::index(r),
-        },
+impl From<autocrypt::Answer> for Answer {
+    ghost from_gives = { λ answer numbers. numbers ≡ in_numbers answer };
+
+    #[tactic(auto, unfolding(crate::specs::Numbers::in_numbers))]
+    fn from(answer: autocrypt::Answer) -> Self {
+        match answer {
+            autocrypt::Answer::Done => Self {
+                number: 0,
+                index: 0,
+            },
+            autocrypt::Answer::Refused(r) => Self {
+                number: autocrypt::number(r),
+                index: autocrypt::index(r),
+            },
+        }
     }
 }
 
 // R34: the length of the field; with a refusal it is 0.
-pub fn written_in_numbers(answer: autocrypt::Written) -> Written
-    ensures { result ≡ written_in_numbers answer }
-{
-    match answer {
-        autocrypt::Written::Done(n) => Written {
-            number: 0,
-            length: n as u64,
-        },
-        autocrypt::Written::Refused(r) => Written {
-            number: autocrypt::number(r) as u64,
-            length: 0,
-        },
+impl From<autocrypt::Written> for Written {
+    ghost from_gives = { λ answer numbers. numbers ≡ written_in_numbers answer };
+
+    #[tactic(auto, unfolding(crate::specs::Numbers::written_in_numbers))]
+    fn from(answer: autocrypt::Written) -> Self {
+        match answer {
+            autocrypt::Written::Done(n) => Self {
+                number: 0,
+                length: n as u64,
+            },
+            autocrypt::Written::Refused(r) => Self {
+                number: u64::from(autocrypt::number(r)),
+                length: 0,
+            },
+        }
     }
 }
 
@@ -100,49 +106,60 @@ fn advice_number(advice: autocrypt::Advice) -> u32
 }
 
 // A1: the advice; with a refusal it is 0.
-pub fn advice_in_numbers(answer: autocrypt::Recommended) -> Advice
-    ensures { result ≡ advice_in_numbers answer }
-{
-    match answer {
-        autocrypt::Recommended::Done(advice) => Advice {
-            number: 0,
-            index: 0,
-            advice: advice_number(advice),
-        },
-        autocrypt::Recommended::Refused(r) => Advice {
-            number: autocrypt::number(r),
-            index: autocrypt::index(r),
-            advice: 0,
-        },
+impl From<autocrypt::Recommended> for Advice {
+    ghost from_gives = { λ answer numbers. numbers ≡ advice_in_numbers answer };
+
+    #[tactic(auto, unfolding(crate::specs::Numbers::advice_in_numbers))]
+    fn from(answer: autocrypt::Recommended) -> Self {
+        match answer {
+            autocrypt::Recommended::Done(advice) => Self {
+                number: 0,
+                index: 0,
+                advice: advice_number(advice),
+            },
+            autocrypt::Recommended::Refused(r) => Self {
+                number: autocrypt::number(r),
+                index: autocrypt::index(r),
+                advice: 0,
+            },
+        }
     }
 }
 
 // A12: the numbers of the advice, and the count, which fits (A13).
+#[tactic(auto, unfolding(crate::specs::Numbers::quick_in_numbers))]
 pub fn quick_in_numbers(quick: autocrypt::Quick) -> Quick
     requires { quick.looked_up ≤ most_recipients }
     ensures { result ≡ quick_in_numbers quick }
 {
-    let answer = quick.answer;
-    let same = advice_in_numbers(answer);
+    let Advice {
+        number,
+        index,
+        advice,
+    } = quick.answer.into();
     Quick {
-        number: same.number,
-        index: same.index,
-        advice: same.advice,
+        number,
+        index,
+        advice,
         looked_up: quick.looked_up as u32,
     }
 }
 
 // A6: the part, its two numbers as wide as C has them.
-pub fn part_in_numbers(part: autocrypt::Part) -> Part
-    ensures { result ≡ part_in_numbers part }
-{
-    Part {
-        start: part.start as u64,
-        length: part.length as u64,
+impl From<autocrypt::Part> for Part {
+    ghost from_gives = { λ part numbers. numbers ≡ part_in_numbers part };
+
+    #[tactic(auto, unfolding(crate::specs::Numbers::part_in_numbers))]
+    fn from(part: autocrypt::Part) -> Self {
+        Self {
+            start: part.start as u64,
+            length: part.length as u64,
+        }
     }
 }
 
 // O1: how many faults there are, which is a number of 32 bits by O11; with a refusal it is 0.
+#[tactic(auto, unfolding(crate::specs::Numbers::linted_in_numbers, lint::specs::Linting::FewFaults))]
 pub fn linted_in_numbers(answer: autocrypt::Linted) -> Linted
     requires { FewFaults answer }
     ensures { result ≡ linted_in_numbers answer }

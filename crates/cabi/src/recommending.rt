@@ -13,12 +13,13 @@ use crate::numbers::{Advice, Part, Quick};
 pub fn vienghulac_recommend(table: &[u8], recipients: &[u8], mutual: bool, reply: bool) -> Advice
     ensures { result ≡ advice_in_numbers (recommended_of table.now recipients.now «mutual» reply) }
 {
-    numbers::advice_in_numbers(autocrypt::recommend(table, recipients, mutual, reply))
+    autocrypt::recommend(table, recipients, mutual, reply).into()
 }
 
 // `recommend_quick` of the library: the same for the same arguments, and how many recipients were looked up (A12). That is
 // the place of the first with disable, from 1, and the length of the list where nobody has it (A13); with a refusal it is
 // 0, like the advice.
+#[tactic(auto, using(crate::proofs::Answering::quick_same, recommend::proofs::Range::looked_up_most))]
 pub fn vienghulac_recommend_quick(
     table: &[u8],
     recipients: &[u8],
@@ -43,6 +44,5 @@ pub fn vienghulac_target_key(
 ) -> Part
     ensures { result ≡ part_in_numbers (target_part_of table.now recipients.now place) }
 {
-    let at = place as usize;
-    numbers::part_in_numbers(autocrypt::target_part(table, recipients, mutual, reply, at))
+    autocrypt::target_part(table, recipients, mutual, reply, place as usize).into()
 }

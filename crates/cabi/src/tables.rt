@@ -5,7 +5,6 @@ ghost use Rattle.inspect.specs.Inspecting.{table_rows, refused_showing, left_by_
 ghost use Rattle.convert.specs.Converting.{refused_converting, left_by_converting};
 ghost use Rattle.cabi.specs.Numbers.{in_numbers};
 
-use crate::numbers;
 use crate::numbers::Answer;
 
 // `check` of the library: is this a table that the other calls take (T13)? Answers 0, or the number of the refusal, 1 or
@@ -13,7 +12,7 @@ use crate::numbers::Answer;
 pub fn vienghulac_check(table: &[u8]) -> Answer
     ensures { result ≡ in_numbers (answer_of (first_of (table_rows table.now))) }
 {
-    numbers::in_numbers(autocrypt::check(table))
+    autocrypt::check(table).into()
 }
 
 // `convert` of the library: brings a table of an older version to the canonical form of addresses that is in force (T16).
@@ -23,7 +22,7 @@ pub fn vienghulac_convert(table: &mut [u8]) -> Answer
     ensures value { result ≡ in_numbers (answer_of (refused_converting table.old)) }
     ensures table_after { table.new ≡ left_by_converting table.old }
 {
-    numbers::in_numbers(autocrypt::convert(table))
+    autocrypt::convert(table).into()
 }
 
 // `entry` of the library: what a slot of the table holds, the first being at 0, in eleven numbers at the front of
@@ -33,6 +32,5 @@ pub fn vienghulac_entry(table: &[u8], slot: u64, numbers: &mut [u64]) -> Answer
     ensures value { result ≡ in_numbers (answer_of (refused_showing table.now (length numbers.old))) }
     ensures numbers_after { numbers.new ≡ left_by_showing table.now slot numbers.old }
 {
-    let at = slot as usize;
-    numbers::in_numbers(autocrypt::entry(table, at, numbers))
+    autocrypt::entry(table, slot as usize, numbers).into()
 }

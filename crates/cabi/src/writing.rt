@@ -5,7 +5,6 @@ ghost use Rattle.write.specs.Writing.{written_of, left_by_writing};
 ghost use Rattle.display.specs.Displaying.{displayed_of, left_by_displaying};
 ghost use Rattle.cabi.specs.Numbers.{written_in_numbers};
 
-use crate::numbers;
 use crate::numbers::Written;
 
 // `write_autocrypt` of the library: writes the Autocrypt field for the sender's address and key to the front of `out`,
@@ -21,7 +20,7 @@ pub fn vienghulac_write_autocrypt(
     ensures value { result ≡ written_in_numbers (written_of autocrypt_name address.now «mutual» key.now (length out.old)) }
     ensures out_after { out.new ≡ left_by_writing autocrypt_name address.now «mutual» key.now out.old }
 {
-    numbers::written_in_numbers(autocrypt::write_autocrypt(address, key, mutual, out))
+    autocrypt::write_autocrypt(address, key, mutual, out).into()
 }
 
 // `write_gossip` of the library: writes the Autocrypt-Gossip field for a recipient's address and key to the front of
@@ -30,7 +29,7 @@ pub fn vienghulac_write_gossip(address: &[u8], key: &[u8], out: &mut [u8]) -> Wr
     ensures value { result ≡ written_in_numbers (written_of gossip_name address.now false key.now (length out.old)) }
     ensures out_after { out.new ≡ left_by_writing gossip_name address.now false key.now out.old }
 {
-    numbers::written_in_numbers(autocrypt::write_gossip(address, key, out))
+    autocrypt::write_gossip(address, key, out).into()
 }
 
 // `display` of the library: writes an address as it is shown to the front of `out` (W11, W12). Answers 0 and its length, or the
@@ -40,5 +39,5 @@ pub fn vienghulac_display(address: &[u8], out: &mut [u8]) -> Written
     ensures value { result ≡ written_in_numbers (displayed_of address.now (length out.old)) }
     ensures out_after { out.new ≡ left_by_displaying address.now out.old }
 {
-    numbers::written_in_numbers(autocrypt::display(address, out))
+    autocrypt::display(address, out).into()
 }

@@ -9,6 +9,8 @@ use mathlib.Core.Bool.{Bool, true, false, not}
 use mathlib.Core.List.{List, [], ◌∷◌}
 use native.Mathlib.Omega.{arith}
 use borrow.Author.Rules.{rules}
+use borrow.Author.Tests.{eqb-true}
+use lib.Dec.{eqb}
 use lib.ListN.{length}
 use Rattle.octets.specs.Options.{is_some, or_else}
 use Rattle.settings.specs.Settings.{taken}
@@ -43,9 +45,11 @@ module _ (payload : List ℕ) (g : Gossip) (u : Bool) (v : u ≡ taken g) where
     takes : taken g ≡ true
     takes = sym v ∙ w
 
-    pub judge_empty : length payload ≡ 0 → JudgedAs false payload g Passed
+    pub judge_empty : (b : Bool) → b ≡ eqb (length payload) 0 → b ≡ true → JudgedAs false payload g Passed
     unfolding JudgedAs payload_in
-    judge_empty e = record { no_report = refl; no_row = rw (takes, empty_readable payload e); fields = rw (payload_in, takes) (empty_fields payload e) }
+    judge_empty b f t =
+        let e = eqb-true (length payload) 0 (sym f ∙ t) in
+        record { no_report = refl; no_row = rw (takes, empty_readable payload e); fields = rw (payload_in, takes) (empty_fields payload e) }
 
     module _ (c : Bool) (e : c ≡ is_some (fields_of payload)) where
       pub judge_unreadable : c ≡ false → JudgedAs false payload g Unreadable

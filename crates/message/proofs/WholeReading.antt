@@ -6,15 +6,14 @@
 --     read_alone, read_carrying   what the message brings
 --     the rulesets                opening, for `read`; sending and asking, for `read_on`; judged_on and reading, for `read_sent`
 -- Assumes nothing.
-use Prim.Native.Nat.{ℕ, ◌-◌, ◌<◌, ◌≤◌}
+use Prim.Native.Nat.{ℕ, ◌<◌, ◌≤◌}
 use mathlib.Core.Path.{◌≡◌, sym, ◌∙◌}
 use mathlib.Core.Bool.{true}
 use mathlib.Core.List.{List, []}
 use Rattle.std.specs.Prelude.{None}
 use native.Mathlib.Omega.{arith}
-use native.Mathlib.Nat.{sub-zero}
 use borrow.Author.Rules.{rules}
-use lib.ListN.{length, take, drop, length-take}
+use lib.ListN.{length, take, length-take}
 use lib.Seq.{take-take, take-length}
 use Rattle.octets.specs.Options.{or_else}
 use Rattle.refusals.specs.Rows.{first_of}
@@ -86,12 +85,12 @@ module _ (most receipt : ℕ) (outer : List ℕ) (v : Survey) (text₀ d key₀ 
     pub sent_within : n ≤ length sender
     sent_within = left_within (sender_in (fields_in outer)) k e sender d w n q
 
-    pub sent_on : (text : List ℕ) → length text ≡ length text₀ → Sent most receipt outer v text (take (n - 0) (drop 0 sender)) key₀
+    pub sent_on : (text : List ℕ) → length text ≡ length text₀ → Sent most receipt outer v text (take n sender) key₀
     sent_on text l =
         record {
           in_time = o.in_time;
           walked = record { surveyed = o.walked.surveyed; room = omega (arith, o.walked.room, l) };
-          sent = rw sub-zero (left_is (sender_in (fields_in outer)) k e sender d w n q);
+          sent = (left_is (sender_in (fields_in outer)) k e sender d w n q);
           key_room = o.key_room;
           key_most = o.key_most;
         }
@@ -118,8 +117,8 @@ module _ (most receipt : ℕ) (outer payload : List ℕ) (g : Gossip) (sender ke
       }
   front_read (Refused r) h = h
 
-  pub read_sent : (r : Reading) → ReadAs most receipt outer payload g (take (n - 0) (drop 0 sender)) key r → ReadAs most receipt outer payload g sender key r
-  read_sent r h = front_read r (rw sub-zero at h)
+  pub read_sent : (r : Reading) → ReadAs most receipt outer payload g (take n sender) key r → ReadAs most receipt outer payload g sender key r
+  read_sent r h = front_read r h
 
 pub ruleset sending = (sent_within, sent_on, rules)
 

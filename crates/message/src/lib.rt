@@ -16,7 +16,7 @@ use heads::Head;
 use keyowner::OwnKey;
 use outer::Sender;
 use refusals::Refusal;
-use settings::Settings;
+use settings::{Gossip, Settings};
 
 // What the outer block brings: the length of the sender's address, the effective date and the field that counts. The address
 // and the key stand in lent memory.
@@ -47,37 +47,28 @@ pub enum Judged {
 }
 
 // Refusal 7 (R7): only where gossip is taken (G2). An empty payload is none (G3).
-fn judge_payload(payload: &[u8], settings: Settings) -> Judged
-    ensures { JudgedAs false payload.now settings.gossip result }
+fn judge_payload(payload: &[u8], gossip: Gossip) -> Judged
+    ensures { JudgedAs false payload.now gossip result }
 {
-    let gossip = settings.gossip;
-    if !settings::is_taken(gossip) {
+    if !settings::is_taken(gossip) || payload.is_empty() {
         return Judged::Passed;
     }
-    if payload.len() == 0 {
-        return Judged::Passed;
+    if header::readable(payload) {
+        Judged::Searched
+    } else {
+        Judged::Unreadable
     }
-    if !header::readable(payload) {
-        return Judged::Unreadable;
-    }
-    Judged::Searched
 }
 
 // Refusals 6 and 7 (R6, R7).
-fn judge(
-    outer: &[u8],
-    survey: Survey,
-    payload: &[u8],
-    settings: Settings,
-    text: &mut [u8],
-) -> Judged
+fn judge(outer: &[u8], survey: Survey, payload: &[u8], gossip: Gossip, text: &mut [u8]) -> Judged
     requires { Walked outer.now survey text.old }
-    ensures { JudgedAs (is_reported (fields_in outer.now)) payload.now settings.gossip result }
+    ensures { JudgedAs (is_reported (fields_in outer.now)) payload.now gossip result }
 {
     if outer::is_report(outer, survey, text) {
         return Judged::Report;
     }
-    judge_payload(payload, settings)
+    judge_payload(payload, gossip)
 }
 
 // What the message of the sender brings, the key of its field written to the front of `key`.
@@ -118,7 +109,7 @@ fn read_sent(
         sender.now key.new result }
 {
     let limit = settings.key_limit;
-    match judge(outer, survey, payload, settings, text) {
+    match judge(outer, survey, payload, settings.gossip, text) {
         Judged::Report => Reading::Refused(Refusal::Report),
         Judged::Unreadable => Reading::Refused(Refusal::PayloadBlock),
         Judged::Passed => Reading::Alone(bring(receipt, outer, limit, survey, text, sender, key)),
@@ -152,7 +143,7 @@ fn read_on(
             payload,
             settings,
             text,
-            &sender[0..n],
+            &sender[..n],
             key,
         ),
         Sender::NotOne => Reading::Refused(Refusal::Sender),

@@ -2,7 +2,7 @@
 // is thin, takes any input, and tests here what a function below requires of its caller.
 #![tactic(auto)]
 
-ghost use Rattle.std.specs.Prelude.{◌≤◌};
+ghost use Rattle.std.specs.Prelude.{◌+◌, ◌≤◌, ◌↔◌, IsTrue, length};
 
 use slots::Slot;
 
@@ -22,12 +22,15 @@ fn tell(numbers: &mut [u64], told: &[u64], kind: u64) -> u64 {
     if numbers.len() < told.len() {
         return TOO_FEW;
     }
-    let mut i = 0;
-    while i < told.len() {
-        numbers[i] = told[i];
-        i += 1;
-    }
+    numbers[..told.len()].copy_from_slice(told);
     kind
+}
+
+// Are there so many octets from the place `at` on?
+fn has_room(s: &[u8], at: usize, width: usize) -> bool
+    ensures { IsTrue result ↔ (at + width ≤ length s.now) }
+{
+    width <= s.len() && at <= s.len() - width
 }
 
 #[unsafe(no_mangle)]
@@ -62,10 +65,7 @@ pub extern "C" fn probe_fill(out: &mut [u8], x: u8) {
 
 #[unsafe(no_mangle)]
 pub extern "C" fn probe_put(out: &mut [u8], at: usize, src: &[u8]) -> bool {
-    if out.len() < src.len() {
-        return false;
-    }
-    if out.len() - src.len() < at {
+    if !has_room(out, at, src.len()) {
         return false;
     }
     octets::put(out, at, src);
@@ -74,10 +74,7 @@ pub extern "C" fn probe_put(out: &mut [u8], at: usize, src: &[u8]) -> bool {
 
 #[unsafe(no_mangle)]
 pub extern "C" fn probe_put_lower(out: &mut [u8], at: usize, src: &[u8]) -> bool {
-    if out.len() < src.len() {
-        return false;
-    }
-    if out.len() - src.len() < at {
+    if !has_room(out, at, src.len()) {
         return false;
     }
     octets::put_lower(out, at, src);
@@ -86,13 +83,7 @@ pub extern "C" fn probe_put_lower(out: &mut [u8], at: usize, src: &[u8]) -> bool
 
 #[unsafe(no_mangle)]
 pub extern "C" fn probe_number_at(s: &[u8], at: usize, width: usize) -> Answer {
-    if 8 < width {
-        return Answer { kind: 1, value: 0 };
-    }
-    if s.len() < width {
-        return Answer { kind: 1, value: 0 };
-    }
-    if s.len() - width < at {
+    if 8 < width || !has_room(s, at, width) {
         return Answer { kind: 1, value: 0 };
     }
     Answer {
@@ -103,10 +94,7 @@ pub extern "C" fn probe_number_at(s: &[u8], at: usize, width: usize) -> Answer {
 
 #[unsafe(no_mangle)]
 pub extern "C" fn probe_put_number(out: &mut [u8], at: usize, width: usize, n: u64) -> bool {
-    if out.len() < width {
-        return false;
-    }
-    if out.len() - width < at {
+    if !has_room(out, at, width) {
         return false;
     }
     octets::put_number(out, at, width, n);
@@ -128,11 +116,7 @@ pub extern "C" fn probe_decode(text: &[u8], out: &mut [u8]) -> Answer {
 // kind 0: the place behind the lines; 2: too little room
 #[unsafe(no_mangle)]
 pub extern "C" fn probe_lines(key: &[u8], out: &mut [u8], at: usize) -> Answer {
-    let n = keylines::lines_length(key);
-    if out.len() < n {
-        return Answer { kind: 2, value: 0 };
-    }
-    if out.len() - n < at {
+    if !has_room(out, at, keylines::lines_length(key)) {
         return Answer { kind: 2, value: 0 };
     }
     let end = keylines::write_lines(key, out, at);
@@ -166,11 +150,12 @@ pub extern "C" fn probe_quoted(s: &[u8], at: usize) -> Answer {
 // class 0: digits; 1: letters; any other: what atoms are made of
 #[unsafe(no_mangle)]
 pub extern "C" fn probe_run_end(s: &[u8], at: usize, class: u8) -> usize {
-    match class {
-        0 => runs::run_end(s, at, runs::Class::Digit),
-        1 => runs::run_end(s, at, runs::Class::Letter),
-        _ => runs::run_end(s, at, runs::Class::Atom),
-    }
+    let class = match class {
+        0 => runs::Class::Digit,
+        1 => runs::Class::Letter,
+        _ => runs::Class::Atom,
+    };
+    runs::run_end(s, at, class)
 }
 
 // kind 0: seconds since 1970; 1: unavailable
@@ -232,17 +217,10 @@ pub extern "C" fn probe_field_number(block: &[u8], k: usize, places: &mut [u64])
 #[unsafe(no_mangle)]
 pub extern "C" fn probe_take(block: &[u8], at: usize, places: &mut [u64]) -> u64 {
     let taken = reader::take(block, at);
-    let handed = taken.handed;
     let place = taken.at as u64;
-    match handed {
-        reader::Handed::Over => {
-            let told = [place];
-            tell(places, &told, 0)
-        }
-        reader::Handed::Broken => {
-            let told = [place];
-            tell(places, &told, 1)
-        }
+    match taken.handed {
+        reader::Handed::Over => tell(places, &[place], 0),
+        reader::Handed::Broken => tell(places, &[place], 1),
         reader::Handed::Field {
             name,
             name_end,
@@ -302,10 +280,7 @@ pub extern "C" fn probe_was_canonical(s: &[u8]) -> bool {
 // what is not canonical is nobody's form
 #[unsafe(no_mangle)]
 pub extern "C" fn probe_has_form(s: &[u8], form: &[u8]) -> bool {
-    if address::is_canonical(form) {
-        return address::has_form(s, form);
-    }
-    false
+    address::is_canonical(form) && address::has_form(s, form)
 }
 
 // kind 0: so many octets; 2: too little room, or no plain address
@@ -362,12 +337,11 @@ pub extern "C" fn probe_next_address(
     };
     match addresslist::next_address(s, cursor) {
         addresslist::NextAddress::Address { from, to, next } => {
-            let stage = next.stage;
             let told = [
                 from as u64,
                 to as u64,
                 next.at as u64,
-                stage_number(stage),
+                stage_number(next.stage),
                 next.inside as u64,
             ];
             tell(places, &told, 0)
@@ -393,10 +367,7 @@ pub extern "C" fn probe_count(s: &[u8]) -> Answer {
 #[unsafe(no_mangle)]
 pub extern "C" fn probe_only(s: &[u8], places: &mut [u64]) -> u64 {
     match addresslist::only_address(s) {
-        Some(one) => {
-            let told = [one.from as u64, one.to as u64];
-            tell(places, &told, 0)
-        }
+        Some(one) => tell(places, &[one.from as u64, one.to as u64], 0),
         None => 1,
     }
 }
@@ -417,8 +388,7 @@ pub extern "C" fn probe_find(t: &[u8], address: &[u8]) -> Answer {
     let mut tags = [0u32; Slot::MOST];
     match lookup::check(t, &mut tags, slots::Spelling::Canonical) {
         table::Checked::Sound => slot_found(lookup::find(t, &tags, address)),
-        table::Checked::Length => Answer { kind: 2, value: 0 },
-        table::Checked::Slot(_) => Answer { kind: 2, value: 0 },
+        table::Checked::Length | table::Checked::Slot(_) => Answer { kind: 2, value: 0 },
     }
 }
 
@@ -432,16 +402,6 @@ pub extern "C" fn probe_count_free(t: &[u8]) -> usize {
     table::count_free(t)
 }
 
-// As many octets as a key may have in a slot, and no more than there is room for.
-fn limit_for(room: usize) -> usize
-    ensures { result ≤ room }
-{
-    if room < Slot::KEY_LIMIT {
-        return room;
-    }
-    Slot::KEY_LIMIT
-}
-
 // kind 0: valid: its address from where to where, the key's length, 1 for mutual; 1: spoiled, by a key too that has no room
 #[unsafe(no_mangle)]
 pub extern "C" fn probe_read_field(value: &[u8], key: &mut [u8], told: &mut [u64]) -> u64 {
@@ -449,7 +409,8 @@ pub extern "C" fn probe_read_field(value: &[u8], key: &mut [u8], told: &mut [u64
     if told.len() < 4 {
         return TOO_FEW;
     }
-    let Some(said) = keyfield::read_field(value, limit_for(key.len()), key) else {
+    let limit = key.len().min(Slot::KEY_LIMIT);
+    let Some(said) = keyfield::read_field(value, limit, key) else {
         return 1;
     };
     let parts = [

@@ -4,13 +4,12 @@
 --     refused_answered, refused_done    `process_with`: the message is refused
 --     alone_sends .. alone_done         `process_with`: it comes alone
 --     carrying_readied .. carrying_done    `process_with`: it carries a payload
---     short_is                          `is_short`
 --     roomy_short, roomy_long           `process_open`: a text that is as long as the blocks that are read need
 --     opened .. table_left              `process`: rows 1 and 2
 -- Assumes nothing.
-use Prim.Native.Nat.{ℕ, ◌-◌, ◌≤◌}
+use Prim.Native.Nat.{ℕ, ◌≤◌}
 use mathlib.Core.Path.{◌≡◌, refl, sym, ap, ◌∙◌}
-use mathlib.Core.Bool.{Bool, true, not, ◌&&◌, ◌||◌}
+use mathlib.Core.Bool.{Bool, true, not, ◌||◌}
 use mathlib.Core.List.{List, []}
 use Rattle.std.specs.Prelude.{Option, Some, None}
 use native.Mathlib.Omega.{arith}
@@ -18,7 +17,7 @@ use native.Mathlib.Nat.{sub-zero}
 use borrow.Author.Rules.{rules}
 use borrow.Author.Tests.{leb-true}
 use lib.Dec.{leb}
-use lib.ListN.{length, take, drop}
+use lib.ListN.{length, take}
 use Rattle.octets.proofs.Tests.{and_left, and_right}
 use Rattle.refusals.specs.Rows.{first_of, answer_of}
 use Rattle.refusals.specs.declared.Refusal.{Refusal}
@@ -64,15 +63,17 @@ module _ (t tags : List ℕ) (b : Brought) (sender key outer : List ℕ) (survey
 
 module _ (outer roll listed places : List ℕ) (r : Rolled) (h : GatheredAs outer roll listed places r)
     (t : List ℕ) (b : Brought) (sender key payload : List ℕ) where
-  heard_is : gossip_of 2048 (take (r.end - 0) (drop 0 roll)) payload ≡ heard_in 2048 outer payload
-  heard_is = rw (gathered outer roll listed places r h)
+  heard_is : gossip_of 2048 (take r.end roll) payload ≡ heard_in 2048 outer payload
+  heard_is =
+      let recipients = rw sub-zero at (gathered outer roll listed places r h) in
+      rw recipients
 
   pub carried_answered : (a : Answer)
-      → a ≡ answer_of (first_of (room_rows t (mail_of sender key b (gossip_of 2048 (take (r.end - 0) (drop 0 roll)) payload))))
+      → a ≡ answer_of (first_of (room_rows t (mail_of sender key b (gossip_of 2048 (take r.end roll) payload))))
       → a ≡ answer_of (first_of (room_rows t (mail_of sender key b (heard_in 2048 outer payload))))
   carried_answered a e = e ∙ ap (λ (gs : List Gossiped). answer_of (first_of (room_rows t (mail_of sender key b gs)))) heard_is
 
-  pub carried_left : (u : List ℕ) → u ≡ delivered t (mail_of sender key b (gossip_of 2048 (take (r.end - 0) (drop 0 roll)) payload))
+  pub carried_left : (u : List ℕ) → u ≡ delivered t (mail_of sender key b (gossip_of 2048 (take r.end roll) payload))
       → u ≡ delivered t (mail_of sender key b (heard_in 2048 outer payload))
   carried_left u e = e ∙ ap (λ (gs : List Gossiped). delivered t (mail_of sender key b gs)) heard_is
 
@@ -98,7 +99,7 @@ module _ (receipt : ℕ) (outer payload : List ℕ) (g : Gossip) (sender key : L
   carrying_within v q = (carrying v q).brings.within
 
 -- and the table is open
-module _ (t tags : List ℕ) (receipt : ℕ) (outer payload : List ℕ) (g : Gossip) (text₀ : List ℕ) (y : Roomy t tags outer payload g text₀)
+module _ (t tags : List ℕ) (receipt : ℕ) (outer payload : List ℕ) (g : Gossip) (room : ℕ) (y : Roomy t tags outer payload g room)
     (sender key : List ℕ) (r : Reading) (h : ReadAs 2048 receipt outer payload g sender key r) where
   module _ (x : Refusal) (q : r ≡ Unread x) where
     first : refused_processing t receipt outer payload g ≡ Some x
@@ -114,37 +115,37 @@ module _ (t tags : List ℕ) (receipt : ℕ) (outer payload : List ℕ) (g : Gos
   -- what it brings is the message of both blocks
   module _ (b : Brought) (gs : List Gossiped) (m : Brings sender key b gs (message_of 2048 receipt outer payload g))
       (e : first_of (message_rows receipt outer payload g) ≡ None) where
-    answered : (a : Answer) → a ≡ answer_of (first_of (room_rows t (mail_of (take (b.sender - 0) (drop 0 sender)) key b gs)))
+    answered : (a : Answer) → a ≡ answer_of (first_of (room_rows t (mail_of (take b.sender sender) key b gs)))
         → a ≡ answer_of (refused_processing t receipt outer payload g)
     answered a w =
-        (rw (sub-zero, m.is) at w) ∙ ap (λ (o : Option Refusal). answer_of o) (sym (room_first t receipt outer payload g y.opened.sound e))
+        (rw m.is at w) ∙ ap (λ (o : Option Refusal). answer_of o) (sym (room_first t receipt outer payload g y.opened.sound e))
 
-    left : (u : List ℕ) → u ≡ delivered t (mail_of (take (b.sender - 0) (drop 0 sender)) key b gs) → u ≡ left_by_processing t receipt outer payload g
-    left u w = (rw (sub-zero, m.is) at w) ∙ room_left t receipt outer payload g y.opened.sound e
+    left : (u : List ℕ) → u ≡ delivered t (mail_of (take b.sender sender) key b gs) → u ≡ left_by_processing t receipt outer payload g
+    left u w = (rw m.is at w) ∙ room_left t receipt outer payload g y.opened.sound e
 
-    sends : Sends t tags (take (b.sender - 0) (drop 0 sender)) key b
-    sends = record { opened = y.opened; ready = rw sub-zero m.ready }
+    sends : Sends t tags (take b.sender sender) key b
+    sends = record { opened = y.opened; ready = m.ready }
 
   module _ (b : Brought) (q : r ≡ Alone b) where
     brought : AloneAs 2048 receipt outer payload g sender key b
     brought = alone receipt outer payload g sender key r h b q
 
-    pub alone_sends : Sends t tags (take (b.sender - 0) (drop 0 sender)) key b
+    pub alone_sends : Sends t tags (take b.sender sender) key b
     alone_sends = sends b [] brought.brings brought.in_order
 
-    pub alone_answered : (a : Answer) → a ≡ answer_of (first_of (room_rows t (mail_of (take (b.sender - 0) (drop 0 sender)) key b [])))
+    pub alone_answered : (a : Answer) → a ≡ answer_of (first_of (room_rows t (mail_of (take b.sender sender) key b [])))
         → a ≡ answer_of (refused_processing t receipt outer payload g)
     alone_answered = answered b [] brought.brings brought.in_order
 
-    pub alone_done : (u : List ℕ) → u ≡ delivered t (mail_of (take (b.sender - 0) (drop 0 sender)) key b []) → u ≡ left_by_processing t receipt outer payload g
+    pub alone_done : (u : List ℕ) → u ≡ delivered t (mail_of (take b.sender sender) key b []) → u ≡ left_by_processing t receipt outer payload g
     alone_done = left b [] brought.brings brought.in_order
 
   module _ (b : Brought) (v : Survey) (q : r ≡ Carrying b v) where
     carried_so : CarryingAs 2048 receipt outer payload g sender key b v
     carried_so = carrying receipt outer payload g sender key r h b v q
 
-    pub carrying_readied : (text : List ℕ) → length text ≡ length text₀
-        → Readied t tags b (take (b.sender - 0) (drop 0 sender)) key outer v payload text
+    pub carrying_readied : (text : List ℕ) → length text ≡ room
+        → Readied t tags b (take b.sender sender) key outer v payload text
     carrying_readied text l =
         record {
           sends = sends b (heard_in 2048 outer payload) carried_so.brings carried_so.in_order;
@@ -154,11 +155,11 @@ module _ (t tags : List ℕ) (receipt : ℕ) (outer payload : List ℕ) (g : Gos
           outer_fits = omega (arith, y.outer_fits, block_short outer (survey_readable outer v carried_so.surveyed), l);
         }
 
-    pub carrying_answered : (a : Answer) → a ≡ answer_of (first_of (room_rows t (mail_of (take (b.sender - 0) (drop 0 sender)) key b (heard_in 2048 outer payload))))
+    pub carrying_answered : (a : Answer) → a ≡ answer_of (first_of (room_rows t (mail_of (take b.sender sender) key b (heard_in 2048 outer payload))))
         → a ≡ answer_of (refused_processing t receipt outer payload g)
     carrying_answered = answered b (heard_in 2048 outer payload) carried_so.brings carried_so.in_order
 
-    pub carrying_done : (u : List ℕ) → u ≡ delivered t (mail_of (take (b.sender - 0) (drop 0 sender)) key b (heard_in 2048 outer payload))
+    pub carrying_done : (u : List ℕ) → u ≡ delivered t (mail_of (take b.sender sender) key b (heard_in 2048 outer payload))
         → u ≡ left_by_processing t receipt outer payload g
     carrying_done = left b (heard_in 2048 outer payload) carried_so.brings carried_so.in_order
 
@@ -170,14 +171,8 @@ pub ruleset reading_carrying = (carrying_readied, carrying_answered, carrying_do
 
 pub ruleset refusing = (refused_answered, refused_done, rules)
 
--- `is_short`
-pub short_is : (outer payload : List ℕ) (g : Gossip) (b : Bool) → b ≡ taken g
-    → (leb (length outer) 8192 && (not b || leb (length payload) 8192)) ≡ is_short outer payload g
-unfolding is_short
-short_is outer payload g b e = rw e
-
 -- `process_open`
-module _ (t tags outer payload : List ℕ) (g : Gossip) (text : List ℕ) (s : Open t tags) where
+module _ (t tags outer payload : List ℕ) (g : Gossip) (s : Open t tags) where
   module _ (b : Bool) (yes : b ≡ true) (is : b ≡ is_short outer payload g) where
     short : is_short outer payload g ≡ true
     short = sym is ∙ yes
@@ -190,16 +185,17 @@ module _ (t tags outer payload : List ℕ) (g : Gossip) (text : List ℕ) (s : O
     unfolding is_short
     payload_short k = rw k at (and_right (leb (length outer) 8192) (not (taken g) || leb (length payload) 8192) short)
 
-    pub roomy_short : length text ≡ 8192 → Roomy t tags outer payload g text
-    roomy_short l =
+    pub roomy_short : Roomy t tags outer payload g 8192
+    roomy_short =
         record {
           opened = s;
-          outer_fits = omega (arith, leb-true (length outer) 8192 outer_short, l);
-          payload_fits = λ k. omega (arith, leb-true (length payload) 8192 (payload_short k), l);
+          most = omega arith;
+          outer_fits = omega (arith, leb-true (length outer) 8192 outer_short);
+          payload_fits = λ k. omega (arith, leb-true (length payload) 8192 (payload_short k));
         }
 
-  pub roomy_long : length text ≡ 65536 → Roomy t tags outer payload g text
-  roomy_long l = record { opened = s; outer_fits = omega (arith, l); payload_fits = λ k. omega (arith, l) }
+  pub roomy_long : Roomy t tags outer payload g 65536
+  roomy_long = record { opened = s; most = omega arith; outer_fits = omega arith; payload_fits = λ k. omega arith }
 
 -- `process`
 module _ (t tags : List ℕ) (k : Answer) (h : Opens t tags k) where

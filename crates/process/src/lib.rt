@@ -21,11 +21,14 @@ use slots::Slot;
 // than half as long as all else of a short mail.
 const SHORT: usize = 8192;
 
+// Room for the values of every message.
+const LONG: usize = header::LIMIT;
+
 // The most addresses that a block can have (B1, L6): one takes three octets, and another stands between it and the next.
 const MOST_RECIPIENTS: usize = header::LIMIT / 4;
 
 // Refusal 8 for a message whose payload is searched (R8): gossip counts that is about its recipients.
-#[tactic(auto, using(crate::proofs::Processing::rolling))]
+#[tactic(auto, using(recipients::proofs::RecipientRoll::gathered_tags, recipients::proofs::RecipientRoll::gathered_places))]
 fn deliver_carrying(
     table: &mut [u8],
     tags: &mut [u32; Slot::MOST],
@@ -48,8 +51,6 @@ fn deliver_carrying(
     let mut listed = [0u32; MOST_RECIPIENTS];
     let mut places = [0u16; MOST_RECIPIENTS];
     let rolled = recipients::gather(outer, survey, text, &mut roll, &mut listed, &mut places);
-    let end = rolled.end;
-    let many = rolled.many;
     delivery::deliver(
         table,
         tags,
@@ -58,73 +59,71 @@ fn deliver_carrying(
         key,
         payload,
         Slot::KEY_LIMIT,
-        &roll[0..end],
-        &listed[0..many],
-        &places[0..many],
+        &roll[..rolled.end],
+        &listed[..rolled.many],
+        &places[..rolled.many],
         text,
     )
 }
 
-// Refusals 3 to 8, with room for the values of the blocks that are read.
-#[tactic(auto, using(crate::proofs::Processing::telling, crate::proofs::Processing::reading_alone))]
-fn process_with(
+// Refusals 3 to 8, with room for `N` octets of a value.
+#[tactic(auto, using(crate::proofs::Processing::telling))]
+fn process_with<const N: usize>(
     table: &mut [u8],
     tags: &mut [u32; Slot::MOST],
     receipt: u64,
     outer: &[u8],
     payload: &[u8],
     gossip: Gossip,
-    text: &mut [u8],
 ) -> Answer
-    requires { Roomy table.old tags.old outer.now payload.now gossip text.old }
+    requires { Roomy table.old tags.old outer.now payload.now gossip N }
     ensures value { result ≡ answer_of (refused_processing table.old receipt outer.now payload.now gossip) }
     ensures table_after { table.new ≡ left_by_processing table.old receipt outer.now payload.now gossip }
 {
+    let mut text = [0u8; N];
     let mut sender = [0u8; Slot::ADDRESS_ROOM];
     let mut key = [0u8; Slot::KEY_LIMIT];
+    let settings = Settings {
+        gossip,
+        key_limit: Slot::KEY_LIMIT,
+    };
     match message::read(
         receipt,
         outer,
         payload,
-        Settings {
-            gossip,
-            key_limit: Slot::KEY_LIMIT,
-        },
-        text,
+        settings,
+        &mut text,
         &mut sender,
         &mut key,
     ) {
         Reading::Alone(brought) => {
-            let n = brought.sender;
-            delivery::deliver_alone(table, tags, brought, &sender[0..n], &key)
+            delivery::deliver_alone(table, tags, brought, &sender[..brought.sender], &key)
         }
-        Reading::Carrying(brought, survey) => {
-            let n = brought.sender;
-            deliver_carrying(
-                table,
-                tags,
-                brought,
-                &sender[0..n],
-                &key,
-                outer,
-                survey,
-                payload,
-                text,
-            )
-        }
+        Reading::Carrying(brought, survey) => deliver_carrying(
+            table,
+            tags,
+            brought,
+            &sender[..brought.sender],
+            &key,
+            outer,
+            survey,
+            payload,
+            &mut text,
+        ),
         Reading::Refused(refusal) => Answer::Refused(refusal),
     }
 }
 
 // Are the blocks that are read short, and so their values? A payload that is not taken is not read (G2).
+#[tactic(auto, unfolding(crate::specs::Stages::is_short))]
 fn is_short(outer: &[u8], payload: &[u8], gossip: Gossip) -> bool
     ensures { result ≡ is_short outer.now payload.now gossip }
 {
-    let takes = settings::is_taken(gossip);
-    (outer.len() <= SHORT) & (!takes | (payload.len() <= SHORT))
+    outer.len() <= SHORT && (!settings::is_taken(gossip) || payload.len() <= SHORT)
 }
 
 // Refusals 3 to 8, with the table open, and as much room for values as the blocks that are read need.
+#[tactic(auto, using(crate::proofs::Processing::roomy_long))]
 fn process_open(
     table: &mut [u8],
     tags: &mut [u32; Slot::MOST],
@@ -138,11 +137,10 @@ fn process_open(
     ensures table_after { table.new ≡ left_by_processing table.old receipt outer.now payload.now gossip }
 {
     if is_short(outer, payload, gossip) {
-        let mut text = [0u8; SHORT];
-        return process_with(table, tags, receipt, outer, payload, gossip, &mut text);
+        process_with::<SHORT>(table, tags, receipt, outer, payload, gossip)
+    } else {
+        process_with::<LONG>(table, tags, receipt, outer, payload, gossip)
     }
-    let mut text = [0u8; header::LIMIT];
-    process_with(table, tags, receipt, outer, payload, gossip, &mut text)
 }
 
 // Processes a message: brings the table up to date with one received mail (U1). `receipt` is when the mail came in, in
@@ -167,6 +165,7 @@ fn process_open(
 //     8      the message needs more new entries than there are free slots (R8)
 // With a refusal the table stays as it was, octet by octet (R32). Parts of the table that were handed out before end where
 // the answer is `Done` (A11).
+#[tactic(auto, using(crate::proofs::Processing::processing))]
 pub fn process(
     table: &mut [u8],
     receipt: u64,

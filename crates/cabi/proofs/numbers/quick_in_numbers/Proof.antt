@@ -1,7 +1,0 @@
--- `cabi::quick_in_numbers` meets its contract: the laws of `Answering` answer every need. Assumes nothing.
-use Rattle.cabi.proofs.Answering.{answering}
-use Rattle.cabi.proofs.numbers.quick_in_numbers as fn
-
-pub quick_in_numbers_spec : {M : Type 1} → fn.Statement.statement M
-quick_in_numbers_spec =
-    fn.Tie.close (fn.Tie.spec (λ c. search answering) (λ c. search answering) (λ c. search answering))

@@ -1,8 +1,0 @@
--- `cabi::vienghulac_display` meets its contract: the laws of `Answering` answer every need. Assumes nothing.
-use Rattle.cabi.proofs.Answering.{answering}
-use Rattle.cabi.proofs.writing.vienghulac_display as fn
-
-pub vienghulac_display_spec : {M : Type 1} → fn.Statement.statement M
-vienghulac_display_spec =
-    fn.Tie.close (fn.Tie.spec (λ c. search answering) (λ c. search answering) (λ c. search answering)
-    (λ c. search answering))

@@ -1,0 +1,11 @@
+use Rattle.message.proofs.WholeReading.{opening}
+use Rattle.message.proofs.read.Goals as goal
+
+pub returns-then-receipt-gt-TIME_LIMIT : goal.returns-then-receipt-gt-TIME_LIMIT
+returns-then-receipt-gt-TIME_LIMIT c = search opening
+
+pub read_on-requires : goal.read_on-requires
+read_on-requires c = search opening
+
+pub returns-in-Unreadable : goal.returns-in-Unreadable
+returns-in-Unreadable c = search opening
