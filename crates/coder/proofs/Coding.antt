@@ -65,9 +65,6 @@ pub basics_begin : (d ps : List ℕ) → Basics d d ps 0 0
 basics_begin d ps = record { wrote = wrote_none d 0 _ (omega arith); upto = omega arith; kept = refl; inside = omega arith }
 
 module _ (d out ps : List ℕ) (at i : ℕ) (g : Basics d out ps at i) where
-  pub basics_kept : length out ≡ length d
-  basics_kept = g.kept
-
   pub basics_inside : at ≤ length out
   basics_inside = g.inside
 
@@ -90,7 +87,7 @@ module _ (d out ps : List ℕ) (at i : ℕ) (g : Basics d out ps at i) where
   unfolding below
   basics_end l = rw (drop_done ps i l) at g.wrote
 
-pub ruleset basics = (basics_begin, basics_kept, basics_inside, basics_next, basics_full, basics_end, rules)
+pub ruleset basics = (basics_begin, basics_inside, basics_next, basics_full, basics_end, rules)
 
 -- `put_delimiter`
 module _ (d : List ℕ) (at : ℕ) (h : at ≤ length d) where

@@ -92,9 +92,6 @@ walk_begin d b n ps s h =
     }
 
 module _ (d out : List ℕ) (b n : ℕ) (ps : List ℕ) (s t : Coder) (i : ℕ) (h : Walk d out b n ps s t i) where
-  pub walk_kept : length out ≡ length d
-  walk_kept = h.kept
-
   pub walk_ready : i < length ps → Ready (length out) 1 t
   walk_ready l =
       record {
@@ -137,4 +134,4 @@ module _ (d out : List ℕ) (b n : ℕ) (ps : List ℕ) (s t : Coder) (i : ℕ) 
         counted = h.counted;
       }
 
-pub ruleset walking = (walk_begin, walk_kept, walk_ready, walk_next, walk_full, walk_end, rules)
+pub ruleset walking = (walk_begin, walk_ready, walk_next, walk_full, walk_end, rules)

@@ -103,9 +103,6 @@ rounds_begin d ps b at h =
     }
 
 module _ (d out ps : List ℕ) (b at : ℕ) (s : Coder) (n : ℕ) (g : Rounds d out ps b at s n) where
-  pub rounds_kept : length out ≡ length d
-  rounds_kept = g.kept
-
   module _ (f : Option ℕ) where
     pub rounds_end : f ≡ None → f ≡ reduce min (filter (λ c. leb n c) ps) → Written d at out s.at (numbers ps b) []
     rounds_end a e = rw (passes_none (length ps) ps b n s.delta s.bias s.h (sym (least_is n ps f e) ∙ a)) at g.wrote
@@ -160,4 +157,4 @@ module _ (d out ps : List ℕ) (b at : ℕ) (s : Coder) (n : ℕ) (g : Rounds d 
             let k : Ending out out₁ b n m ps s = rw q at p in
             full_then d at out s.at _ _ ahead out₁ (k.long (passes (length ps) ps b (m + 1)))
 
-pub ruleset rounds = (rounds_begin, rounds_kept, rounds_end, rounds_able, rounds_less, rounds_fits, rounds_next, rounds_full, rules)
+pub ruleset rounds = (rounds_begin, rounds_end, rounds_able, rounds_less, rounds_fits, rounds_next, rounds_full, rules)

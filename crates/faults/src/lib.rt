@@ -3,7 +3,7 @@
 #![tactic(auto)]
 
 ghost use Rattle.std.specs.Prelude.{◌+◌, ◌≤◌, ◌≡◌, length};
-ghost use Rattle.faults.specs.Faults.{no_flaws, has_kind, numbers_of, faults_at, kinds};
+ghost use Rattle.faults.specs.Faults.{no_flaws, numbers_of, faults_at, kinds};
 ghost use Rattle.faults.specs.Laying.{laid_at, Placed, numbers_if, room};
 
 // The kinds of faults (O3). The first is about a block, the others about a field.
@@ -36,6 +36,7 @@ pub struct Flaws {
 }
 
 // A field that has none.
+#[tactic(auto, unfolding(crate::specs::Faults::no_flaws))]
 pub fn no_flaws() -> Flaws
     ensures { result ≡ no_flaws }
 {
@@ -50,35 +51,8 @@ pub fn no_flaws() -> Flaws
     }
 }
 
-// Does the field have the fault of this kind?
-fn has_kind(flaws: Flaws, kind: u32) -> bool
-    ensures { result ≡ has_kind flaws kind }
-{
-    if kind == MORE_VALID {
-        return flaws.more_valid;
-    }
-    if kind == WRONG_ADDRESS {
-        return flaws.wrong_address;
-    }
-    if kind == UNKNOWN_ATTRIBUTE {
-        return flaws.unknown_attribute;
-    }
-    if kind == KEY_DATA {
-        return flaws.key_data;
-    }
-    if kind == GOSSIP_OUTSIDE {
-        return flaws.gossip_outside;
-    }
-    if kind == GOSSIP_UNLISTED {
-        return flaws.gossip_unlisted;
-    }
-    if kind == GOSSIP_PREFERENCE {
-        return flaws.gossip_preference;
-    }
-    false
-}
-
 // Writes a number to the place `at`, if the list goes so far.
+#[tactic(auto, using(crate::proofs::Laying::placing))]
 fn put_number(list: &mut [u32], at: usize, x: u32)
     ensures { Placed list.old at x list.new }
 {
@@ -89,6 +63,7 @@ fn put_number(list: &mut [u32], at: usize, x: u32)
 
 // Writes the numbers of a fault from the place `at` on, as far as the list goes, if the fault is there. Answers the place
 // behind them.
+#[tactic(auto, unfolding(crate::specs::Laying::numbers_if, crate::specs::Laying::laid_at))]
 pub fn put_fault(
     list: &mut [u32],
     at: usize,
@@ -101,13 +76,13 @@ pub fn put_fault(
     ensures value { result ≡ at + length (numbers_if there block place kind) }
     ensures list_after { list.new ≡ laid_at list.old at (numbers_if there block place kind) }
 {
-    if there {
-        put_number(&mut *list, at, block);
-        put_number(&mut *list, at + 1, place);
-        put_number(&mut *list, at + 2, kind);
-        return at + 3;
+    if !there {
+        return at;
     }
-    at
+    put_number(&mut *list, at, block);
+    put_number(&mut *list, at + 1, place);
+    put_number(&mut *list, at + 2, kind);
+    at + 3
 }
 
 // Writes the faults of the field at a place of a block, in the order of their kinds (O4).
@@ -116,11 +91,18 @@ pub fn put_flaws(list: &mut [u32], at: usize, block: u32, place: u32, flaws: Fla
     ensures value { result ≡ at + length (numbers_of (faults_at block place (kinds flaws))) }
     ensures list_after { list.new ≡ laid_at list.old at (numbers_of (faults_at block place (kinds flaws))) }
 {
-    let mut kind = MORE_VALID;
+    let kinds = [
+        (MORE_VALID, flaws.more_valid),
+        (WRONG_ADDRESS, flaws.wrong_address),
+        (UNKNOWN_ATTRIBUTE, flaws.unknown_attribute),
+        (KEY_DATA, flaws.key_data),
+        (GOSSIP_OUTSIDE, flaws.gossip_outside),
+        (GOSSIP_UNLISTED, flaws.gossip_unlisted),
+        (GOSSIP_PREFERENCE, flaws.gossip_preference),
+    ];
     let mut to = at;
-    while kind <= GOSSIP_PREFERENCE {
-        to = put_fault(&mut *list, to, has_kind(flaws, kind), block, place, kind);
-        kind += 1;
+    for (kind, there) in kinds {
+        to = put_fault(&mut *list, to, there, block, place, kind);
     }
     to
 }

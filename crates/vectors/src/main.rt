@@ -34,21 +34,6 @@ const MOST_POINTS: usize = 256;
 // Four octets for each of them (L20).
 const MOST_OCTETS: usize = 1024;
 
-// The place of the line's end that follows the place `at`, or the end of the text.
-fn line_end(s: &[u8], at: usize) -> usize
-    requires { at ≤ length s.now }
-    ensures { (at ≤ result) × (result ≤ length s.now) }
-{
-    let mut i = at;
-    while i < s.len() {
-        if s[i] == b'\n' {
-            return i;
-        }
-        i += 1;
-    }
-    i
-}
-
 fn print_octets(rt: &impl Print, s: &[u8]) -> io::Result<()> {
     for x in s {
         print!(rt; "{x:02x}")?;
@@ -59,7 +44,7 @@ fn print_octets(rt: &impl Print, s: &[u8]) -> io::Result<()> {
 fn run_decode(rt: &impl Print, text: &[u8]) -> io::Result<()> {
     let mut out = [0u8; MOST_KEY];
     match keydata::decode(text, &mut out) {
-        keydata::Decoded::Octets(n) => print_octets(rt, &out[0..n]),
+        keydata::Decoded::Octets(n) => print_octets(rt, &out[..n]),
         keydata::Decoded::Refused => rt.write_all(b"spoiled\n"),
     }
 }
@@ -70,7 +55,7 @@ fn run_lines(rt: &impl Print, text: &[u8]) -> io::Result<()> {
         return rt.write_all(b"no room\n");
     }
     let n = keylines::write_lines(text, &mut out, 0);
-    rt.write_all(&out[0..n])
+    rt.write_all(&out[..n])
 }
 
 fn print_number(rt: &impl Print, n: u64) -> io::Result<()> {
@@ -103,10 +88,8 @@ fn print_month(rt: &impl Print, year: u64, month: u64) -> io::Result<()>
 fn print_year(rt: &impl Print, year: u64) -> io::Result<()>
     requires { (1900 ≤ year) × (year ≤ 9999) }
 {
-    let mut month = 1;
-    while month <= 12 {
+    for month in 1..=12 {
         print_month(rt, year, month)?;
-        month += 1;
     }
     Ok(())
 }
@@ -167,11 +150,9 @@ fn run_points(rt: &impl Print, text: &[u8]) -> io::Result<()> {
 }
 
 fn run(rt: &impl Print, line: &[u8]) -> io::Result<()> {
-    if line.len() < 2 {
+    let [kind, _, text @ ..] = line else {
         return Ok(());
-    }
-    let kind = line[0];
-    let text = &line[2..];
+    };
     match kind {
         b'b' => run_decode(rt, text),
         b'e' => run_lines(rt, text),
@@ -188,12 +169,8 @@ fn run(rt: &impl Print, line: &[u8]) -> io::Result<()> {
 fn main(rt: HostRuntime) -> io::Result<()> {
     let mut space = [0u8; MOST_INPUT];
     let n = input::read_full(&mut rt.reader(), &mut space)?;
-    let cases: &[u8] = &space[..n];
-    let mut at = 0;
-    while at < cases.len() {
-        let end = line_end(cases, at);
-        run(&rt, &cases[at..end])?;
-        at = end + 1;
+    for line in space[..n].split(|&x| x == b'\n') {
+        run(&rt, line)?;
     }
     Ok(())
 }
