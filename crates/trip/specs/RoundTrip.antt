@@ -26,7 +26,7 @@ pub record Writable (address key : List ℕ) : Type 0 where
 
 -- B7, B9: a whole field is its name, a colon and a value with its line endings; it is read with the value unfolded
 pub data Lines : List ℕ → List FieldText → Type 0 where
-  None : Lines [] []
+  none : Lines [] []
   one : (name raw rest : List ℕ) (fs : List FieldText) → run_length Name name ≡ length name → 0 < length name → is_raw raw ≡ true → Lines rest fs
       → Lines (name ++ (octet ":" ∷ (raw ++ rest))) (record { name = name; value = unfolded raw } ∷ fs)
 
