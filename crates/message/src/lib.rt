@@ -9,7 +9,7 @@ ghost use Rattle.std.specs.Prelude.{false};
 ghost use Rattle.fields.specs.Fields.{fields_in};
 ghost use Rattle.outer.specs.Outer.{is_reported};
 ghost use Rattle.message.specs.Answers.{JudgedAs, BringsAs, ReadAs};
-ghost use Rattle.message.specs.Lent.{Lent, Walked, Opened, Sent};
+ghost use Rattle.message.specs.Lent.{Lent, Walked, Opened, Sent, MailReadAs};
 
 use fields::{Survey, Surveyed};
 use heads::Head;
@@ -17,6 +17,15 @@ use keyowner::OwnKey;
 use outer::Sender;
 use refusals::Refusal;
 use settings::{Gossip, Settings};
+
+// What is read: when it came in, its two blocks, and what was settled before.
+#[derive(Clone, Copy)]
+struct Mail<'a> {
+    receipt: u64,
+    outer: &'a [u8],
+    payload: &'a [u8],
+    settings: Settings,
+}
 
 // What the outer block brings: the length of the sender's address, the effective date and the field that counts. The address
 // and the key stand in lent memory.
@@ -61,91 +70,63 @@ fn judge_payload(payload: &[u8], gossip: Gossip) -> Judged
 }
 
 // Refusals 6 and 7 (R6, R7).
-fn judge(outer: &[u8], survey: Survey, payload: &[u8], gossip: Gossip, text: &mut [u8]) -> Judged
-    requires { Walked outer.now survey text.old }
-    ensures { JudgedAs (is_reported (fields_in outer.now)) payload.now gossip result }
+fn judge(mail: Mail, survey: Survey, text: &mut [u8]) -> Judged
+    requires { Walked mail.outer.now survey text.old }
+    ensures { JudgedAs (is_reported (fields_in mail.entry.outer.now)) mail.entry.payload.now mail.entry.settings.gossip result }
 {
-    if outer::is_report(outer, survey, text) {
+    if outer::is_report(mail.outer, survey, text) {
         return Judged::Report;
     }
-    judge_payload(payload, gossip)
+    judge_payload(mail.payload, mail.settings.gossip)
 }
 
 // What the message of the sender brings, the key of its field written to the front of `key`.
-fn bring(
-    receipt: u64,
-    outer: &[u8],
-    limit: usize,
-    survey: Survey,
-    text: &mut [u8],
-    sender: &[u8],
-    key: &mut [u8],
-) -> Brought
-    requires { Sent limit receipt outer.now survey text.old sender.now key.old }
-    ensures { BringsAs limit receipt outer.now sender.now key.new result }
+fn bring(mail: Mail, survey: Survey, text: &mut [u8], sender: &[u8], key: &mut [u8]) -> Brought
+    requires { Sent mail.settings.key_limit mail.receipt mail.outer.now survey text.old sender.now key.old }
+    ensures { BringsAs mail.entry.settings.key_limit mail.entry.receipt mail.entry.outer.now sender.now key.new result }
 {
-    let date = date::effective_date(outer::date(outer, survey, text), receipt);
-    let own = keys::counted_field(outer, limit, survey, sender, text, key);
+    let said = outer::date(mail.outer, survey, text);
+    let own = keys::counted_field(
+        mail.outer,
+        mail.settings.key_limit,
+        survey,
+        sender,
+        text,
+        key,
+    );
     Brought {
         sender: sender.len(),
-        date,
+        date: date::effective_date(said, mail.receipt),
         own,
     }
 }
 
 // Refusals 6 and 7, with the sender known, and what the message brings.
-fn read_sent(
-    receipt: u64,
-    outer: &[u8],
-    survey: Survey,
-    payload: &[u8],
-    settings: Settings,
-    text: &mut [u8],
-    sender: &[u8],
-    key: &mut [u8],
-) -> Reading
-    requires { Sent settings.key_limit receipt outer.now survey text.old sender.now key.old }
-    ensures { ReadAs settings.key_limit receipt outer.now payload.now settings.gossip
-        sender.now key.new result }
+fn read_sent(mail: Mail, survey: Survey, text: &mut [u8], sender: &[u8], key: &mut [u8]) -> Reading
+    requires { Sent mail.settings.key_limit mail.receipt mail.outer.now survey text.old sender.now key.old }
+    ensures { MailReadAs mail.entry sender.now key.new result }
 {
-    let limit = settings.key_limit;
-    match judge(outer, survey, payload, settings.gossip, text) {
+    match judge(mail, survey, text) {
         Judged::Report => Reading::Refused(Refusal::Report),
         Judged::Unreadable => Reading::Refused(Refusal::PayloadBlock),
-        Judged::Passed => Reading::Alone(bring(receipt, outer, limit, survey, text, sender, key)),
-        Judged::Searched => Reading::Carrying(
-            bring(receipt, outer, limit, survey, text, sender, key),
-            survey,
-        ),
+        Judged::Passed => Reading::Alone(bring(mail, survey, text, sender, key)),
+        Judged::Searched => Reading::Carrying(bring(mail, survey, text, sender, key), survey),
     }
 }
 
 // Refusals 5 to 7, with the outer block walked over.
 fn read_on(
-    receipt: u64,
-    outer: &[u8],
+    mail: Mail,
     survey: Survey,
-    payload: &[u8],
-    settings: Settings,
     text: &mut [u8],
     sender: &mut [u8],
     key: &mut [u8],
 ) -> Reading
-    requires { Opened settings.key_limit receipt outer.now survey text.old sender.old key.old }
-    ensures { ReadAs settings.key_limit receipt outer.now payload.now settings.gossip
-        sender.new key.new result }
+    requires { Opened mail.settings.key_limit mail.receipt mail.outer.now survey text.old sender.old key.old }
+    ensures { MailReadAs mail.entry sender.new key.new result }
 {
-    match outer::sender_of(outer, survey, text, sender) {
-        Sender::Address(n) => read_sent(
-            receipt,
-            outer,
-            survey,
-            payload,
-            settings,
-            text,
-            &sender[..n],
-            key,
-        ),
+    match outer::sender_of(mail.outer, survey, text, sender) {
+        Sender::Address(n) => read_sent(mail, survey, text, &sender[..n], key),
         Sender::NotOne => Reading::Refused(Refusal::Sender),
     }
 }
@@ -168,10 +149,14 @@ pub fn read(
     if Head::TIME_LIMIT < receipt {
         return Reading::Refused(Refusal::ReceiptTime);
     }
+    let mail = Mail {
+        receipt,
+        outer,
+        payload,
+        settings,
+    };
     match fields::walk(outer) {
-        Surveyed::Readable(survey) => read_on(
-            receipt, outer, survey, payload, settings, text, sender, key,
-        ),
+        Surveyed::Readable(survey) => read_on(mail, survey, text, sender, key),
         Surveyed::Unreadable => Reading::Refused(Refusal::OuterBlock),
     }
 }
