@@ -1,30 +1,27 @@
--- Whether a text is its own canonical form: what the loops know that look for capitals, and the answers of the code.
---     small_is                             an octet that is no capital is its own lower case
---     Small s all i                        what a loop knows that looks for one; small_begin .. small_end are its steps
---     ascii_is                             an octet that is ASCII, besides
+-- Whether a text is its own canonical form: the answers of the code.
+--     small_every                          a text is its own lower case where each octet is
 --     small_steady .. small_broken         whether a local part is in lower case
 --     at_within, left_part, right_part     the two sides, by the place of the "@"
 --     tail_is                              what goes up to the end
---     own_ascii, own_sides                 whether a text is its own form
+--     own_ascii .. own_right               whether a text is its own form
 --     canonical_whole, canonical_part      the answer on a plain address, and on another text
 --     was_whole, was_part                  the same by the old rule (T16)
 -- Assumes nothing.
 use Prim.Native.Nat.{ℕ, ◌+◌, ◌-◌, ◌<◌, ◌≤◌}
 use mathlib.Core.Path.{◌≡◌, refl, sym, ap, ◌∙◌}
-use mathlib.Core.Bool.{Bool, true, false, ◌&&◌, ◌||◌, and-true, and_assoc, or-true}
+use mathlib.Core.Bool.{Bool, true, false, ◌&&◌, and_assoc}
 use mathlib.Core.List.{List, [], ◌∷◌, ◌++◌}
 use native.Mathlib.Omega.{arith}
-use native.Mathlib.Nat.{zero-add, sub-zero}
+use native.Mathlib.Nat.{zero-add}
 use borrow.Author.Rules.{rules}
-use borrow.Author.Tests.{eq-eqb, ne_eqb, lt-ltb, le-ltb, ltb-true}
+use borrow.Author.Tests.{lt-ltb, ltb-true}
 use lib.Dec.{eqb, ltb}
-use lib.ListN.{length, get_or, take, drop, length-drop}
+use lib.ListN.{length, take, drop, length-drop}
 use lib.Seq.{take_all}
 use Rattle.octets.specs.Octets.{same_octets, lower, lowered}
 use Rattle.octets.specs.Finding.{length_before}
 use Rattle.octets.specs.Tests.{every}
-use Rattle.octets.proofs.Lists.{drop_one, drop_done}
-use Rattle.octets.proofs.Letters.{by_case, lower_below, lower_above}
+use Rattle.octets.proofs.Letters.{lower_below, lower_above}
 use Rattle.octets.proofs.Tests.{by_test, and_left, and_right}
 use Rattle.octets.proofs.Comparing.{same_refl}
 use Rattle.octets.proofs.Finding.{by, before_short}
@@ -40,35 +37,11 @@ use Rattle.asciiaddress.specs.Answers.{small_ascii, lower_sides, ascii_canonical
 use Rattle.pieces.proofs.Pieces.{before_from, place_before, place_from}
 use Rattle.asciiaddress.proofs.Lowered.{sides_ascii}
 
-pub small_is : (x : ℕ) → (ltb x 65 || ltb 90 x) ≡ eqb (lower x) x
-small_is x =
-    by_case (λ y. (ltb x 65 || ltb 90 x) ≡ eqb y x) x
-    (λ h. rw (lt-ltb x 65 h, eq-eqb x x refl))
-    (λ h. rw (lt-ltb 90 x h, or-true, eq-eqb x x refl))
-    (λ h k. rw (le-ltb x 65 h, le-ltb 90 x k, ne_eqb (x + 32) x (λ e. omega arith)))
-
--- whether the text is its own lower case comes to `all` of what was passed, and to what is left from i on
-pub record Small (s : List ℕ) (all : Bool) (i : ℕ) : Type 0 where
-  pub so_far : same_octets (lowered s) s ≡ (all && same_octets (lowered (drop i s)) (drop i s))
-
-module _ (s : List ℕ) where
-  pub small_begin : Small s true 0
-  small_begin = record { so_far = refl }
-
-  module _ (all : Bool) (i : ℕ) (h : Small s all i) where
-    pub small_end : length s ≤ i → all ≡ same_octets (lowered s) s
-    unfolding same_octets lowered
-    small_end l = sym (h.so_far ∙ rw (drop_done s i l) (and-true all))
-
-    pub small_next : (b : Bool) → i < length s → b ≡ eqb (lower (get_or s i 0)) (get_or s i 0) → Small s (all && b) (i + 1)
-    unfolding same_octets lowered
-    small_next b l e = record { so_far = h.so_far ∙ rw (drop_one s i l, e) (sym (and_assoc all _ _)) }
-
-pub ruleset staying_small = (small_is, small_begin, small_next, small_end, rules)
-
-pub ascii_is : (x : ℕ) → (ltb x 65 || (ltb 90 x && ltb x 128)) ≡ small_ascii x
-unfolding small_ascii
-ascii_is x = refl
+-- a text is its own lower case where each octet is
+pub small_every : (s : List ℕ) → every (λ x. eqb (lower x) x) s ≡ same_octets (lowered s) s
+unfolding every same_octets lowered
+small_every [] = refl
+small_every (x ∷ s) = rw (small_every s)
 
 -- such an octet is ASCII, and its own lower case
 ascii_octet : (x : ℕ) → small_ascii x ≡ true → (x < 128) × (lower x ≡ x)
@@ -110,8 +83,8 @@ module _ (s : List ℕ) (at : ℕ) (e : at ≡ 0 + length_before 64 s) where
   is_place : at ≡ length_before 64 s
   is_place = e ∙ zero-add _
 
-  pub left_part : take (at - 0) s ≡ before 64 s
-  left_part = rw (sub-zero, is_place) (place_before 64 s)
+  pub left_part : take at s ≡ before 64 s
+  left_part = rw is_place (place_before 64 s)
 
   pub right_part : drop at s ≡ from 64 s
   right_part = rw is_place (place_from 64 s)
@@ -142,14 +115,18 @@ module _ (s : List ℕ) where
       sym (same_append (lower_text (before 64 s)) (lowered (from 64 s)) (before 64 s) (from 64 s) (alike_length (alike_text (before 64 s))))
       ∙ ap (same_octets (lower_text (before 64 s) ++ lowered (from 64 s))) (before_from 64 s)
 
-  module _ (at : ℕ) (e : at ≡ 0 + length_before 64 s) (b c : Bool) where
-    pub own_sides :
-        b ≡ same_octets (lower_text (take (at - 0) s)) (take (at - 0) s)
-        → c ≡ same_octets (lowered (take (length s - at) (drop at s))) (take (length s - at) (drop at s))
-        → (b && c) ≡ same_octets (lower_sides s) s
-    own_sides p q = rw (p, q, tail_is s at, left_part s at e, right_part s at e) whole
+  module _ (at : ℕ) (e : at ≡ 0 + length_before 64 s) (b : Bool) (p : b ≡ same_octets (lower_text (take at s)) (take at s)) where
+    own_sides : (b && same_octets (lowered (drop at s)) (drop at s)) ≡ same_octets (lower_sides s) s
+    own_sides = rw (p, left_part s at e, right_part s at e) whole
 
-pub ruleset being_own = (own_ascii, own_sides, at_within, rules)
+    pub own_left : b ≡ false → b ≡ same_octets (lower_sides s) s
+    own_left f = f ∙ rw f at own_sides
+
+    pub own_right : (c : Bool) → b ≡ true → c ≡ same_octets (lowered (take (length s - at) (drop at s))) (take (length s - at) (drop at s))
+        → c ≡ same_octets (lower_sides s) s
+    own_right c t q = q ∙ rw (tail_is s at) (rw t at own_sides)
+
+pub ruleset being_own = (own_ascii, own_left, own_right, at_within, rules)
 
 module _ (s : List ℕ) (p : Bool) (e : p ≡ ascii_plain s) where
   pub canonical_whole : (b : Bool) → p ≡ true → b ≡ same_octets (lower_sides s) s → b ≡ ascii_canonical s

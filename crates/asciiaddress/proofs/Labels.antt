@@ -10,7 +10,7 @@ use mathlib.Core.Bool.{Bool, true, false, not, ◌&&◌, and_assoc, and_comm, an
 use mathlib.Core.List.{List, append-nil}
 use native.Mathlib.Omega.{arith}
 use borrow.Author.Rules.{rules}
-use borrow.Author.Tests.{not-true, not-false, le-leb, lt-leb}
+use borrow.Author.Tests.{le-leb, lt-leb}
 use lib.Dec.{eqb}
 use lib.ListN.{length, get_or, take, drop}
 use Rattle.octets.proofs.Lists.{drop_one, drop_done}

@@ -56,17 +56,12 @@ pub fn local_part(s: &[u8]) -> Local
 }
 
 // Has a run of letters, digits and hyphens the length and the ends of a label?
+#[tactic(auto, unfolding(crate::specs::Answers::label_shape, crate::specs::Ascii::free_ends), using(std::proofs::lemmas::Bool::Decides::nat_tests))]
 fn shaped(run: &[u8]) -> bool
     ensures { result ≡ label_shape run.now }
 {
     let n = run.len();
-    if n == 0 {
-        return false;
-    }
-    if LONGEST_LABEL < n {
-        return false;
-    }
-    (run[0] != b'-') & (run[n - 1] != b'-')
+    n != 0 && n <= LONGEST_LABEL && run[0] != b'-' && run[n - 1] != b'-'
 }
 
 // Is what stands from the place `at` on a domain of such labels, with a dot between two of them (L7)?
@@ -92,6 +87,7 @@ pub fn is_domain(s: &[u8], at: usize) -> bool
 }
 
 // Is it a plain address with labels in ASCII, and nothing else? The length first: a long text costs nothing.
+#[tactic(auto, using(crate::proofs::Plain::being_plain))]
 pub fn is_plain(s: &[u8]) -> bool
     ensures { result ≡ ascii_plain s.now }
 {
@@ -104,60 +100,46 @@ pub fn is_plain(s: &[u8]) -> bool
     }
 }
 
+#[tactic(auto, unfolding(octets::specs::Octets::lower), using(std::proofs::lemmas::Bool::Decides::nat_tests))]
 fn small(x: u8) -> bool
     ensures { result ≡ eqb (lower_of x) x }
 {
-    (x < b'A') | (b'Z' < x)
+    !x.is_ascii_uppercase()
 }
 
-// Is there no ASCII capital? No way leads out of the loop early, so that it compiles to vector instructions.
+// Is there no ASCII capital?
 fn is_small(s: &[u8]) -> bool
     ensures { result ≡ same_octets (lowered s.now) s.now }
 {
-    let mut all = true;
-    let mut i = 0;
-    while i < s.len() {
-        all = all & small(s[i]);
-        i += 1;
-    }
-    all
+    octets::all(s, small)
 }
 
+#[tactic(auto, unfolding(crate::specs::Answers::small_ascii), using(std::proofs::lemmas::Bool::Decides::nat_tests))]
 fn small_ascii(x: u8) -> bool
     ensures { result ≡ small_ascii x }
 {
-    (x < b'A') | ((b'Z' < x) & (x < 128))
+    x.is_ascii() & !x.is_ascii_uppercase()
 }
 
-// Is there nothing but ASCII, and no capital? Vector instructions as well: every address of a table is tested so at each
-// call, and nearly all go no further.
+// Is there nothing but ASCII, and no capital? Every address of a table is tested so at each call, and nearly all go no
+// further.
 fn is_small_ascii(s: &[u8]) -> bool
     ensures { result ≡ every small_ascii s.now }
 {
-    let mut all = true;
-    let mut i = 0;
-    while i < s.len() {
-        all = all & small_ascii(s[i]);
-        i += 1;
-    }
-    all
+    octets::all(s, small_ascii)
 }
 
 // Is a local part in lower case? Nearly all that come here are well formed and are, which the first test tells without
 // asking whether they are well formed.
+#[tactic(auto, using(crate::proofs::Forms::local_small))]
 fn is_small_text(s: &[u8]) -> bool
     ensures { result ≡ same_octets (lower_text s.now) s.now }
 {
-    if utf8::is_steady(s) {
-        return true;
-    }
-    if utf8::is_text(s) {
-        return false;
-    }
-    is_small(s)
+    utf8::is_steady(s) || (!utf8::is_text(s) && is_small(s))
 }
 
 // Is it in lower case on both sides (L8)?
+#[tactic(auto, using(crate::proofs::Forms::being_own))]
 fn is_own_form(s: &[u8]) -> bool
     ensures { result ≡ same_octets (lower_sides s.now) s.now }
 {
@@ -165,19 +147,21 @@ fn is_own_form(s: &[u8]) -> bool
         return true;
     }
     let at = octets::find(s, 0, b'@');
-    is_small_text(&s[0..at]) & is_small(&s[at..])
+    is_small_text(&s[..at]) && is_small(&s[at..])
 }
 
 // Is it such an address that is its own form (L8)?
+#[tactic(auto, using(crate::proofs::Forms::being_canonical))]
 pub fn is_canonical(s: &[u8]) -> bool
     ensures { result ≡ ascii_canonical s.now }
 {
-    if is_plain(s) { is_own_form(s) } else { false }
+    is_plain(s) && is_own_form(s)
 }
 
 // Is it one by the old rule (T16)?
+#[tactic(auto, using(crate::proofs::Forms::having_been_canonical))]
 pub fn was_canonical(s: &[u8]) -> bool
     ensures { result ≡ was_canonical s.now }
 {
-    if is_plain(s) { is_small(s) } else { false }
+    is_plain(s) && is_small(s)
 }

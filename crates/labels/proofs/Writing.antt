@@ -1,6 +1,4 @@
 -- The form of a label where it is written.
---     octet_is                          the test of an octet
---     judged_empty, judged_whole        a label as it stands
 --     small_long .. small_put           the form of a label in ASCII
 --     code_bad .. code_put              the code of a label that is not ASCII
 --     opened_sum .. opened_put          the opening in front of a code
@@ -9,7 +7,7 @@
 -- Assumes nothing.
 use Prim.Native.Nat.{ℕ, ◌+◌, ◌-◌, ◌<◌, ◌≤◌}
 use mathlib.Core.Path.{◌≡◌, refl, sym, ap, ◌∙◌}
-use mathlib.Core.Bool.{Bool, true, false, not, ◌&&◌, ◌||◌}
+use mathlib.Core.Bool.{Bool, true, false, not, ◌&&◌}
 use mathlib.Core.List.{List, [], ◌++◌, append-nil}
 use Rattle.std.specs.Prelude.{Some, None}
 use native.Mathlib.Nat.{sub-zero}
@@ -18,13 +16,11 @@ use borrow.Author.Rules.{rules}
 use borrow.Author.Tests.{le-leb, lt-leb, not-true, not-false}
 use mir.Syntax.{w64}
 use mir.Val.{Fits}
-use lib.Dec.{leb, eqb}
-use lib.ListN.{length, get_or, take}
+use lib.ListN.{length, take}
 use lib.Seq.{length-take-le}
 use Rattle.octets.specs.Octets.{lowered}
 use Rattle.octets.specs.Written.{put_at}
 use Rattle.octets.specs.Puts.{Written, TooLong, Puts, Told, Untold, PutsText}
-use Rattle.octets.specs.Tests.{every}
 use Rattle.octets.specs.declared.Laid.{Laid}
 use Rattle.octets.specs.declared.Laid.TheVariants.{At, NoRoom}
 use Rattle.octets.proofs.Letters.{length_lowered}
@@ -41,28 +37,9 @@ use Rattle.codepoints.proofs.Bounds.{small_scalars, scalars_below}
 use Rattle.punycode.specs.Punycode.{encode}
 use Rattle.punycode.proofs.Lengths.{encode_most}
 use Rattle.coder.specs.Steps.{Points}
-use Rattle.runs.specs.Runs.{belongs}
-use Rattle.asciiaddress.specs.Ascii.{free_ends}
-use Rattle.labels.specs.Labels.{label_octet, opening, coded, label_form, fits, label}
+use Rattle.labels.specs.Labels.{opening, coded, label_form, fits, label}
 use Rattle.labels.specs.Answers.{judged, code_of, fitting, label_of}
 use Rattle.labels.proofs.Forming.{form_ascii, form_coded}
-
-pub octet_is : (x : ℕ) →
-    ((((((leb 65 x && leb x 90) || (leb 97 x && leb x 122)) || (leb 48 x && leb x 57)) || eqb x 45) || leb 128 x) ≡ label_octet x)
-unfolding label_octet belongs
-octet_is x = refl
-
-module _ (s : List ℕ) where
-  pub judged_empty : length s ≡ 0 → false ≡ judged s
-  unfolding judged
-  judged_empty e = rw e
-
-  pub judged_whole : (b : Bool) → (length s ≡ 0 → ⊥) → b ≡ every label_octet s
-      → (b && (not (eqb (get_or s 0 0) 45) && not (eqb (get_or s (length s - 1) 0) 45))) ≡ judged s
-  unfolding judged free_ends
-  judged_whole b n e = rw (le-leb 1 (length s) (omega arith), e)
-
-pub ruleset judging = (octet_is, judged_empty, judged_whole, rules)
 
 -- a form that is too long is none
 fits_some : (w : List ℕ) → length w ≤ 63 → fitting (Some w) ≡ Some w

@@ -6,7 +6,6 @@ ghost use Rattle.std.specs.Prelude.{◌≤◌, ◌≡◌, false, ◌++◌, lengt
 ghost use Rattle.std.specs.Prelude.{Some};
 ghost use Rattle.octets.specs.Octets.{lowered};
 ghost use Rattle.octets.specs.Puts.{Puts, PutsText};
-ghost use Rattle.octets.specs.Tests.{every};
 ghost use Rattle.utf8.specs.Utf8.{points as points_of};
 ghost use Rattle.utf8.specs.Steps.{all_ascii};
 ghost use Rattle.codepoints.specs.Reading.{small_of};
@@ -25,49 +24,29 @@ const LONGEST_CODE: usize = 59;
 // What the form of a label opens with that is not ASCII (L22).
 const OPENING: [u8; 4] = *b"xn--";
 
+#[tactic(auto, unfolding(crate::specs::Labels::label_octet, runs::specs::Runs::belongs), using(std::proofs::lemmas::Bool::Decides::nat_tests))]
 fn label_octet(x: u8) -> bool
     ensures { result ≡ label_octet x }
 {
-    ((b'A' <= x) & (x <= b'Z'))
-        | ((b'a' <= x) & (x <= b'z'))
-        | ((b'0' <= x) & (x <= b'9'))
-        | (x == b'-')
-        | (128 <= x)
-}
-
-// Are all octets those of a label? No way leads out of the loop early, so that it compiles to vector instructions.
-fn has_octets(s: &[u8]) -> bool
-    ensures { result ≡ every label_octet s.now }
-{
-    let mut all = true;
-    let mut i = 0;
-    while i < s.len() {
-        all = all & label_octet(s[i]);
-        i += 1;
-    }
-    all
+    x.is_ascii_alphanumeric() | (x == b'-') | (128 <= x)
 }
 
 // Is it a label as it stands, whatever its form (L7)?
+#[tactic(auto, unfolding(crate::specs::Answers::judged, asciiaddress::specs::Ascii::free_ends), using(std::proofs::lemmas::Bool::Decides::nat_tests))]
 fn judged(s: &[u8]) -> bool
     ensures { result ≡ judged_of s.now }
 {
     let n = s.len();
-    if n == 0 {
-        return false;
-    }
-    has_octets(s) & ((s[0] != b'-') & (s[n - 1] != b'-'))
+    n != 0 && s[0] != b'-' && s[n - 1] != b'-' && octets::all(s, label_octet)
 }
 
 // Writes the form of a label in ASCII.
+#[tactic(auto, using(crate::proofs::Writing::putting_small))]
 fn put_small(s: &[u8], out: &mut [u8], at: usize) -> Laid
     requires { at ≤ length out.old }
     ensures { PutsText out.old out.new at (fitting (Some (lowered s.now))) result }
 {
-    if LONGEST_LABEL < s.len() {
-        return Laid::NoRoom;
-    }
-    if out.len() - at < s.len() {
+    if LONGEST_LABEL < s.len() || out.len() - at < s.len() {
         return Laid::NoRoom;
     }
     octets::put_lower(out, at, s);
@@ -76,6 +55,7 @@ fn put_small(s: &[u8], out: &mut [u8], at: usize) -> Laid
 
 // Writes the Punycode of a label's code points, in lower case. More of them than there is room for are not coded at all, since
 // each takes an octet at least: a stranger may send long labels.
+#[tactic(auto, using(crate::proofs::Writing::putting_code))]
 fn put_code(s: &[u8], out: &mut [u8]) -> Laid
     requires { length out.old ≤ 59 }
     ensures { PutsText out.old out.new 0 (code_of (small_of (points_of s.now))) result }
@@ -104,6 +84,7 @@ fn put_opened(code: &[u8], out: &mut [u8], at: usize) -> Laid
 }
 
 // Writes the form of a label that is not ASCII. The code has room for 59 octets, so that the form has 63 at most.
+#[tactic(auto, using(crate::proofs::Writing::putting_coded))]
 fn put_coded(s: &[u8], out: &mut [u8], at: usize) -> Laid
     requires at_in_bounds { at ≤ length out.old }
     requires s_value { all_ascii s.now ≡ false }
@@ -118,6 +99,7 @@ fn put_coded(s: &[u8], out: &mut [u8], at: usize) -> Laid
 
 // Writes the form of a label from a place on, and answers the place behind it. There is none where it is no label, or where
 // there is no room.
+#[tactic(auto, using(crate::proofs::Writing::putting_label))]
 pub fn put_label(s: &[u8], out: &mut [u8], at: usize) -> Laid
     requires { at ≤ length out.old }
     ensures { PutsText out.old out.new at (label_of s.now) result }

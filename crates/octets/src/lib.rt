@@ -3,8 +3,9 @@
 // definition of specs/.
 #![tactic(auto)]
 
-ghost use Rattle.std.specs.Prelude.{◌+◌, ◌≤◌, ◌<◌, max, ◌≡◌, eqb, length, take, drop, replicate};
+ghost use Rattle.std.specs.Prelude.{ℕ, Bool, ◌+◌, ◌≤◌, ◌<◌, max, ◌≡◌, eqb, length, take, drop, replicate};
 ghost use Rattle.std.specs.List.{list_any, position_or_len};
+ghost use Rattle.octets.specs.Tests.{every, Computes};
 ghost use Rattle.octets.specs.Octets.{blank, same_octets, lower as lower_of, lowered, same_name, starts_with, all_zero};
 ghost use Rattle.octets.specs.Finding.{length_before, Skipped};
 ghost use Rattle.octets.specs.Numbers.{number, digits};
@@ -116,6 +117,19 @@ pub fn find(s: &[u8], from: usize, x: u8) -> usize
         return from;
     }
     first_from::<u8, 32>(s, from, x)
+}
+
+// Does each octet pass the test? No way leads out of the loop early, so that it compiles to vector instructions where the
+// test does.
+pub fn all<F: Fn(u8) -> bool>(s: &[u8], test: F) -> bool
+    requires { F.IsAlwaysCallable test }
+    ensures { (p : ℕ → Bool) → Computes (F.post test) p → result ≡ every p s.now }
+{
+    let mut passed = true;
+    for &x in s {
+        passed = passed & test(x);
+    }
+    passed
 }
 
 // Writes `src` over `out` from the place `at` on.

@@ -1,8 +1,0 @@
--- `labels::put_small` meets its contract: the laws of `Writing` answer every need. Assumes nothing.
-use Rattle.labels.proofs.Writing.{putting_small}
-use Rattle.labels.proofs.put_small as fn
-
-pub put_small_spec : {M : Type 1} → fn.Statement.statement M
-put_small_spec =
-    fn.Tie.close (fn.Tie.spec (λ c. search putting_small) (λ c. search putting_small) (λ c. search putting_small)
-    (λ c. search putting_small) (λ c. search putting_small) (λ c. search putting_small) (λ c. search putting_small))
