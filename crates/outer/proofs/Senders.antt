@@ -24,7 +24,7 @@ use Rattle.header.specs.Header.{FieldText}
 use Rattle.header.proofs.Unfolding.{value_within, value_there, value_there_from}
 use Rattle.addresslist.specs.List.{addresses}
 use Rattle.addresslist.specs.Answers.{between, only_in, Within}
-use Rattle.addresslist.specs.declared.Bounds.{Bounds}
+use Rattle.addresslist.specs.declared.OnlyAddress.{OnlyAddress}
 use Rattle.addresslist.proofs.Readable.{only_plain, only_octets}
 use Rattle.slots.specs.Slot.{address_room}
 use Rattle.fields.specs.Fields.{fields_in, values_of}
@@ -88,7 +88,7 @@ module _ (s : List ℕ) (k : Only) (fs : List FieldText) (p : value_in s k ≡ o
 
   -- the value of the one From field was unfolded to the text, and the list in it was read
   module _ (v e : ℕ) (q : k ≡ One v e) (text d : List ℕ) (n : ℕ) (c : n ≡ length (value_at s v e)) (t : text ≡ onto (value_at s v e) d)
-      (j : Option Bounds) (y : only_in (take (n - 0) (drop 0 text)) j ≡ only_one (or_else [] (addresses (take (n - 0) (drop 0 text))))) where
+      (j : Option OnlyAddress) (y : only_in (take (n - 0) (drop 0 text)) j ≡ only_one (or_else [] (addresses (take (n - 0) (drop 0 text))))) where
     there : take (n - 0) (drop 0 text) ≡ value_at s v e
     there = value_there_from (value_at s v e) d text n c t
 
@@ -101,7 +101,7 @@ module _ (s : List ℕ) (k : Only) (fs : List FieldText) (p : value_in s k ≡ o
 
     no_one : j ≡ None → sender_in fs ≡ None
     unfolding only_in canonical_of
-    no_one z = told ∙ ap (λ (i : Option Bounds). canonical_of (only_in (value_at s v e) i)) z
+    no_one z = told ∙ ap (λ (i : Option OnlyAddress). canonical_of (only_in (value_at s v e) i)) z
 
     pub sent_no_one : j ≡ None → NotOne ≡ sender_of (sender_in fs)
     unfolding sender_of
@@ -111,7 +111,7 @@ module _ (s : List ℕ) (k : Only) (fs : List FieldText) (p : value_in s k ≡ o
     unfolding left_by_sender
     left_no_one out z = rw (no_one z)
 
-    module _ (b : Bounds) (z : j ≡ Some b) (w : Within (take (n - 0) (drop 0 text)) j) where
+    module _ (b : OnlyAddress) (z : j ≡ Some b) (w : Within (take (n - 0) (drop 0 text)) j) where
       lies : Within (value_at s v e) (Some b)
       lies = rw (there, z) at w
 
