@@ -17,7 +17,7 @@ use Rattle.addresslist.specs.declared.NextAddress.{NextAddress}
 use Rattle.addresslist.specs.declared.NextAddress.TheVariants.{Address, End, Unreadable}
 use Rattle.addresslist.specs.declared.Counted.{Counted}
 use Rattle.addresslist.specs.declared.Counted.TheVariants.{Count, Unreadable as Uncounted}
-use Rattle.addresslist.specs.declared.Bounds.{Bounds}
+use Rattle.addresslist.specs.declared.OnlyAddress.{OnlyAddress}
 
 -- the octets from one place of s up to another
 abbrev pub between : List ℕ → ℕ → ℕ → List ℕ
@@ -64,10 +64,10 @@ counted_of None = Uncounted
 counted_of (Some list) = Count (length list)
 
 -- the one address of a list that has no other, by its places
-unfoldable pub only_in : List ℕ → Option Bounds → Option (List ℕ)
+unfoldable pub only_in : List ℕ → Option OnlyAddress → Option (List ℕ)
 only_in s (Some one) = Some (between s one.from one.to)
 only_in s None = None
 
-abbrev pub Within : List ℕ → Option Bounds → Type 0
+abbrev pub Within : List ℕ → Option OnlyAddress → Type 0
 Within s (Some one) = (one.from < one.to) × (one.to ≤ length s)
 Within s None = Unit

@@ -38,9 +38,9 @@ pub enum Counted {
     Unreadable,
 }
 
-// Where an address stands in a list.
+// Where the one address stands of a list that has no other.
 #[derive(Clone, Copy)]
-pub struct Bounds {
+pub struct OnlyAddress {
     pub from: usize,
     pub to: usize,
 }
@@ -112,7 +112,7 @@ pub fn count(list: &[u8]) -> Counted
 
 // The one address of a list of exactly one.
 #[tactic(auto, using(crate::proofs::Lone::alone))]
-pub fn only_address(list: &[u8]) -> Option<Bounds>
+pub fn only_address(list: &[u8]) -> Option<OnlyAddress>
     ensures result_value { only_in list.now result ≡ only_one (or_else [] (addresses list.now)) }
     ensures within { Within list.now result }
 {
@@ -120,7 +120,7 @@ pub fn only_address(list: &[u8]) -> Option<Bounds>
         return None;
     };
     match next_address(list, next) {
-        NextAddress::End => Some(Bounds { from, to }),
+        NextAddress::End => Some(OnlyAddress { from, to }),
         NextAddress::Address { .. } | NextAddress::Unreadable => None,
     }
 }

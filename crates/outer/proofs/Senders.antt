@@ -24,7 +24,7 @@ use Rattle.header.specs.Header.{FieldText}
 use Rattle.header.proofs.Unfolding.{value_within, value_there, value_long}
 use Rattle.addresslist.specs.List.{addresses}
 use Rattle.addresslist.specs.Answers.{between, only_in, Within}
-use Rattle.addresslist.specs.declared.Bounds.{Bounds}
+use Rattle.addresslist.specs.declared.OnlyAddress.{OnlyAddress}
 use Rattle.addresslist.proofs.Readable.{only_plain, only_octets}
 use Rattle.slots.specs.Slot.{address_room}
 use Rattle.fields.specs.Fields.{fields_in, values_of}
@@ -84,7 +84,7 @@ module _ (fs : List FieldText) where
 
   -- the value of the one From field was unfolded to the text, and the list in it was read
   module _ (v : List ℕ) (p : Some v ≡ only_one (values_of From fs)) (text d : List ℕ) (n : ℕ) (c : n ≡ length v) (t : text ≡ onto v d)
-      (j : Option Bounds) (y : only_in (take n text) j ≡ only_one (or_else [] (addresses (take n text)))) where
+      (j : Option OnlyAddress) (y : only_in (take n text) j ≡ only_one (or_else [] (addresses (take n text)))) where
     there : take n text ≡ v
     there = value_there v d text n c t
 
@@ -97,7 +97,7 @@ module _ (fs : List FieldText) where
 
     no_one : j ≡ None → sender_in fs ≡ None
     unfolding only_in canonical_of
-    no_one z = told ∙ ap (λ (i : Option Bounds). canonical_of (only_in v i)) z
+    no_one z = told ∙ ap (λ (i : Option OnlyAddress). canonical_of (only_in v i)) z
 
     pub sent_no_one : j ≡ None → NotOne ≡ sender_of (sender_in fs)
     unfolding sender_of
@@ -107,7 +107,7 @@ module _ (fs : List FieldText) where
     unfolding left_by_sender
     left_no_one out z = rw (no_one z)
 
-    module _ (b : Bounds) (z : j ≡ Some b) (w : Within (take n text) j) where
+    module _ (b : OnlyAddress) (z : j ≡ Some b) (w : Within (take n text) j) where
       lies : Within v (Some b)
       lies = rw (there, z) at w
 
