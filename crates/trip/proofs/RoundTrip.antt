@@ -46,7 +46,7 @@ use Rattle.names.specs.Names.{autocrypt as autocrypt_name, gossip as gossip_name
 use Rattle.write.specs.Writing.{written_of, left_by_writing}
 use Rattle.write.specs.declared.Written.TheVariants.{Done}
 use Rattle.write.proofs.Outcomes.{Wrote, done_wrote}
-use Rattle.trip.specs.RoundTrip.{None as no_lines, in_front_all, ReadsBack, Writable}
+use Rattle.trip.specs.RoundTrip.{none as no_lines, in_front_all, ReadsBack, Writable}
 use Rattle.trip.proofs.Among.{opens_plain, fields_among}
 
 -- a text that `every` finds without LF has none

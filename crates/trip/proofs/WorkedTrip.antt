@@ -57,7 +57,7 @@ use Rattle.settings.specs.declared.Gossip.TheVariants.{Unset}
 use Rattle.process.proofs.Outcomes.{message_fits}
 use Rattle.recommend.specs.Recommending.{target_key_of}
 use Rattle.write.specs.Writing.{autocrypt_field}
-use Rattle.trip.specs.RoundTrip.{one, None as no_lines, Writable, Holding, behind, others}
+use Rattle.trip.specs.RoundTrip.{one, none as no_lines, Writable, Holding, behind, others}
 use Rattle.trip.specs.Standing.{direct_half}
 use Rattle.trip.proofs.WholeTrip.{autocrypt_processed}
 use Rattle.trip.proofs.HandedOut.{key_handed_out}
