@@ -111,22 +111,12 @@ fn year_by(width: usize, n: u64) -> Meaning
     requires { n ≤ 9999 }
     ensures { result ≡ meaning_of (year_by width n) }
 {
-    if width == 2 {
-        if n <= 49 {
-            return Meaning::Value(n + 2000);
-        }
-        return Meaning::Value(n + 1900);
+    match width {
+        2 if n <= 49 => Meaning::Value(n + 2000),
+        2 | 3 => Meaning::Value(n + 1900),
+        4 if 1900 <= n => Meaning::Value(n),
+        _ => Meaning::Nothing,
     }
-    if width == 3 {
-        return Meaning::Value(n + 1900);
-    }
-    if width != 4 {
-        return Meaning::Nothing;
-    }
-    if n < 1900 {
-        return Meaning::Nothing;
-    }
-    Meaning::Value(n)
 }
 
 // The year, of two, three or four digits (D9).
@@ -149,13 +139,8 @@ fn two_digits(run: &[u8], most: u64) -> Meaning
         return Meaning::Nothing;
     }
     match number(run) {
-        Meaning::Value(n) => {
-            if most < n {
-                return Meaning::Nothing;
-            }
-            Meaning::Value(n)
-        }
-        Meaning::Nothing => Meaning::Nothing,
+        Meaning::Value(n) if n <= most => Meaning::Value(n),
+        Meaning::Value(_) | Meaning::Nothing => Meaning::Nothing,
     }
 }
 
@@ -192,10 +177,7 @@ fn hours_west(run: &[u8]) -> u64
     ensures { (result ≡ hours_west run.now) × (result ≤ 8) }
 {
     match which(run, b"ESTEDTCSTCDTMSTMDTPSTPDT") {
-        Meaning::Value(k) => {
-            let i = k as usize;
-            ZONE_HOURS[i]
-        }
+        Meaning::Value(k) => ZONE_HOURS[k as usize],
         Meaning::Nothing => 0,
     }
 }
