@@ -13,6 +13,7 @@ use native.Mathlib.Nat.{sub-zero}
 use native.Mathlib.Omega.{arith}
 use borrow.Author.Rules.{rules}
 use Rattle.octets.proofs.Lists.{left_one}
+use Rattle.slots.specs.Slot.{marked}
 use Rattle.table.specs.Table.{slots, slot_at, unused, lowest, how_many, lowest_free, free_count}
 use Rattle.table.specs.declared.Found.TheVariants.{At, Nothing}
 
@@ -64,12 +65,13 @@ module _ (t : List ℕ) (n i : ℕ) (e : n ≡ slots t) where
   within_table l = omega arith
 
   module _ (h : Scan unused t n i) where
-    pub free_no : (b : Bool) → i < n → b ≡ unused (slot_at t i) → b ≡ false → Scan unused t n (i + 1)
-    free_no b l p q = scan_no unused t n i h l (sym p ∙ q)
+    pub free_no : (b : Bool) → i < n → b ≡ marked (slot_at t i) → b ≡ true → Scan unused t n (i + 1)
+    unfolding unused
+    free_no b l p q = scan_no unused t n i h l (rw (sym p ∙ q))
 
-    pub free_yes : (b : Bool) → i < n → b ≡ unused (slot_at t i) → b ≡ true → At i ≡ lowest_free t
-    unfolding lowest_free
-    free_yes b l p q = rw (← e) (scan_yes unused t n i h l (sym p ∙ q))
+    pub free_yes : (b : Bool) → i < n → b ≡ marked (slot_at t i) → b ≡ false → At i ≡ lowest_free t
+    unfolding lowest_free unused
+    free_yes b l p q = rw (← e) (scan_yes unused t n i h l (rw (sym p ∙ q)))
 
     pub free_end : n ≤ i → Nothing ≡ lowest_free t
     unfolding lowest_free
@@ -86,17 +88,19 @@ pub tally_begin : (t : List ℕ) (n : ℕ) → Tally t n 0 0
 tally_begin t n = record { upto = omega arith; few = omega arith; so_far = rw (sub-zero n) (omega arith) }
 
 module _ (t : List ℕ) (n many i : ℕ) (h : Tally t n many i) where
-  module _ (b : Bool) (l : i < n) (p : b ≡ unused (slot_at t i)) where
-    pub tally_one : b ≡ true → Tally t n (many + 1) (i + 1)
+  module _ (b : Bool) (l : i < n) (p : b ≡ marked (slot_at t i)) where
+    pub tally_one : b ≡ false → Tally t n (many + 1) (i + 1)
+    unfolding unused
     tally_one q =
         let e : how_many unused t i (n - i) ≡ 1 + how_many unused t (i + 1) (n - (i + 1)) =
-        rw (left_one n i l) (many_more unused t i (n - (i + 1)) (sym p ∙ q)) in
+        rw (left_one n i l) (many_more unused t i (n - (i + 1)) (rw (sym p ∙ q))) in
         record { upto = omega arith; few = omega (arith, h.few); so_far = omega (arith, h.so_far, e) }
 
-    pub tally_none : b ≡ false → Tally t n many (i + 1)
+    pub tally_none : b ≡ true → Tally t n many (i + 1)
+    unfolding unused
     tally_none q =
         let e : how_many unused t i (n - i) ≡ how_many unused t (i + 1) (n - (i + 1)) =
-        rw (left_one n i l) (many_same unused t i (n - (i + 1)) (sym p ∙ q)) in
+        rw (left_one n i l) (many_same unused t i (n - (i + 1)) (rw (sym p ∙ q))) in
         record { upto = omega arith; few = omega (arith, h.few); so_far = omega (arith, h.so_far, e) }
 
   pub tally_end : n ≡ slots t → n ≤ i → many ≡ free_count t

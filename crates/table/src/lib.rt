@@ -9,7 +9,7 @@ ghost use Rattle.slots.specs.declared.Spelling.TheVariants.{Ascii};
 ghost use Rattle.heads.specs.Entry.{newcomer, renamed, seen_by, with_direct, with_gossip};
 ghost use Rattle.slots.specs.Entry.{entry_of, slot_of};
 ghost use Rattle.tags.specs.Tags.{tag_of};
-ghost use Rattle.table.specs.Table.{most_slots, slots as slots_of, slot_at, with_slot, unused, lowest_free, free_count};
+ghost use Rattle.table.specs.Table.{most_slots, slots as slots_of, slot_at, with_slot, lowest_free, free_count};
 ghost use Rattle.table.specs.Tagged.{Tagged, Begins};
 
 use heads::Head;
@@ -49,22 +49,21 @@ pub fn slot_at(table: &[u8], i: usize) -> &[u8]
     &table[at..at + Slot::LEN]
 }
 
-// Is the slot without the mark? In a sound table it is then free (T4).
-#[tactic(auto, unfolding(crate::specs::Table::unused))]
-fn is_unused(table: &[u8], i: usize) -> bool
+// Is the slot used?
+pub fn is_used(table: &[u8], i: usize) -> bool
     requires { i < slots_of table.now }
-    ensures { result ≡ unused (slot_at table.now i) }
+    ensures { result ≡ marked (slot_at table.now i) }
 {
-    !slots::is_marked(slot_at(table, i))
+    slots::is_marked(slot_at(table, i))
 }
 
-// The free slot with the lowest index (U4).
+// The free slot with the lowest index (U4). In a sound table a slot without the mark is free (T4).
 #[tactic(auto, using(crate::proofs::Scanning::finding_free))]
 pub fn lowest_free(table: &[u8]) -> Found
     ensures { result ≡ lowest_free table.now }
 {
     for i in 0..count(table) {
-        if is_unused(table, i) {
+        if !is_used(table, i) {
             return Found::At(i);
         }
     }
@@ -78,19 +77,11 @@ pub fn count_free(table: &[u8]) -> usize
 {
     let mut many = 0;
     for i in 0..count(table) {
-        if is_unused(table, i) {
+        if !is_used(table, i) {
             many += 1;
         }
     }
     many
-}
-
-// Is the slot used?
-pub fn is_used(table: &[u8], i: usize) -> bool
-    requires { i < slots_of table.now }
-    ensures { result ≡ marked (slot_at table.now i) }
-{
-    slots::is_marked(slot_at(table, i))
 }
 
 // The lengths, bits and times of an entry.
