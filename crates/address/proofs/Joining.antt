@@ -21,8 +21,6 @@ use Rattle.octets.specs.Options.{in_front}
 use Rattle.octets.specs.Written.{put_at}
 use Rattle.octets.specs.Puts.{Told, Untold, PutsText}
 use Rattle.octets.specs.Tests.{every}
-use Rattle.octets.specs.declared.Laid.{Laid}
-use Rattle.octets.specs.declared.Laid.TheVariants.{At, NoRoom}
 use Rattle.octets.proofs.Finding.{by, before_short}
 use Rattle.octets.proofs.Lists.{lt_or_le}
 use Rattle.octets.proofs.Options.{by_option}
@@ -155,8 +153,8 @@ module _ (text : List ℕ → Option (List ℕ)) where
     whole : (x : List ℕ) → labels_by text (drop from s) ≡ Some x → (v : List ℕ) × ((labels_by text t ≡ Some v) × (x ≡ h.written ++ v))
     whole x e = behind_some h.written (labels_by text t) x (sym h.so_far ∙ e)
 
-    module _ (e : List ℕ) (g : Laid) (p : PutsText out e to (text piece) g) where
-      pub join_none : g ≡ NoRoom → Untold d at e (labels_by text (drop from s))
+    module _ (e : List ℕ) (g : Option ℕ) (p : PutsText out e to (text piece) g) where
+      pub join_none : g ≡ None → Untold d at e (labels_by text (drop from s))
       join_none q =
           let k : Untold out to e (text piece) = rw q at p in
           record {
@@ -168,7 +166,7 @@ module _ (text : List ℕ → Option (List ℕ)) where
             same = k.same ∙ b.kept;
           }
 
-      module _ (m : ℕ) (q : g ≡ At m) where
+      module _ (m : ℕ) (q : g ≡ Some m) where
         told : Told out to e m (text piece)
         told = rw q at p
 

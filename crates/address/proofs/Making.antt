@@ -13,7 +13,7 @@ use Prim.Native.Nat.{ℕ, ◌+◌, ◌<◌, ◌≤◌}
 use mathlib.Core.Path.{◌≡◌, refl, sym, ap, ◌∙◌}
 use mathlib.Core.Bool.{Bool, true, false, false≢true}
 use mathlib.Core.List.{List, [], ◌∷◌, ◌++◌, append_assoc}
-use Rattle.std.specs.Prelude.{Some, None}
+use Rattle.std.specs.Prelude.{Some, None, Option}
 use native.Mathlib.Nat.{zero-add, sub-zero}
 use native.Mathlib.Omega.{arith}
 use borrow.Author.Rules.{rules}
@@ -26,8 +26,6 @@ use lib.Seq.{take_at, length-take-le}
 use Rattle.octets.specs.Octets.{same_octets, same_name, lowered}
 use Rattle.octets.specs.Written.{put_at, onto}
 use Rattle.octets.specs.Puts.{Told, Untold, PutsText}
-use Rattle.octets.specs.declared.Laid.{Laid}
-use Rattle.octets.specs.declared.Laid.TheVariants.{At, NoRoom as Full}
 use Rattle.octets.proofs.Putting.{over_one, put_long, put_both}
 use Rattle.octets.proofs.Puts.{told_long, told_front, text_long}
 use Rattle.octets.proofs.Comparing.{same_true}
@@ -41,16 +39,12 @@ use Rattle.pieces.specs.Pieces.{before, behind}
 use Rattle.pieces.proofs.Pieces.{behind_drop, before_long, place_before}
 use Rattle.asciiaddress.specs.Ascii.{local_part, ascii_domain, ascii_plain}
 use Rattle.asciiaddress.specs.Answers.{local_of, ascii_canonical}
-use Rattle.asciiaddress.specs.declared.Local.{Local}
-use Rattle.asciiaddress.specs.declared.Local.TheVariants.{Part, NoPart}
 use Rattle.asciiaddress.proofs.Plain.{opens, is_part, part_is, plain_whole}
 use Rattle.asciiaddress.proofs.Sides.{local_most}
 use Rattle.asciiaddress.proofs.Alike.{plain_alike}
 use Rattle.asciiaddress.proofs.Before.{was_plain, was_same}
 use Rattle.address.specs.Address.{domain, domain_form, address_form, plain, canonical, is_canonical}
 use Rattle.address.specs.Answers.{domain_of, form_of, Fronts, written_of, onto_if_fits}
-use Rattle.address.specs.declared.Fitted.{Fitted}
-use Rattle.address.specs.declared.Fitted.TheVariants.{Length, NoRoom}
 use Rattle.address.proofs.Room.{written_fits, written_none, onto_fits, onto_none}
 use Rattle.address.proofs.Spelling.{short, left, right, canonical_form, not_plain, plain_is_canonical, canonical_plain}
 use Rattle.address.proofs.Sides.{counted}
@@ -71,21 +65,21 @@ module _ (s : List ℕ) where
       (λ p. absurd (let q : None ≡ Some w = rw p at e in let z : ◌≡◌ {A = ℕ} 0 1 = cc in omega arith))
 
   -- a plain address has a local part, with an "@" behind it
-  pub local_of_lem : plain s ≡ true → local_of s ≡ Part (length (before 64 s))
+  pub local_of_lem : plain s ≡ true → local_of s ≡ Some (length (before 64 s))
   local_of_lem p =
       let n : length (before 64 s) < length s = omega (arith, counted s (right s p)) in
       is_part s (rw (lt-ltb (length (before 64 s)) (length s) n, left s p))
 
 -- the form of an address: d is the buffer as it came, and g what was found of the local part
-module _ (s d : List ℕ) (l : length d ≡ 254) (g : Local) (e : g ≡ local_of s) where
-  pub part_none : g ≡ NoPart → Untold d 0 d (form_of s)
+module _ (s d : List ℕ) (l : length d ≡ 254) (g : Option ℕ) (e : g ≡ local_of s) where
+  pub part_none : g ≡ None → Untold d 0 d (form_of s)
   part_none q =
       record {
         long = λ w x. absurd (let z : ◌≡◌ {A = ℕ} 0 1 = cc (local_of_lem s (of_form s w x).0) in omega arith);
         same = refl;
       }
 
-  module _ (n : ℕ) (q : g ≡ Part n) where
+  module _ (n : ℕ) (q : g ≡ Some n) where
     is : (opens s ≡ true) × (n ≡ length (before 64 s))
     is = part_is s g e n q
 
@@ -151,9 +145,9 @@ module _ (s d : List ℕ) (l : length d ≡ 254) (g : Local) (e : g ≡ local_of
       unfolding plain
       whole b o = rw (le-leb (length (address_form s)) 254 o, good, b)
 
-      pub part_domain : (v : List ℕ) (r : Laid) → PutsText (set u n 64) v (n + 1) (domain_of (drop (n + 1) s)) r → PutsText d v 0 (form_of s) r
+      pub part_domain : (v : List ℕ) (r : Option ℕ) → PutsText (set u n 64) v (n + 1) (domain_of (drop (n + 1) s)) r → PutsText d v 0 (form_of s) r
       unfolding address_form
-      part_domain v (At m) h =
+      part_domain v (Some m) h =
           let y = domain_of_lem (drop (n + 1) s) h.text h.is in
           let k : h.text ≡ domain_form (behind 64 s) = y.1 ∙ ap domain_form rest in
           let c : m ≡ length (address_form s) = h.counts ∙ rw k (sym form_long) in
@@ -170,7 +164,7 @@ module _ (s d : List ℕ) (l : length d ≡ 254) (g : Local) (e : g ≡ local_of
             counts = c ∙ sym (zero-add (length (address_form s)));
             room = omega (arith, h.room, part_kept);
           }
-      part_domain v Full h =
+      part_domain v None h =
           record {
             long = λ w x.
                 let y = of_form s w x in
@@ -190,25 +184,25 @@ module _ (s : List ℕ) where
   pub wide_long : 1016 < length s → false ≡ plain s
   wide_long l = by_test (plain s) (λ p. absurd (omega (arith, plain_long s p))) (λ p. sym p)
 
-  module _ (d e : List ℕ) (r : Laid) (h : PutsText d e 0 (form_of s) r) where
-    pub wide_form : (m : ℕ) → r ≡ At m → true ≡ plain s
+  module _ (d e : List ℕ) (r : Option ℕ) (h : PutsText d e 0 (form_of s) r) where
+    pub wide_form : (m : ℕ) → r ≡ Some m → true ≡ plain s
     wide_form m q = let k : Told d 0 e m (form_of s) = rw q at h in sym (of_form s k.text k.is).0
 
-    pub wide_none : r ≡ Full → length d ≡ 254 → false ≡ plain s
+    pub wide_none : r ≡ None → length d ≡ 254 → false ≡ plain s
     wide_none q l =
         let k : Untold d 0 e (form_of s) = rw q at h in
         by_test (plain s)
         (λ p. absurd (omega (arith, k.long (canonical s) (form_of_lem s p), short s p, ap length (canonical_form s p))))
         (λ p. sym p)
 
-  pub plain_none : (g : Local) → g ≡ NoPart → g ≡ local_of s → false ≡ plain s
+  pub plain_none : (g : Option ℕ) → g ≡ None → g ≡ local_of s → false ≡ plain s
   plain_none g q e =
       by_test (plain s) (λ p. absurd (let z : ◌≡◌ {A = ℕ} 0 1 = cc (local_of_lem s p) in omega arith)) (λ p. sym p)
 
-  pub plain_part : (g : Local) (n : ℕ) → g ≡ Part n → g ≡ local_of s → local_of s ≡ Part n
+  pub plain_part : (g : Option ℕ) (n : ℕ) → g ≡ Some n → g ≡ local_of s → local_of s ≡ Some n
   plain_part g n q e = sym e ∙ q
 
-  module _ (n : ℕ) (e : local_of s ≡ Part n) where
+  module _ (n : ℕ) (e : local_of s ≡ Some n) where
     pub plain_sum : Fits w64 (n + 1)
     plain_sum =
         let h = part_is s (local_of s) refl n e in
@@ -228,8 +222,8 @@ pub ruleset being_canonical = (canonical_is, rules)
 
 -- in a buffer of which only the front counts: f as it came, and e
 module _ (s : List ℕ) (p : plain s ≡ true) where
-  module _ (f e : List ℕ) (l : length f ≡ 254) (r : Laid) (h : PutsText f e 0 (form_of s) r) where
-    pub wide_made : (n : ℕ) → r ≡ At n → Fronts (canonical s) e n
+  module _ (f e : List ℕ) (l : length f ≡ 254) (r : Option ℕ) (h : PutsText f e 0 (form_of s) r) where
+    pub wide_made : (n : ℕ) → r ≡ Some n → Fronts (canonical s) e n
     wide_made n q =
         let k : Told f 0 e n (form_of s) = rw q at h in
         record {
@@ -237,7 +231,7 @@ module _ (s : List ℕ) (p : plain s ≡ true) where
           within = omega (arith, told_long f 0 e n _ k, k.room);
         }
 
-    pub wide_never : r ≡ Full → Fronts (canonical s) e 0
+    pub wide_never : r ≡ None → Fronts (canonical s) e 0
     wide_never q = absurd (false≢true (wide_none s f e r h q l ∙ p))
 
   module _ (m : length s ≤ 254) (f : List ℕ) (l : length f ≡ 254) where
@@ -263,7 +257,7 @@ pub ruleset making = (wide_made, wide_never, kept_room, kept_long, kept_made, te
 -- a text that is written in lower case
 module _ (s d : List ℕ) where
   module _ (l : length d < length s) where
-    pub none_written : NoRoom ≡ written_of (lowered s) (length d)
+    pub none_written : None ≡ written_of (lowered s) (length d)
     none_written = sym (written_none (lowered s) (length d) (rw length_lowered l))
 
     pub none_kept : d ≡ onto_if_fits (lowered s) d
@@ -273,8 +267,8 @@ module _ (s d : List ℕ) where
     pub room_front : 0 + length s ≤ length d
     room_front = omega arith
 
-    pub room_written : Length (length s) ≡ written_of (lowered s) (length d)
-    room_written = ap Length (sym (length_lowered s)) ∙ sym (written_fits (lowered s) (length d) (rw length_lowered l))
+    pub room_written : Some (length s) ≡ written_of (lowered s) (length d)
+    room_written = ap Some (sym (length_lowered s)) ∙ sym (written_fits (lowered s) (length d) (rw length_lowered l))
 
     pub room_kept : (out : List ℕ) → out ≡ put_at d 0 (lowered s) → out ≡ onto_if_fits (lowered s) d
     unfolding put_at onto
@@ -288,24 +282,24 @@ form_small s p = was_same (canonical s) (was_canonical_lem (canonical s) (plain_
 
 module _ (s d : List ℕ) (p : plain s ≡ true) where
   module _ (b : Bool) (t : b ≡ true) (a : b ≡ all_ascii s) where
-    pub small_written : (g : Fitted) → g ≡ written_of (lowered s) (length d) → g ≡ written_of (canonical s) (length d)
+    pub small_written : (g : Option ℕ) → g ≡ written_of (lowered s) (length d) → g ≡ written_of (canonical s) (length d)
     small_written g e = e ∙ rw (ascii_canonical_lem s (sym a ∙ t) p)
 
     pub small_kept : (out : List ℕ) → out ≡ onto_if_fits (lowered s) d → out ≡ onto_if_fits (canonical s) d
     small_kept out e = e ∙ rw (ascii_canonical_lem s (sym a ∙ t) p)
 
-  module _ (f₀ f : List ℕ) (l : length f₀ ≡ 254) (r : Laid) (h : PutsText f₀ f 0 (form_of s) r) where
-    module _ (q : r ≡ Full) where
+  module _ (f₀ f : List ℕ) (l : length f₀ ≡ 254) (r : Option ℕ) (h : PutsText f₀ f 0 (form_of s) r) where
+    module _ (q : r ≡ None) where
       never : plain s ≡ false
       never = sym (wide_none s f₀ f r h q l)
 
-      pub never_written : NoRoom ≡ written_of (canonical s) (length d)
+      pub never_written : None ≡ written_of (canonical s) (length d)
       never_written = absurd (false≢true (sym never ∙ p))
 
       pub never_kept : d ≡ onto_if_fits (canonical s) d
       never_kept = absurd (false≢true (sym never ∙ p))
 
-    module _ (n : ℕ) (q : r ≡ At n) where
+    module _ (n : ℕ) (q : r ≡ Some n) where
       told : Told f₀ 0 f n (form_of s)
       told = rw q at h
 
@@ -318,7 +312,7 @@ module _ (s d : List ℕ) (p : plain s ≡ true) where
       is_front : lowered (take n f) ≡ canonical s
       is_front = rw (rw sub-zero at (told_front f₀ f n _ told), (of_form s told.text told.is).1) (form_small s p)
 
-      pub form_written : (g : Fitted) → g ≡ written_of (lowered (take n f)) (length d) → g ≡ written_of (canonical s) (length d)
+      pub form_written : (g : Option ℕ) → g ≡ written_of (lowered (take n f)) (length d) → g ≡ written_of (canonical s) (length d)
       form_written g e = e ∙ rw is_front
 
       pub form_kept : (out : List ℕ) → out ≡ onto_if_fits (lowered (take n f)) d → out ≡ onto_if_fits (canonical s) d
@@ -337,11 +331,11 @@ module _ (s form : List ℕ) (c : is_canonical form ≡ true) where
       absurd (false≢true (sym p ∙ ap plain e ∙ canonical_plain form c)))
       (λ h. sym h)
 
-  module _ (f₀ f : List ℕ) (l : length f₀ ≡ 254) (r : Laid) (h : PutsText f₀ f 0 (form_of s) r) where
-    pub wide_hasnt : r ≡ Full → false ≡ same_octets (canonical s) form
+  module _ (f₀ f : List ℕ) (l : length f₀ ≡ 254) (r : Option ℕ) (h : PutsText f₀ f 0 (form_of s) r) where
+    pub wide_hasnt : r ≡ None → false ≡ same_octets (canonical s) form
     wide_hasnt q = other (sym (wide_none s f₀ f r h q l))
 
-    module _ (n : ℕ) (q : r ≡ At n) where
+    module _ (n : ℕ) (q : r ≡ Some n) where
       own : Told f₀ 0 f n (form_of s)
       own = rw q at h
 

@@ -2,17 +2,14 @@
 // which know no Punycode. Any other address is plain when its form can be written into room for 254 octets.
 #![tactic(auto)]
 
-ghost use Rattle.std.specs.Prelude.{◌≤◌, ◌≡◌, true, false, length, drop};
+ghost use Rattle.std.specs.Prelude.{◌≤◌, ◌≡◌, true, false, length, drop, Some};
 ghost use Rattle.octets.specs.Octets.{same_octets, lowered};
 ghost use Rattle.octets.specs.Puts.{PutsText};
 ghost use Rattle.utf8.specs.Steps.{all_ascii};
 ghost use Rattle.asciiaddress.specs.Answers.{local_of};
-ghost use Rattle.asciiaddress.specs.declared.Local.TheVariants.{Part};
 ghost use Rattle.address.specs.Address.{plain, canonical as canonical_of, is_canonical};
 ghost use Rattle.address.specs.Answers.{MayWrite, PutsLabels, form_of, Fronts, written_of, onto_if_fits};
 
-use asciiaddress::Local;
-use octets::Laid;
 
 // How many octets a canonical form may have (L6).
 pub const LONGEST: usize = 254;
@@ -21,22 +18,16 @@ pub const LONGEST: usize = 254;
 // four at most.
 const LONGEST_GIVEN: usize = 1016;
 
-// The length of what was written; or nothing was, since it has no room.
-#[derive(Clone, Copy)]
-pub enum Fitted {
-    Length(usize),
-    NoRoom,
-}
 
 // Writes what `put` writes of each of the labels that stand from the place `from` on, with the dots between them: forms, or
 // what is shown.
-pub fn put_labels<F: Fn(&[u8], &mut [u8], usize) -> Laid>(
+pub fn put_labels<F: Fn(&[u8], &mut [u8], usize) -> Option<usize>>(
     s: &[u8],
     from: usize,
     out: &mut [u8],
     at: usize,
     put: F,
-) -> Laid
+) -> Option<usize>
     requires from_in_bounds { from ≤ length s.now }
     requires at_in_bounds { at ≤ length out.old }
     requires may_put { MayWrite (F.pre put) }
@@ -47,18 +38,18 @@ pub fn put_labels<F: Fn(&[u8], &mut [u8], usize) -> Laid>(
     loop {
         let end = octets::find(s, i, b'.');
         match put(&s[i..end], &mut *out, to) {
-            Laid::At(e) => {
+            Some(e) => {
                 if s.len() <= end {
-                    return Laid::At(e);
+                    return Some(e);
                 }
                 if out.len() <= e {
-                    return Laid::NoRoom;
+                    return None;
                 }
                 out[e] = b'.';
                 to = e + 1;
                 i = end + 1;
             }
-            Laid::NoRoom => return Laid::NoRoom,
+            None => return None,
         }
     }
 }
@@ -66,17 +57,17 @@ pub fn put_labels<F: Fn(&[u8], &mut [u8], usize) -> Laid>(
 // Writes the canonical form of a plain address into room for just the longest one. There is none where the text is no plain
 // address.
 #[tactic(auto, using(crate::proofs::Making::putting_form))]
-fn put_form(s: &[u8], out: &mut [u8]) -> Laid
+fn put_form(s: &[u8], out: &mut [u8]) -> Option<usize>
     requires { length out.old ≡ 254 }
     ensures { PutsText out.old out.new 0 (form_of s.now) result }
 {
     match asciiaddress::local_part(s) {
-        Local::Part(n) => {
+        Some(n) => {
             utf8::put_lower(&mut *out, 0, &s[..n]);
             out[n] = b'@';
             put_labels(s, n + 1, out, n + 1, labels::put_label)
         }
-        Local::NoPart => Laid::NoRoom,
+        None => None,
     }
 }
 
@@ -90,8 +81,8 @@ fn is_wide(s: &[u8]) -> bool
     }
     let mut form = [0u8; LONGEST];
     match put_form(s, &mut form) {
-        Laid::At(_) => true,
-        Laid::NoRoom => false,
+        Some(_) => true,
+        None => false,
     }
 }
 
@@ -99,7 +90,7 @@ fn is_wide(s: &[u8]) -> bool
 // brought into form.
 #[tactic(auto, using(crate::proofs::Making::being_plain))]
 fn is_plain_behind(s: &[u8], n: usize) -> bool
-    requires { local_of s.now ≡ Part n }
+    requires { local_of s.now ≡ Some n }
     ensures { result ≡ plain s.now }
 {
     if LONGEST < s.len() {
@@ -117,8 +108,8 @@ pub fn is_plain(s: &[u8]) -> bool
     ensures { result ≡ plain s.now }
 {
     match asciiaddress::local_part(s) {
-        Local::Part(n) => is_plain_behind(s, n),
-        Local::NoPart => false,
+        Some(n) => is_plain_behind(s, n),
+        None => false,
     }
 }
 
@@ -138,8 +129,8 @@ fn make_wide(s: &[u8], form: &mut [u8]) -> usize
     ensures { Fronts (canonical_of s.now) form.new result }
 {
     match put_form(s, form) {
-        Laid::At(n) => n,
-        Laid::NoRoom => 0,
+        Some(n) => n,
+        None => 0,
     }
 }
 
@@ -162,21 +153,21 @@ pub fn form_of(s: &[u8], form: &mut [u8]) -> usize
 
 // Writes a text to the front of `out` with its ASCII capitals made small, where it fits.
 #[tactic(auto, using(crate::proofs::Making::putting_small))]
-fn put_small(s: &[u8], out: &mut [u8]) -> Fitted
+fn put_small(s: &[u8], out: &mut [u8]) -> Option<usize>
     ensures value { result ≡ written_of (lowered s.now) (length out.old) }
     ensures out_after { out.new ≡ onto_if_fits (lowered s.now) out.old }
 {
     if out.len() < s.len() {
-        return Fitted::NoRoom;
+        return None;
     }
     octets::put_lower(out, 0, s);
-    Fitted::Length(s.len())
+    Some(s.len())
 }
 
 // Writes the canonical form of a plain address to the front of `out`, where it fits. It has no capital, so that what writes
 // texts in lower case writes it as it is.
 #[tactic(auto, using(crate::proofs::Making::writing_canonical))]
-pub fn canonical(s: &[u8], out: &mut [u8]) -> Fitted
+pub fn canonical(s: &[u8], out: &mut [u8]) -> Option<usize>
     requires { plain s.now ≡ true }
     ensures value { result ≡ written_of (canonical_of s.now) (length out.old) }
     ensures out_after { out.new ≡ onto_if_fits (canonical_of s.now) out.old }
@@ -186,8 +177,8 @@ pub fn canonical(s: &[u8], out: &mut [u8]) -> Fitted
     }
     let mut form = [0u8; LONGEST];
     match put_form(s, &mut form) {
-        Laid::At(n) => put_small(&form[..n], out),
-        Laid::NoRoom => Fitted::NoRoom,
+        Some(n) => put_small(&form[..n], out),
+        None => None,
     }
 }
 
@@ -199,8 +190,8 @@ fn has_wide_form(s: &[u8], form: &[u8]) -> bool
 {
     let mut own = [0u8; LONGEST];
     match put_form(s, &mut own) {
-        Laid::At(n) => octets::same(&own[..n], form),
-        Laid::NoRoom => false,
+        Some(n) => octets::same(&own[..n], form),
+        None => false,
     }
 }
 

@@ -17,23 +17,21 @@ use Rattle.addresslist.specs.Answers.{between, beginning, left, Hands, counted_o
 use Rattle.addresslist.specs.declared.ListCursor.{ListCursor}
 use Rattle.addresslist.specs.declared.NextAddress.{NextAddress}
 use Rattle.addresslist.specs.declared.NextAddress.TheVariants.{Address, End, Unreadable}
-use Rattle.addresslist.specs.declared.Counted.{Counted}
-use Rattle.addresslist.specs.declared.Counted.TheVariants.{Count, Unreadable as Uncounted}
 use Rattle.addresslist.proofs.Handing.{left_beginning, hand_gives, hand_later, hand_within, hand_less, hand_end, hand_unread}
 
-unfoldable pub counted : ℕ → Option (List (List ℕ)) → Counted
-counted n None = Uncounted
-counted n (Some rest) = Count (n + length rest)
+unfoldable pub counted : ℕ → Option (List (List ℕ)) → Option ℕ
+counted n None = None
+counted n (Some rest) = Some (n + length rest)
 
 from_none : (o : Option (List (List ℕ))) → counted_of o ≡ counted 0 o
 unfolding counted_of counted
 from_none None = refl
-from_none (Some rest) = ap Count (sym (zero-add (length rest)))
+from_none (Some rest) = ap Some (sym (zero-add (length rest)))
 
 one_more : (n : ℕ) (a : List ℕ) (o : Option (List (List ℕ))) → counted n (in_front a o) ≡ counted (n + 1) o
 unfolding counted in_front
 one_more n a None = refl
-one_more n a (Some rest) = let e : n + length (a ∷ rest) ≡ (n + 1) + length rest = omega arith in ap Count e
+one_more n a (Some rest) = let e : n + length (a ∷ rest) ≡ (n + 1) + length rest = omega arith in ap Some e
 
 pub record Counting (s : List ℕ) (n : ℕ) (here : ListCursor) : Type 0 where
   pub so_far : counted_of (addresses s) ≡ counted n (left s here)
@@ -57,11 +55,11 @@ module _ (s : List ℕ) (n : ℕ) (here : ListCursor) (k : NextAddress) (h : Cou
   pub counting_room : (from to : ℕ) (next : ListCursor) → k ≡ Address from to next → n + 1 ≤ length s
   counting_room from to next q = omega (arith, hand_later s here k p from to next q, hand_within s here k p from to next q)
 
-  pub counting_end : k ≡ End → Count n ≡ counted_of (addresses s)
+  pub counting_end : k ≡ End → Some n ≡ counted_of (addresses s)
   unfolding counted
   counting_end q = sym (h.so_far ∙ rw (hand_end s here k p q, add-zero))
 
-  pub counting_unread : k ≡ Unreadable → Uncounted ≡ counted_of (addresses s)
+  pub counting_unread : k ≡ Unreadable → None ≡ counted_of (addresses s)
   unfolding counted
   counting_unread q = sym (h.so_far ∙ rw (hand_unread s here k p q))
 

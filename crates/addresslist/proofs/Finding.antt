@@ -11,7 +11,7 @@ use mathlib.Core.Path.{◌≡◌, refl, sym, ap, ◌∙◌}
 use mathlib.Core.Logic.{⊎_elim}
 use mathlib.Core.Bool.{Bool, true, false, cond}
 use mathlib.Core.List.{List}
-use Rattle.std.specs.Prelude.{◌==◌, Some}
+use Rattle.std.specs.Prelude.{◌==◌, Some, Option, None}
 use Rattle.std.specs.List.{list_any}
 use native.Mathlib.Omega.{arith}
 use native.Mathlib.Nat.{sub-zero}
@@ -25,8 +25,6 @@ use Rattle.runs.specs.Runs.{run}
 use Rattle.runs.proofs.Running.{Ran, ran}
 use Rattle.tokens.specs.Tokens.{past, skipped, after_quote}
 use Rattle.tokens.specs.Answers.{reached}
-use Rattle.tokens.specs.declared.Reached.{Reached}
-use Rattle.tokens.specs.declared.Reached.TheVariants.{To, Unreadable}
 use Rattle.tokens.proofs.Places.{Left}
 use Rattle.tokens.proofs.Skipping.{skip_to, skip_unreadable}
 use Rattle.tokens.proofs.Quoting.{quoted_to, quoted_unreadable}
@@ -84,21 +82,21 @@ module _ (s : List ℕ) (from to : ℕ) (l : from < length s) (e : to ≡ from +
 pub ruleset finding_run = (run_from, run_upto, run_long, run_address, run_unread, run_word, rules)
 
 -- the quoted string whose opening quote stands at the place `from`
-module _ (s : List ℕ) (from : ℕ) (r : Reached) (e : r ≡ reached s (after_quote false (drop (from + 1) s))) where
-  closed : (to : ℕ) → r ≡ To to → Left s ((from + 1) + 1) to (after_quote false (drop (from + 1) s))
+module _ (s : List ℕ) (from : ℕ) (r : Option ℕ) (e : r ≡ reached s (after_quote false (drop (from + 1) s))) where
+  closed : (to : ℕ) → r ≡ Some to → Left s ((from + 1) + 1) to (after_quote false (drop (from + 1) s))
   closed to q = quoted_to s (from + 1) r e to q
 
-  pub quote_word : (to : ℕ) → r ≡ To to → found_in s (Other Word to) ≡ quoted_token (drop from s)
+  pub quote_word : (to : ℕ) → r ≡ Some to → found_in s (Other Word to) ≡ quoted_token (drop from s)
   unfolding found_in quoted_token
   quote_word to q = rw (quoted_token, drop-drop, (closed to q).left)
 
-  pub quote_long : (to : ℕ) → r ≡ To to → from < to
+  pub quote_long : (to : ℕ) → r ≡ Some to → from < to
   quote_long to q = omega (arith, (closed to q).from)
 
-  pub quote_upto : (to : ℕ) → r ≡ To to → to ≤ length s
+  pub quote_upto : (to : ℕ) → r ≡ Some to → to ≤ length s
   quote_upto to q = (closed to q).upto
 
-  pub quote_unread : r ≡ Unreadable → found_in s Unfound ≡ quoted_token (drop from s)
+  pub quote_unread : r ≡ None → found_in s Unfound ≡ quoted_token (drop from s)
   unfolding found_in quoted_token
   quote_unread q = rw (quoted_token, drop-drop, quoted_unreadable s (from + 1) r e q)
 
@@ -161,15 +159,15 @@ inside_earlier s at from (Other sort b) l h = (omega arith, h.1)
 inside_earlier s at from Over l h = h
 inside_earlier s at from Unfound l h = h
 
-module _ (s : List ℕ) (at : ℕ) (r : Reached) (e : r ≡ reached s (skipped (drop at s))) where
-  past_end : (n : ℕ) → length s ≤ at → r ≡ To n → n ≡ length s
+module _ (s : List ℕ) (at : ℕ) (r : Option ℕ) (e : r ≡ reached s (skipped (drop at s))) where
+  past_end : (n : ℕ) → length s ≤ at → r ≡ Some n → n ≡ length s
   unfolding past reached
-  past_end n l q = let z : To n ≡ To (length s) = sym q ∙ e ∙ rw (drop_done s at l, sub-zero) in cc
+  past_end n l q = let z : Some n ≡ Some (length s) = sym q ∙ e ∙ rw (drop_done s at l, sub-zero) in cc
 
-  came : (n : ℕ) → r ≡ To n → at < length s → Left s at n (skipped (drop at s))
+  came : (n : ℕ) → r ≡ Some n → at < length s → Left s at n (skipped (drop at s))
   came n q l = skip_to s at r e n q (omega arith)
 
-  left_at : (n : ℕ) → r ≡ To n → skipped (drop at s) ≡ Some (drop n s)
+  left_at : (n : ℕ) → r ≡ Some n → skipped (drop at s) ≡ Some (drop n s)
   unfolding past
   left_at n q =
       ⊎_elim
@@ -177,22 +175,22 @@ module _ (s : List ℕ) (at : ℕ) (r : Reached) (e : r ≡ reached s (skipped (
       (λ (l : length s ≤ at). rw (drop_done s at l, drop_done s n (omega (arith, past_end n l q))))
       (lt_or_le at (length s))
 
-  pub first_later : (n : ℕ) → r ≡ To n → n < length s → at ≤ n
+  pub first_later : (n : ℕ) → r ≡ Some n → n < length s → at ≤ n
   first_later n q k =
       ⊎_elim
       (λ (l : at < length s). (came n q l).from)
       (λ (l : length s ≤ at). absurd (omega (arith, past_end n l q)))
       (lt_or_le at (length s))
 
-  pub first_end : (n : ℕ) → r ≡ To n → length s ≤ n → found_in s Over ≡ first_token (drop at s)
+  pub first_end : (n : ℕ) → r ≡ Some n → length s ≤ n → found_in s Over ≡ first_token (drop at s)
   unfolding found_in first_token token_at
   first_end n q k = rw (first_token, left_at n q, drop_done s n k)
 
-  pub first_token_lem : (n : ℕ) (t : Token) → r ≡ To n → t ≡ token_at (drop n s) → t ≡ first_token (drop at s)
+  pub first_token_lem : (n : ℕ) (t : Token) → r ≡ Some n → t ≡ token_at (drop n s) → t ≡ first_token (drop at s)
   unfolding first_token
   first_token_lem n t q p = p ∙ rw (first_token, left_at n q)
 
-  pub first_unread : r ≡ Unreadable → found_in s Unfound ≡ first_token (drop at s)
+  pub first_unread : r ≡ None → found_in s Unfound ≡ first_token (drop at s)
   unfolding found_in first_token
   first_unread q = rw (first_token, skip_unreadable s at r e q)
 

@@ -31,7 +31,6 @@ use Rattle.addresslist.specs.List.{address, run_token, token_at, first_token, ad
 use Rattle.addresslist.specs.Answers.{counted_of}
 use Rattle.grammar.specs.declared.Stage.{Stage}
 use Rattle.grammar.specs.declared.Stage.TheVariants.{Place, Behind}
-use Rattle.addresslist.specs.declared.Counted.TheVariants.{Count, Unreadable as Uncounted}
 use Rattle.addresslist.proofs.Telling.{opens_run}
 use Rattle.addresslist.proofs.Listing.{by_tokens, listed_address, listed_end}
 
@@ -121,12 +120,12 @@ module _ (s : List ℕ) (list : List (List ℕ)) (e : addresses s ≡ Some list)
       (λ stage next t rest found l k h q. h (suffix_octets l q)) s) o
 
 -- what a count says
-pub counted_some : (o : Option (List (List ℕ))) (n : ℕ) → Count n ≡ counted_of o → (list : List (List ℕ)) × ((o ≡ Some list) × (n ≡ length list))
+pub counted_some : (o : Option (List (List ℕ))) (n : ℕ) → Some n ≡ counted_of o → (list : List (List ℕ)) × ((o ≡ Some list) × (n ≡ length list))
 unfolding counted_of
 counted_some None n e = let z : ◌≡◌ {A = ℕ} 0 1 = cc in absurd (omega arith)
 counted_some (Some list) n e = (list, (refl, cc))
 
-pub counted_none : (o : Option (List (List ℕ))) → Uncounted ≡ counted_of o → o ≡ None
+pub counted_none : (o : Option (List (List ℕ))) → None ≡ counted_of o → o ≡ None
 unfolding counted_of
 counted_none None e = refl
 counted_none (Some list) e = cc

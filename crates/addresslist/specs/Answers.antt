@@ -15,8 +15,6 @@ use Rattle.addresslist.specs.declared.token.TokenAt.TheVariants.{Address as Addr
 use Rattle.addresslist.specs.declared.ListCursor.{ListCursor}
 use Rattle.addresslist.specs.declared.NextAddress.{NextAddress}
 use Rattle.addresslist.specs.declared.NextAddress.TheVariants.{Address, End, Unreadable}
-use Rattle.addresslist.specs.declared.Counted.{Counted}
-use Rattle.addresslist.specs.declared.Counted.TheVariants.{Count, Unreadable as Uncounted}
 use Rattle.addresslist.specs.declared.OnlyAddress.{OnlyAddress}
 
 -- the octets from one place of s up to another
@@ -59,9 +57,9 @@ Hands s c End = left s c ≡ Some []
 Hands s c Unreadable = left s c ≡ None
 
 -- L17: equal addresses count as often as they stand
-unfoldable pub counted_of : Option (List (List ℕ)) → Counted
-counted_of None = Uncounted
-counted_of (Some list) = Count (length list)
+unfoldable pub counted_of : Option (List (List ℕ)) → Option ℕ
+counted_of None = None
+counted_of (Some list) = Some (length list)
 
 -- the one address of a list that has no other, by its places
 unfoldable pub only_in : List ℕ → Option OnlyAddress → Option (List ℕ)

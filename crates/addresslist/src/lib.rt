@@ -31,12 +31,6 @@ pub enum NextAddress {
     Unreadable,
 }
 
-// How many addresses there are.
-#[derive(Clone, Copy)]
-pub enum Counted {
-    Count(usize),
-    Unreadable,
-}
 
 // Where the one address stands of a list that has no other.
 #[derive(Clone, Copy)]
@@ -93,7 +87,7 @@ pub fn next_address(list: &[u8], cursor: ListCursor) -> NextAddress
 
 // How many addresses a list has, equal ones as often as they stand (L17).
 #[tactic(auto, using(crate::proofs::Counting::counting))]
-pub fn count(list: &[u8]) -> Counted
+pub fn count(list: &[u8]) -> Option<usize>
     ensures { result ≡ counted_of (addresses list.now) }
 {
     let mut n = 0;
@@ -104,8 +98,8 @@ pub fn count(list: &[u8]) -> Counted
                 n += 1;
                 here = next;
             }
-            NextAddress::End => return Counted::Count(n),
-            NextAddress::Unreadable => return Counted::Unreadable,
+            NextAddress::End => return Some(n),
+            NextAddress::Unreadable => return None,
         }
     }
 }

@@ -7,7 +7,6 @@ ghost use Rattle.addresslist.specs.Answers.{found_in, Inside};
 
 use grammar::Sort;
 use runs::Class;
-use tokens::Reached;
 
 // What an octet opens.
 #[derive(Clone, Copy)]
@@ -76,11 +75,11 @@ fn quoted(list: &[u8], from: usize) -> TokenAt
     ensures inside { Inside list.now from result }
 {
     match tokens::quoted(list, from + 1) {
-        Reached::To(to) => TokenAt::Other {
+        Some(to) => TokenAt::Other {
             sort: Sort::Word,
             to,
         },
-        Reached::Unreadable => TokenAt::Unreadable,
+        None => TokenAt::Unreadable,
     }
 }
 
@@ -106,12 +105,12 @@ pub fn token(list: &[u8], at: usize) -> TokenAt
     ensures inside { Inside list.now at result }
 {
     match tokens::skip(list, at) {
-        Reached::To(from) => {
+        Some(from) => {
             if list.len() <= from {
                 return TokenAt::End;
             }
             token_at(list, from)
         }
-        Reached::Unreadable => TokenAt::Unreadable,
+        None => TokenAt::Unreadable,
     }
 }

@@ -3,6 +3,7 @@
 --     Atoms s i                   whether atoms stand before the "@" comes to whether they do from i on
 --     atoms_begin .. atoms_end    the loop's steps
 -- Assumes nothing.
+use Rattle.std.specs.Prelude.{Some, None}
 use Prim.Native.Nat.{ℕ, ◌+◌, ◌-◌, ◌<◌, ◌≤◌}
 use mathlib.Core.Path.{◌≡◌, refl, ap, ◌∙◌}
 use mathlib.Core.Bool.{Bool, true, false, and-false}
@@ -21,7 +22,6 @@ use Rattle.runs.proofs.Running.{Ran, ran, run_zero}
 use Rattle.pieces.specs.Pieces.{pieces, before}
 use Rattle.asciiaddress.specs.Ascii.{atom, local_part}
 use Rattle.asciiaddress.specs.Answers.{local_of}
-use Rattle.asciiaddress.specs.declared.Local.TheVariants.{Part, NoPart}
 use Rattle.pieces.proofs.Pieces.{before_into}
 use Rattle.pieces.proofs.Joined.{Cut, all_end, all_on, all_bad, all_shapeless}
 
@@ -52,15 +52,15 @@ atoms_begin s = record { upto = omega arith; long = omega arith; so_far = refl }
 
 module _ (s : List ℕ) (i : ℕ) (h : Atoms s i) where
   -- two ways to have no local part
-  no_atoms : every atom (pieces 46 (before 64 (drop i s))) ≡ false → NoPart ≡ local_of s
+  no_atoms : every atom (pieces 46 (before 64 (drop i s))) ≡ false → None ≡ local_of s
   unfolding local_of local_part
   no_atoms f = rw (h.so_far, f, and-false, and-false)
 
-  no_end : length s ≤ length (before 64 s) → NoPart ≡ local_of s
+  no_end : length s ≤ length (before 64 s) → None ≡ local_of s
   unfolding local_of
   no_end l = rw (le-ltb (length (before 64 s)) (length s) l)
 
-  pub atoms_end : length s ≤ i → NoPart ≡ local_of s
+  pub atoms_end : length s ≤ i → None ≡ local_of s
   atoms_end l = no_end (omega (arith, h.long))
 
   module _ (e : ℕ) (l : i < length s) (r : e ≡ i + run_length Atom (drop i s)) where
@@ -76,14 +76,14 @@ module _ (s : List ℕ) (i : ℕ) (h : Atoms s i) where
     long : length (before 64 s) ≡ e + length (before 64 (drop e s))
     long = h.long ∙ rw (split, length-append, here.counts) (omega (arith, here.from))
 
-    pub atom_empty : e ≡ i → NoPart ≡ local_of s
+    pub atom_empty : e ≡ i → None ≡ local_of s
     atom_empty z =
         let n : e - i ≡ 0 = omega arith in
         no_atoms
         (rw split
         (all_shapeless atoms piece (before 64 (drop e s)) here.all (run_before (belongs Atom) 64 (drop e s) here.stop) (rw (here.counts, n))))
 
-    pub atom_endless : length s ≤ e → NoPart ≡ local_of s
+    pub atom_endless : length s ≤ e → None ≡ local_of s
     atom_endless k = no_end (omega (arith, long))
 
     module _ (k : e < length s) (f : e ≡ i → ⊥) where
@@ -96,14 +96,14 @@ module _ (s : List ℕ) (i : ℕ) (h : Atoms s i) where
         unfolding before
         ends = rw (drop_one s e k, x)
 
-        pub atom_whole : e ≤ 64 → Part e ≡ local_of s
+        pub atom_whole : e ≤ 64 → Some e ≡ local_of s
         unfolding local_of local_part
         atom_whole m =
             let n : length (before 64 s) ≡ e = long ∙ rw ends (omega arith) in
             let w : every atom (pieces 46 (before 64 s)) ≡ true = h.so_far ∙ rw (split, ends, append-nil) (all_end atoms piece here.all ∙ full) in
             rw (n, w, lt-ltb e (length s) k, le-leb 1 e (omega arith), le-leb e 64 m)
 
-        pub atom_long : 64 < e → NoPart ≡ local_of s
+        pub atom_long : 64 < e → None ≡ local_of s
         unfolding local_of local_part
         atom_long m =
             let n : length (before 64 s) ≡ e = long ∙ rw ends (omega arith) in
@@ -114,7 +114,7 @@ module _ (s : List ℕ) (i : ℕ) (h : Atoms s i) where
         unfolding before
         goes = rw (drop_one s e k, before, ne_eqb (get_or s e 0) 64 x)
 
-        pub atom_stop : (get_or s e 0 ≡ 46 → ⊥) → NoPart ≡ local_of s
+        pub atom_stop : (get_or s e 0 ≡ 46 → ⊥) → None ≡ local_of s
         atom_stop n =
             no_atoms
             (rw (split, goes)

@@ -4,22 +4,20 @@
 --     small_ascii       an octet that stays as it is by every rule of L8
 --     lower_sides       the form of an address whose labels are ASCII, by its two sides
 --     ascii_canonical   such an address that is its own form
-use Rattle.std.specs.Prelude.{ℕ, Bool, cond, ◌&&◌, ◌||◌, List, ◌++◌, ltb, length}
+use Rattle.std.specs.Prelude.{ℕ, Bool, cond, ◌&&◌, ◌||◌, List, ◌++◌, ltb, length, Option, Some, None}
 use Rattle.octets.specs.Octets.{octet, same_octets, lowered}
 use Rattle.octets.specs.Tests.{one_to}
 use Rattle.utf8.specs.Lowering.{lower_text}
 use Rattle.pieces.specs.Pieces.{before, from}
 use Rattle.asciiaddress.specs.Ascii.{longest_label, local_part, free_ends, ascii_plain}
-use Rattle.asciiaddress.specs.declared.Local.{Local}
-use Rattle.asciiaddress.specs.declared.Local.TheVariants.{Part, NoPart}
 
 -- L6: how many octets the local part has, where an `@` follows it
-unfoldable pub local_of : List ℕ → Local
+unfoldable pub local_of : List ℕ → Option ℕ
 local_of s =
     cond
     (ltb (length (before (octet "@") s)) (length s) && local_part (before (octet "@") s))
-    (Part (length (before (octet "@") s)))
-    NoPart
+    (Some (length (before (octet "@") s)))
+    None
 
 -- L7: the length and the ends of a label
 unfoldable pub label_shape : List ℕ → Bool

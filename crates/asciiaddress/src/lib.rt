@@ -20,39 +20,33 @@ const LONGEST_LOCAL: usize = 64;
 // How many octets such a label may have: as many as its form (L7, T16).
 const LONGEST_LABEL: usize = 63;
 
-// The length of the local part that a text opens with.
-#[derive(Clone, Copy)]
-pub enum Local {
-    Part(usize),
-    NoPart,
-}
 
 // The local part that `s` opens with and an `@` follows: atoms with a dot between two of them (L6).
 #[tactic(auto, using(crate::proofs::Atoms::reading_atoms))]
-pub fn local_part(s: &[u8]) -> Local
+pub fn local_part(s: &[u8]) -> Option<usize>
     ensures { result ≡ local_of s.now }
 {
     let mut i = 0;
     while i < s.len() {
         let end = runs::run_end(s, i, Class::Atom);
         if s.len() <= end {
-            return Local::NoPart;
+            return None;
         }
         if end == i {
-            return Local::NoPart;
+            return None;
         }
         if s[end] == b'@' {
             if end <= LONGEST_LOCAL {
-                return Local::Part(end);
+                return Some(end);
             }
-            return Local::NoPart;
+            return None;
         }
         if s[end] != b'.' {
-            return Local::NoPart;
+            return None;
         }
         i = end + 1;
     }
-    Local::NoPart
+    None
 }
 
 // Has a run of letters, digits and hyphens the length and the ends of a label?
@@ -95,8 +89,8 @@ pub fn is_plain(s: &[u8]) -> bool
         return false;
     }
     match local_part(s) {
-        Local::Part(n) => is_domain(s, n + 1),
-        Local::NoPart => false,
+        Some(n) => is_domain(s, n + 1),
+        None => false,
     }
 }
 

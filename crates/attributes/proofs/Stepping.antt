@@ -22,12 +22,10 @@ use Rattle.attributes.specs.Steps.{address_at, Stands, stated, step_at, NextWith
 use Rattle.attributes.specs.declared.Attribute.{Attribute as Told}
 use Rattle.attributes.specs.declared.Attribute.TheVariants.{Addr, PreferEncrypt, Keydata, Ignored, Spoiling}
 use Rattle.attributes.specs.declared.Bounds.{Bounds}
-use Rattle.attributes.specs.declared.Preference.{Preference}
-use Rattle.attributes.specs.declared.Preference.TheVariants.{Unstated, Stated}
 use Rattle.attributes.specs.declared.NextPiece.{NextPiece}
 use Rattle.attributes.specs.declared.NextPiece.TheVariants.{On, Last, Spoils}
 
-module _ (s : List ℕ) (at : Bounds) (address : Option Bounds) (preference : Preference) where
+module _ (s : List ℕ) (at : Bounds) (address : Option Bounds) (preference : Option Bool) where
   module _ (w : Within s at.from at.to) (b : Bool) where
     module _ (seen : Bool) (i : seen ≡ is_some address) (u : seen ≡ false) (e : b ≡ plain (take (at.to - at.from) (drop at.from s))) where
       unseen : address ≡ None
@@ -46,8 +44,8 @@ module _ (s : List ℕ) (at : Bounds) (address : Option Bounds) (preference : Pr
       address_bad f = record { is = rw (unseen, sym e ∙ f); within = tt }
 
     pub preference_taken :
-        preference ≡ Unstated → b ≡ same_octets (take (at.to - at.from) (drop at.from s)) (ascii "mutual") → Stands s address
-        → Steps s (On address (Stated b)) (with_preference (address_at s address) (stated preference) (part s at.from at.to))
+        preference ≡ None → b ≡ same_octets (take (at.to - at.from) (drop at.from s)) (ascii "mutual") → Stands s address
+        → Steps s (On address (Some b)) (with_preference (address_at s address) (stated preference) (part s at.from at.to))
     unfolding with_preference step_at NextWithin stated part
     preference_taken u e h = record { is = rw (u, e); within = h }
 
@@ -55,11 +53,11 @@ module _ (s : List ℕ) (at : Bounds) (address : Option Bounds) (preference : Pr
   unfolding address_at with_address step_at NextWithin
   address_twice seen i u = by_option address (λ n. absurd (false≢true (sym (rw n at i) ∙ u))) (λ a k. record { is = rw k; within = tt })
 
-  pub preference_twice : (m : Bool) → preference ≡ Stated m → Steps s Spoils (with_preference (address_at s address) (stated preference) (part s at.from at.to))
+  pub preference_twice : (m : Bool) → preference ≡ Some m → Steps s Spoils (with_preference (address_at s address) (stated preference) (part s at.from at.to))
   unfolding with_preference step_at NextWithin stated
   preference_twice m u = record { is = rw u; within = tt }
 
-module _ (s : List ℕ) (from to : ℕ) (address : Option Bounds) (preference : Preference) where
+module _ (s : List ℕ) (from to : ℕ) (address : Option Bounds) (preference : Option Bool) where
   module _ (g : Told) (t : Tells s g (attribute_of (part s from to))) where
     module _ (v : Bounds) where
       pub within_addr : g ≡ Addr v → Within s v.from v.to

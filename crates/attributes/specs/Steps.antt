@@ -8,8 +8,6 @@ use Rattle.address.specs.Address.{plain}
 use Rattle.attributes.specs.Step.{Step, on, last, spoils}
 use Rattle.attributes.specs.Answers.{part, Within}
 use Rattle.attributes.specs.declared.Bounds.{Bounds}
-use Rattle.attributes.specs.declared.Preference.{Preference}
-use Rattle.attributes.specs.declared.Preference.TheVariants.{Unstated, Stated}
 use Rattle.attributes.specs.declared.NextPiece.{NextPiece}
 use Rattle.attributes.specs.declared.NextPiece.TheVariants.{On, Last, Spoils}
 
@@ -27,9 +25,9 @@ unfoldable pub Stands : List ℕ → Option Bounds → Type 0
 Stands s None = Unit
 Stands s (Some at) = PlainAt s at.from at.to
 
-unfoldable pub stated : Preference → Option Bool
-stated Unstated = None
-stated (Stated m) = Some m
+unfoldable pub stated : Option Bool → Option Bool
+stated None = None
+stated (Some m) = Some m
 
 unfoldable pub step_at : List ℕ → NextPiece → Step
 step_at s (On place preference) = on (address_at s place) (stated preference)

@@ -38,18 +38,12 @@ enum Attribute {
     Spoiling,
 }
 
-// The preference seen so far: whether it was `mutual`, where one was stated.
-#[derive(Clone, Copy)]
-pub enum Preference {
-    Unstated,
-    Stated(bool),
-}
 
 // What a piece comes to: the reading goes on with the address and the preference seen so far, it is at the key data (F8), or
 // the field is spoiled.
 #[derive(Clone, Copy)]
 pub enum NextPiece {
-    On(Option<Bounds>, Preference),
+    On(Option<Bounds>, Option<bool>),
     Last(Bounds),
     Spoils,
 }
@@ -142,7 +136,7 @@ fn attribute_at(s: &[u8], from: usize, to: usize) -> Attribute
 
 // The address: once, and a plain one (F6).
 #[tactic(auto, using(crate::proofs::Stepping::addressing))]
-fn with_address(s: &[u8], at: Bounds, address: Option<Bounds>, preference: Preference) -> NextPiece
+fn with_address(s: &[u8], at: Bounds, address: Option<Bounds>, preference: Option<bool>) -> NextPiece
     requires { Within s.now at.from at.to }
     ensures { Steps s.now result
         (with_address (address_at s.now address) (stated preference) (part s.now at.from at.to)) }
@@ -163,18 +157,18 @@ fn with_preference(
     s: &[u8],
     at: Bounds,
     address: Option<Bounds>,
-    preference: Preference,
+    preference: Option<bool>,
 ) -> NextPiece
     requires { Within s.now at.from at.to × Stands s.now address }
     ensures { Steps s.now result
         (with_preference (address_at s.now address) (stated preference) (part s.now at.from at.to)) }
 {
     match preference {
-        Preference::Unstated => {
+        None => {
             let mutual = octets::same(&s[at.from..at.to], b"mutual");
-            NextPiece::On(address, Preference::Stated(mutual))
+            NextPiece::On(address, Some(mutual))
         }
-        Preference::Stated(_) => NextPiece::Spoils,
+        Some(_) => NextPiece::Spoils,
     }
 }
 
@@ -185,7 +179,7 @@ pub fn step_at(
     from: usize,
     to: usize,
     address: Option<Bounds>,
-    preference: Preference,
+    preference: Option<bool>,
 ) -> NextPiece
     requires { Within s.now from to × Stands s.now address }
     ensures { Steps s.now result

@@ -5,6 +5,7 @@
 --     write_begin .. write_end     a loop that writes one a turn: what is left are the octets of what is left
 --     the rulesets                 laying and writing
 -- Assumes nothing.
+use Rattle.std.specs.Prelude.{Option, Some, None}
 use Prim.Native.Nat.{ℕ, ◌+◌, ◌-◌, ◌/◌, ◌%◌, ◌<◌, ◌≤◌}
 use mathlib.Core.Path.{◌≡◌, refl, sym, ◌∙◌}
 use mathlib.Core.List.{List, [], ◌∷◌, ◌++◌, append-nil}
@@ -14,8 +15,6 @@ use borrow.Author.Tests.{lt-ltb, le-ltb}
 use lib.ListN.{length, get_or, drop, set}
 use Rattle.octets.specs.Written.{put_at}
 use Rattle.octets.specs.Puts.{Written, TooLong, Puts}
-use Rattle.octets.specs.declared.Laid.{Laid}
-use Rattle.octets.specs.declared.Laid.TheVariants.{At, NoRoom}
 use Rattle.octets.proofs.Lists.{drop_one, drop_done}
 use Rattle.octets.proofs.Putting.{over_one, over_two, over_three, over_four}
 use Rattle.octets.proofs.Puts.{wrote_none, wrote_long, wrote_then, full_then, wrote_before, full_before}
@@ -91,22 +90,22 @@ module _ (d out ps : List ℕ) (at to i : ℕ) (h : Written d at out to (encoded
   pub write_inside : to ≤ length out
   write_inside = omega (arith, write_kept, h.room)
 
-  module _ (l : i < length ps) (r : Laid) (f : List ℕ) where
+  module _ (l : i < length ps) (r : Option ℕ) (f : List ℕ) where
     here : Written d at out to (encoded ps) (encoded_one (get_or ps i 0) ++ encoded (drop (i + 1) ps))
     unfolding encoded
     here = rw (drop_one ps i l) at h
 
-    pub write_next : (m : ℕ) → r ≡ At m → Puts out f to (encoded_one (get_or ps i 0)) r → Written d at f m (encoded ps) (encoded (drop (i + 1) ps))
+    pub write_next : (m : ℕ) → r ≡ Some m → Puts out f to (encoded_one (get_or ps i 0)) r → Written d at f m (encoded ps) (encoded (drop (i + 1) ps))
     write_next m a k =
         let w : Written out to f m (encoded_one (get_or ps i 0)) [] = rw a at k in
         wrote_then d at out to _ _ here f m _ (wrote_before out to f m _ (encoded (drop (i + 1) ps)) w)
 
-    pub write_full : r ≡ NoRoom → Puts out f to (encoded_one (get_or ps i 0)) r → TooLong d at f (encoded ps)
+    pub write_full : r ≡ None → Puts out f to (encoded_one (get_or ps i 0)) r → TooLong d at f (encoded ps)
     write_full a k =
         let w : TooLong out to f (encoded_one (get_or ps i 0)) = rw a at k in
         full_then d at out to _ _ here f (full_before out to f _ _ w)
 
-    pub write_long : r ≡ NoRoom → Puts out f to (encoded_one (get_or ps i 0)) r → length f ≡ length d
+    pub write_long : r ≡ None → Puts out f to (encoded_one (get_or ps i 0)) r → length f ≡ length d
     write_long a k = (write_full a k).same
 
   pub write_end : length ps ≤ i → Written d at out to (encoded ps) []

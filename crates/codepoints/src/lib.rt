@@ -98,7 +98,7 @@ pub fn read_small(s: &[u8], out: &mut [u32]) -> Read
 
 // Writes the one to four octets of a code point over `out` from the place `at` on (L20).
 #[tactic(auto, using(crate::proofs::Encoding::laying))]
-fn put_point(out: &mut [u8], at: usize, p: u32) -> octets::Laid
+fn put_point(out: &mut [u8], at: usize, p: u32) -> Option<usize>
     requires p_bound { p < 0x110000 }
     requires at_in_bounds { at ≤ length out.old }
     ensures { Puts out.old out.new at (encoded_one p) result }
@@ -106,41 +106,41 @@ fn put_point(out: &mut [u8], at: usize, p: u32) -> octets::Laid
     let room = out.len() - at;
     if p < 0x80 {
         if room < 1 {
-            return octets::Laid::NoRoom;
+            return None;
         }
         out[at] = p as u8;
-        return octets::Laid::At(at + 1);
+        return Some(at + 1);
     }
     if p < 0x800 {
         if room < 2 {
-            return octets::Laid::NoRoom;
+            return None;
         }
         out[at] = (0xC0 + p / 64) as u8;
         out[at + 1] = (0x80 + p % 64) as u8;
-        return octets::Laid::At(at + 2);
+        return Some(at + 2);
     }
     if p < 0x10000 {
         if room < 3 {
-            return octets::Laid::NoRoom;
+            return None;
         }
         out[at] = (0xE0 + p / 4096) as u8;
         out[at + 1] = (0x80 + p / 64 % 64) as u8;
         out[at + 2] = (0x80 + p % 64) as u8;
-        return octets::Laid::At(at + 3);
+        return Some(at + 3);
     }
     if room < 4 {
-        return octets::Laid::NoRoom;
+        return None;
     }
     out[at] = (0xF0 + p / 262144) as u8;
     out[at + 1] = (0x80 + p / 4096 % 64) as u8;
     out[at + 2] = (0x80 + p / 64 % 64) as u8;
     out[at + 3] = (0x80 + p % 64) as u8;
-    octets::Laid::At(at + 4)
+    Some(at + 4)
 }
 
 // Writes code points over `out` from the place `at` on (L20), as long as there is room.
 #[tactic(auto, using(crate::proofs::Encoding::writing))]
-pub fn write(points: &[u32], out: &mut [u8], at: usize) -> octets::Laid
+pub fn write(points: &[u32], out: &mut [u8], at: usize) -> Option<usize>
     requires points_value { scalars points.now ≡ true }
     requires at_in_bounds { at ≤ length out.old }
     ensures { Puts out.old out.new at (encoded points.now) result }
@@ -148,13 +148,13 @@ pub fn write(points: &[u32], out: &mut [u8], at: usize) -> octets::Laid
     let mut to = at;
     for &p in points {
         match put_point(&mut *out, to, p) {
-            octets::Laid::At(next) => {
+            Some(next) => {
                 to = next;
             }
-            octets::Laid::NoRoom => {
-                return octets::Laid::NoRoom;
+            None => {
+                return None;
             }
         }
     }
-    octets::Laid::At(to)
+    Some(to)
 }

@@ -6,6 +6,7 @@
 --     encode_full .. encode_end             one part behind the other
 --     the rulesets                          one, basic, basics, delimiting and encoding
 -- Assumes nothing.
+use Rattle.std.specs.Prelude.{Option, Some, None}
 use Prim.Native.Nat.{ℕ, suc, ◌+◌, ◌<◌, ◌≤◌}
 use mathlib.Core.Path.{◌≡◌, refl, ◌∙◌}
 use mathlib.Core.List.{List, [], ◌∷◌, ◌++◌, append_assoc}
@@ -19,8 +20,6 @@ use Rattle.octets.specs.Puts.{Written, TooLong, Puts}
 use Rattle.octets.proofs.Lists.{drop_one, drop_done, lt_or_le}
 use Rattle.punycode.specs.Punycode.{below, delimited, numbers, encode}
 use Rattle.coder.specs.Steps.{Points, Begins, delimiter_at}
-use Rattle.octets.specs.declared.Laid.{Laid}
-use Rattle.octets.specs.declared.Laid.TheVariants.{At, NoRoom}
 use Rattle.punycode.proofs.Below.{below_yes, below_no}
 use Rattle.octets.proofs.Puts.{wrote_none, wrote_single, wrote_before, wrote_then, wrote_long, wrote_counts, full_before, full_then}
 
@@ -40,7 +39,7 @@ module _ (d : List ℕ) (at c : ℕ) where
   unfolding below
   basic_none h l = rw (below_no 128 c [] l) (wrote_none d at [] h)
 
-  pub basic_one : (e : List ℕ) (r : Laid) → Puts d e at (c ∷ []) r → c < 128 → Puts d e at (below 128 (c ∷ [])) r
+  pub basic_one : (e : List ℕ) (r : Option ℕ) → Puts d e at (c ∷ []) r → c < 128 → Puts d e at (below 128 (c ∷ [])) r
   unfolding below
   basic_one e r k l = rw (below_yes 128 c [] l) k
 
@@ -68,17 +67,17 @@ module _ (d out ps : List ℕ) (at i : ℕ) (g : Basics d out ps at i) where
   pub basics_inside : at ≤ length out
   basics_inside = g.inside
 
-  module _ (l : i < length ps) (r : Laid) (out₁ : List ℕ) where
+  module _ (l : i < length ps) (r : Option ℕ) (out₁ : List ℕ) where
     here : Written d 0 out at (below 128 ps) (below 128 (get_or ps i 0 ∷ []) ++ below 128 (drop (i + 1) ps))
     here = rw (drop_one ps i l, below_front 128 (get_or ps i 0) (drop (i + 1) ps)) at g.wrote
 
-    pub basics_next : (m : ℕ) → r ≡ At m → Puts out out₁ at (below 128 (get_or ps i 0 ∷ [])) r → Basics d out₁ ps m (i + 1)
+    pub basics_next : (m : ℕ) → r ≡ Some m → Puts out out₁ at (below 128 (get_or ps i 0 ∷ [])) r → Basics d out₁ ps m (i + 1)
     basics_next m a p =
         let k : Written out at out₁ m (below 128 (get_or ps i 0 ∷ [])) [] = rw a at p in
         let w = wrote_then d 0 out at _ _ here out₁ m _ (wrote_before out at out₁ m _ (below 128 (drop (i + 1) ps)) k) in
         record { wrote = w; upto = omega arith; kept = wrote_long d 0 out₁ m _ _ w; inside = omega (arith, w.room, wrote_long d 0 out₁ m _ _ w) }
 
-    pub basics_full : r ≡ NoRoom → Puts out out₁ at (below 128 (get_or ps i 0 ∷ [])) r → TooLong d 0 out₁ (below 128 ps)
+    pub basics_full : r ≡ None → Puts out out₁ at (below 128 (get_or ps i 0 ∷ [])) r → TooLong d 0 out₁ (below 128 ps)
     basics_full a p =
         let k : TooLong out at out₁ (below 128 (get_or ps i 0 ∷ [])) = rw a at p in
         full_then d 0 out at _ _ here out₁ (full_before out at out₁ _ _ k)
@@ -95,7 +94,7 @@ module _ (d : List ℕ) (at : ℕ) (h : at ≤ length d) where
   unfolding delimiter_at
   delimiter_none e = rw (eq-eqb at 0 e) (wrote_none d at [] h)
 
-  pub delimiter_one : (e : List ℕ) (r : Laid) → Puts d e at (45 ∷ []) r → (at ≡ 0 → ⊥) → Puts d e at (delimiter_at at) r
+  pub delimiter_one : (e : List ℕ) (r : Option ℕ) → Puts d e at (45 ∷ []) r → (at ≡ 0 → ⊥) → Puts d e at (delimiter_at at) r
   unfolding delimiter_at
   delimiter_one e r k n = rw (ne_eqb at 0 n) k
 
@@ -111,13 +110,13 @@ encode_parts : (ps : List ℕ) (b : ℕ) → b ≡ length (below 128 ps) → enc
 unfolding encode
 encode_parts ps b e = rw (e, delimited_parts (below 128 ps)) (append_assoc (below 128 ps) _ _)
 
-module _ (d ps : List ℕ) (p : Points (length d) ps) (r₁ : Laid) (e₁ : List ℕ) where
-  pub encode_full : r₁ ≡ NoRoom → Puts d e₁ 0 (below 128 ps) r₁ → TooLong d 0 e₁ (encode ps)
+module _ (d ps : List ℕ) (p : Points (length d) ps) (r₁ : Option ℕ) (e₁ : List ℕ) where
+  pub encode_full : r₁ ≡ None → Puts d e₁ 0 (below 128 ps) r₁ → TooLong d 0 e₁ (encode ps)
   encode_full a q =
       let k : TooLong d 0 e₁ (below 128 ps) = rw a at q in
       rw (encode_parts ps (length (below 128 ps)) refl) (full_before d 0 e₁ _ _ k)
 
-  module _ (b : ℕ) (a : r₁ ≡ At b) (q : Puts d e₁ 0 (below 128 ps) r₁) where
+  module _ (b : ℕ) (a : r₁ ≡ Some b) (q : Puts d e₁ 0 (below 128 ps) r₁) where
     first : Written d 0 e₁ b (below 128 ps) []
     first = rw a at q
 
@@ -134,13 +133,13 @@ module _ (d ps : List ℕ) (p : Points (length d) ps) (r₁ : Laid) (e₁ : List
     pub encode_inside : b ≤ length e₁
     encode_inside = omega (arith, first.room, encode_kept)
 
-    module _ (r₂ : Laid) (e₂ : List ℕ) where
-      pub encode_stops : r₂ ≡ NoRoom → Puts e₁ e₂ b (delimiter_at b) r₂ → TooLong d 0 e₂ (encode ps)
+    module _ (r₂ : Option ℕ) (e₂ : List ℕ) where
+      pub encode_stops : r₂ ≡ None → Puts e₁ e₂ b (delimiter_at b) r₂ → TooLong d 0 e₂ (encode ps)
       encode_stops f k =
           let t : TooLong e₁ b e₂ (delimiter_at b) = rw f at k in
           full_then d 0 e₁ b _ _ all e₂ (full_before e₁ b e₂ _ _ t)
 
-      module _ (at : ℕ) (f : r₂ ≡ At at) (k : Puts e₁ e₂ b (delimiter_at b) r₂) where
+      module _ (at : ℕ) (f : r₂ ≡ Some at) (k : Puts e₁ e₂ b (delimiter_at b) r₂) where
         second : Written e₁ b e₂ at (delimiter_at b) []
         second = rw f at k
 
@@ -156,8 +155,8 @@ module _ (d ps : List ℕ) (p : Points (length d) ps) (r₁ : Laid) (e₁ : List
               counted = omega (arith, second.counts);
             }
 
-        pub encode_end : (e₃ : List ℕ) (r₃ : Laid) → Puts e₂ e₃ at (numbers ps b) r₃ → Puts d e₃ 0 (encode ps) r₃
-        encode_end e₃ (At m) t = wrote_then d 0 e₂ at _ _ both e₃ m _ t
-        encode_end e₃ NoRoom t = full_then d 0 e₂ at _ _ both e₃ t
+        pub encode_end : (e₃ : List ℕ) (r₃ : Option ℕ) → Puts e₂ e₃ at (numbers ps b) r₃ → Puts d e₃ 0 (encode ps) r₃
+        encode_end e₃ (Some m) t = wrote_then d 0 e₂ at _ _ both e₃ m _ t
+        encode_end e₃ None t = full_then d 0 e₂ at _ _ both e₃ t
 
 pub ruleset encoding = (encode_full, encode_stops, encode_inside, encode_kept, encode_begins, encode_end, rules)

@@ -19,8 +19,6 @@ use Rattle.octets.proofs.Lists.{drop_one, drop_done}
 use Rattle.punycode.specs.Punycode.{adapt, integer, pass}
 use Rattle.coder.specs.Steps.{Turned, Ready, Turning, Stopping, Passing, Stopped}
 use Rattle.coder.specs.declared.Coder.{Coder}
-use Rattle.octets.specs.declared.Laid.{Laid}
-use Rattle.octets.specs.declared.Laid.TheVariants.{At, NoRoom}
 use Rattle.octets.proofs.Puts.{wrote_none, wrote_then, wrote_long, wrote_before, full_before, wrote_counts, full_then}
 use Rattle.punycode.proofs.Integers.{integer_some}
 use Rattle.punycode.proofs.Turns.{pass_below, pass_here, pass_above}
@@ -43,7 +41,7 @@ module _ (d : List ℕ) (b n c : ℕ) (s : Coder) (h : Ready (length d) 1 s) whe
         counted = h.counted;
       }
 
-  pub turn_here : (e : List ℕ) (m k : ℕ) (r : Laid) → r ≡ At m → Puts d e s.at (integer s.delta s.bias 36 s.delta) r → k ≡ adapt s.delta (s.h + 1) (eqb s.h b)
+  pub turn_here : (e : List ℕ) (m k : ℕ) (r : Option ℕ) → r ≡ Some m → Puts d e s.at (integer s.delta s.bias 36 s.delta) r → k ≡ adapt s.delta (s.h + 1) (eqb s.h b)
       → n ≤ c → c ≤ n → Turning d e b n c s (record { delta = 0; bias = k; h = s.h + 1; at = m })
   turn_here e m k r a p q l j =
       let w : Written d s.at e m (integer s.delta s.bias 36 s.delta) [] = rw a at p in
@@ -53,7 +51,7 @@ module _ (d : List ℕ) (b n c : ℕ) (s : Coder) (h : Ready (length d) 1 s) whe
         counted = omega (arith, h.counted, wrote_counts d s.at e m _ w, integer_some s.delta s.bias 36 s.delta);
       }
 
-  pub turn_full : (e : List ℕ) (r : Laid) → r ≡ NoRoom → Puts d e s.at (integer s.delta s.bias 36 s.delta) r → n ≤ c → c ≤ n → Stopping d e b n c s
+  pub turn_full : (e : List ℕ) (r : Option ℕ) → r ≡ None → Puts d e s.at (integer s.delta s.bias 36 s.delta) r → n ≤ c → c ≤ n → Stopping d e b n c s
   turn_full e r a p l j =
       let w : TooLong d s.at e (integer s.delta s.bias 36 s.delta) = rw a at p in
       record { long = λ after rest. rw (pass_here after b n c rest s.delta s.bias s.h (omega arith)) (full_before d s.at e _ _ w) }

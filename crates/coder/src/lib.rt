@@ -8,7 +8,6 @@ ghost use Rattle.octets.specs.Puts.{Puts};
 ghost use Rattle.punycode.specs.Punycode.{below, integer, numbers, encode as encode_of};
 ghost use Rattle.coder.specs.Steps.{Ready, Turned, Passes, Able, Rounded, Points, Begins, delimiter_at};
 
-use octets::Laid;
 
 // How far the coder is: what the next number comes to so far, its bias, how many code points are written, and the place
 // behind what was written.
@@ -22,7 +21,7 @@ struct Coder {
 
 // Writes the digits of a number from the place `at` on.
 #[tactic(auto, using(crate::proofs::Digits::going))]
-fn put_integer(out: &mut [u8], at: usize, bias: u64, delta: u64) -> Laid
+fn put_integer(out: &mut [u8], at: usize, bias: u64, delta: u64) -> Option<usize>
     requires { (at ≤ length out.old) × (delta < 2 ^ 56) }
     ensures { Puts out.old out.new at (integer delta bias 36 delta) result }
 {
@@ -32,14 +31,14 @@ fn put_integer(out: &mut [u8], at: usize, bias: u64, delta: u64) -> Laid
         let t = punycode::threshold(k, bias);
         if q < t {
             out[i] = punycode::digit(q);
-            return Laid::At(i + 1);
+            return Some(i + 1);
         }
         let rest = q - t;
         out[i] = punycode::digit(t + rest % (36 - t));
         q = rest / (36 - t);
         k += 36;
     }
-    Laid::NoRoom
+    None
 }
 
 // The smallest code point from n on, if there is one.
@@ -69,7 +68,7 @@ fn turn(out: &mut [u8], c: u64, n: u64, b: u64, s: Coder) -> Option<Coder>
     if n < c {
         return Some(s);
     }
-    let Laid::At(at) = put_integer(out, s.at, s.bias, s.delta) else {
+    let Some(at) = put_integer(out, s.at, s.bias, s.delta) else {
         return None;
     };
     Some(Coder {
@@ -109,7 +108,7 @@ fn round(points: &[u32], out: &mut [u8], n: u64, m: u64, b: u64, s: Coder) -> Op
 
 // A pass for each different code point from 128 on, the smallest first, behind the b others.
 #[tactic(auto, using(crate::proofs::Rounds::rounds))]
-fn passes(points: &[u32], out: &mut [u8], b: u64, at: usize) -> Laid
+fn passes(points: &[u32], out: &mut [u8], b: u64, at: usize) -> Option<usize>
     requires { Begins (length out.old) points.now b at }
     ensures { Puts out.old out.new at (numbers points.now b) result }
 {
@@ -123,63 +122,63 @@ fn passes(points: &[u32], out: &mut [u8], b: u64, at: usize) -> Laid
     while let Some(m) = least(points, n) {
         match round(points, &mut *out, n, m, b, s) {
             Some(t) => s = t,
-            None => return Laid::NoRoom,
+            None => return None,
         }
         n = m + 1;
     }
-    Laid::At(s.at)
+    Some(s.at)
 }
 
 // Writes one octet, if there is room.
 #[tactic(auto, using(crate::proofs::Coding::one))]
-fn put_octet(out: &mut [u8], at: usize, x: u8) -> Laid
+fn put_octet(out: &mut [u8], at: usize, x: u8) -> Option<usize>
     requires { at ≤ length out.old }
     ensures { Puts out.old out.new at (x ∷ []) result }
 {
     if at < out.len() {
         out[at] = x;
-        Laid::At(at + 1)
+        Some(at + 1)
     } else {
-        Laid::NoRoom
+        None
     }
 }
 
 // One code point as it is, if it is below 128.
 #[tactic(auto, using(crate::proofs::Coding::basic))]
-fn put_basic(out: &mut [u8], at: usize, c: u32) -> Laid
+fn put_basic(out: &mut [u8], at: usize, c: u32) -> Option<usize>
     requires { at ≤ length out.old }
     ensures { Puts out.old out.new at (below 128 (c ∷ [])) result }
 {
     if c < 128 {
         put_octet(out, at, c as u8)
     } else {
-        Laid::At(at)
+        Some(at)
     }
 }
 
 // The code points below 128, in their order.
 #[tactic(auto, using(crate::proofs::Coding::basics))]
-fn put_basics(points: &[u32], out: &mut [u8]) -> Laid
+fn put_basics(points: &[u32], out: &mut [u8]) -> Option<usize>
     ensures { Puts out.old out.new 0 (below 128 points.now) result }
 {
     let mut at = 0;
     for &c in points {
         match put_basic(&mut *out, at, c) {
-            Laid::At(next) => at = next,
-            Laid::NoRoom => return Laid::NoRoom,
+            Some(next) => at = next,
+            None => return None,
         }
     }
-    Laid::At(at)
+    Some(at)
 }
 
 // The delimiter, if something stands before it.
 #[tactic(auto, using(crate::proofs::Coding::delimiting))]
-fn put_delimiter(out: &mut [u8], at: usize) -> Laid
+fn put_delimiter(out: &mut [u8], at: usize) -> Option<usize>
     requires { at ≤ length out.old }
     ensures { Puts out.old out.new at (delimiter_at at) result }
 {
     if at == 0 {
-        Laid::At(at)
+        Some(at)
     } else {
         put_octet(out, at, b'-')
     }
@@ -187,15 +186,15 @@ fn put_delimiter(out: &mut [u8], at: usize) -> Laid
 
 // Writes the Punycode of code points into `out`, and answers how long it is (L23).
 #[tactic(auto, using(crate::proofs::Coding::encoding))]
-pub fn encode(points: &[u32], out: &mut [u8]) -> Laid
+pub fn encode(points: &[u32], out: &mut [u8]) -> Option<usize>
     requires { Points (length out.old) points.now }
     ensures { Puts out.old out.new 0 (encode_of points.now) result }
 {
-    let Laid::At(b) = put_basics(points, &mut *out) else {
-        return Laid::NoRoom;
+    let Some(b) = put_basics(points, &mut *out) else {
+        return None;
     };
-    let Laid::At(at) = put_delimiter(&mut *out, b) else {
-        return Laid::NoRoom;
+    let Some(at) = put_delimiter(&mut *out, b) else {
+        return None;
     };
     passes(points, out, b as u64, at)
 }

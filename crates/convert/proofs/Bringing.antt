@@ -6,6 +6,7 @@
 --     bring_free, bring_used        slot i as a whole
 --     the rulesets                  absorbing, settling, bringing_used and bringing, for the functions of these names
 -- Assumes nothing.
+use Rattle.std.specs.Prelude.{Option, Some, None}
 use Prim.Native.Nat.{ℕ, ◌+◌, ◌-◌, ◌*◌, ◌<◌, ◌≤◌}
 use mathlib.Core.Path.{◌≡◌, sym, ap, ◌∙◌}
 use mathlib.Core.Bool.{Bool, true, false}
@@ -15,8 +16,6 @@ use borrow.Author.Rules.{rules}
 use lib.ListN.{length, take, drop}
 use Rattle.address.specs.Address.{plain, canonical}
 use Rattle.address.specs.Answers.{written_of, onto_if_fits}
-use Rattle.address.specs.declared.Fitted.{Fitted}
-use Rattle.address.specs.declared.Fitted.TheVariants.{Length, NoRoom}
 use Rattle.address.proofs.Spelling.{canonical_most}
 use Rattle.address.proofs.Ascii.{was_plain}
 use Rattle.address.proofs.Forming as forming
@@ -27,8 +26,6 @@ use Rattle.slots.specs.declared.Spelling.TheVariants.{Ascii}
 use Rattle.slots.proofs.Sounds.{sound_parts}
 use Rattle.tags.specs.Tags.{tag_of}
 use Rattle.table.specs.Table.{slots, slot_at, with_slot, has_address, lowest}
-use Rattle.table.specs.declared.Found.{Found}
-use Rattle.table.specs.declared.Found.TheVariants.{At, Nothing}
 use Rattle.table.proofs.Slots as slotwise
 use Rattle.table.proofs.Finding.{lowest_at, has_used}
 use Rattle.lookup.specs.Looking.{Seeks}
@@ -75,7 +72,7 @@ module _ (t : List ℕ) (j i : ℕ) (h : Absorbs t j i) where
 
       pub absorbed : (w : List ℕ) → length w ≡ length (take (j * 4392 + 4392 - j * 4392) (drop (j * 4392) u))
           → w ≡ slot_of (merged (entry_of (take (j * 4392 + 4392 - j * 4392) (drop (j * 4392) u))) (entry_of x))
-          → take (j * 4392) u ++ (w ++ drop (j * 4392 + 4392 - j * 4392) (drop (j * 4392) u)) ≡ brought_at t i (At j)
+          → take (j * 4392) u ++ (w ++ drop (j * 4392 + 4392 - j * 4392) (drop (j * 4392) u)) ≡ brought_at t i (Some j)
       unfolding brought_at
       absorbed w k e = slotwise.put_slot u j absorb_within w k ∙ rw (e, part, copied s x es ex, eu)
 
@@ -101,8 +98,8 @@ module _ (t tags a : List ℕ) (i : ℕ) (h : Settles t tags i a) where
       rw h.own
       (omega (arith, canonical_most (address_of (slot_at t i)) (was_plain (address_of (slot_at t i)) (sound_parts (slot_at t i) old).address)))
 
-  module _ (f : Found) (ef : f ≡ lowest (has_address a) t 0 i) where
-    module _ (j : ℕ) (q : f ≡ At j) where
+  module _ (f : Option ℕ) (ef : f ≡ lowest (has_address a) t 0 i) where
+    module _ (j : ℕ) (q : f ≡ Some j) where
       pub settle_absorbs : Absorbs t j i
       settle_absorbs =
           let r = lowest_at (has_address a) t 0 i j (sym ef ∙ q) in
@@ -115,10 +112,10 @@ module _ (t tags a : List ℕ) (i : ℕ) (h : Settles t tags i a) where
             was_sound = old;
           }
 
-      pub settled_lower : (out : List ℕ) → out ≡ brought_at t i (At j) → out ≡ brought_at t i (lowest (has_address a) t 0 i)
+      pub settled_lower : (out : List ℕ) → out ≡ brought_at t i (Some j) → out ≡ brought_at t i (lowest (has_address a) t 0 i)
       settled_lower out e = e ∙ ap (brought_at t i) (sym q ∙ ef)
 
-    pub settled_own : f ≡ Nothing → (out : List ℕ) → out ≡ with_slot t i (slot_of (renamed a (entry_of (slot_at t i))))
+    pub settled_own : f ≡ None → (out : List ℕ) → out ≡ with_slot t i (slot_of (renamed a (entry_of (slot_at t i))))
         → out ≡ brought_at t i (lowest (has_address a) t 0 i)
     unfolding brought_at
     settled_own q out e = e ∙ ap (λ (b : List ℕ). with_slot t i (slot_of (renamed b (entry_of (slot_at t i))))) h.own ∙ ap (brought_at t i) (sym q ∙ ef)
@@ -131,11 +128,11 @@ module _ (t tags : List ℕ) (i : ℕ) (h : Brings t tags i) (used : marked (slo
   unfolding spelled
   plainly = ap plain es ∙ was_plain (address_of (slot_at t i)) (sound_parts (slot_at t i) (h.was_sound used)).address
 
-  module _ (g : Fitted) (e : g ≡ written_of (canonical s) 256) where
-    pub form_never : g ≡ NoRoom → t ≡ brought t i
+  module _ (g : Option ℕ) (e : g ≡ written_of (canonical s) 256) where
+    pub form_never : g ≡ None → t ≡ brought t i
     form_never r = absurd (forming.form_never s plainly 256 (omega arith) g e r)
 
-    module _ (n : ℕ) (r : g ≡ Length n) (b out : List ℕ) (o : out ≡ onto_if_fits (canonical s) b) (l : length b ≡ 256) where
+    module _ (n : ℕ) (r : g ≡ Some n) (b out : List ℕ) (o : out ≡ onto_if_fits (canonical s) b) (l : length b ≡ 256) where
       pub form_end : n ≤ length out
       form_end = forming.form_end s plainly 256 (omega arith) g e n r b out o l
 

@@ -23,7 +23,6 @@ use Rattle.slots.specs.declared.Spelling.TheVariants.{Ascii}
 use Rattle.slots.proofs.Made.{slot_long}
 use Rattle.table.specs.Table.{slots, slot_at, has_address, lowest}
 use Rattle.table.specs.Slotwise.{TableBy}
-use Rattle.table.specs.declared.Found.TheVariants.{At}
 use Rattle.table.proofs.Lowest.{by_found, lowest_is}
 use Rattle.table.proofs.Finding.{lowest_at, lowest_nothing, lowest_none}
 use Rattle.table.proofs.Replaced.{made_has, made_has_not}
@@ -96,7 +95,7 @@ module _ (t : List ℕ) (w : TableBy Ascii t) (o : AllOctets t) where
 
   -- u has these slots in front
   module _ (n k : ℕ) (l : k ≤ n) (m : n ≤ slots t) (u a : List ℕ) (h : (i : ℕ) → i < k → slot_at u i ≡ converted_at t n i) where
-    pub first_form : (j : ℕ) → lowest (has_form a) t 0 k ≡ At j → leads t j ≡ true
+    pub first_form : (j : ℕ) → lowest (has_form a) t 0 k ≡ Some j → leads t j ≡ true
     first_form j e =
         let r = lowest_at (has_form a) t 0 k j e in
         let q : form_of (slot_at t j) ≡ a = form_is a (slot_at t j) r.passes in

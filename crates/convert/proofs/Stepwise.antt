@@ -10,7 +10,7 @@ use mathlib.Core.Path.{◌≡◌, refl, sym, ap, subst, ◌∙◌}
 use mathlib.Core.Logic.{⊎_elim}
 use mathlib.Core.Bool.{true, false, false≢true}
 use mathlib.Core.List.{List}
-use Rattle.std.specs.Prelude.{Option, Some}
+use Rattle.std.specs.Prelude.{Option, Some, None}
 use native.Mathlib.Omega.{arith}
 use borrow.Author.Tests.{lt-ltb, le-ltb, eqb-true, eqb-false}
 use lib.Dec.{eqb}
@@ -25,7 +25,6 @@ use Rattle.slots.specs.declared.Spelling.TheVariants.{Ascii}
 use Rattle.slots.proofs.Made.{slot_long, entry_back}
 use Rattle.table.specs.Table.{slots, slot_at, with_slot, has_address, lowest}
 use Rattle.table.specs.Slotwise.{TableBy}
-use Rattle.table.specs.declared.Found.TheVariants.{At, Nothing}
 use Rattle.table.proofs.Slots as slotwise
 use Rattle.table.proofs.Lowest.{by_found}
 use Rattle.table.proofs.Finding.{lowest_at, lowest_nothing}
@@ -142,7 +141,7 @@ module _ (t : List ℕ) (w : TableBy Ascii t) (o : AllOctets t) where
       place : lowest (has_address form) (partly t n) 0 n ≡ lowest (has_form form) t 0 n
       place = lowest_form t w o n n (omega arith) low (partly t n) form (λ i l. partly_below n low i l)
 
-      module _ (none_lower : lowest (has_form form) t 0 n ≡ Nothing) where
+      module _ (none_lower : lowest (has_form form) t 0 n ≡ None) where
         no_lower : (k : ℕ) → k < n → has_form form (slot_at t k) ≡ false
         no_lower k l = lowest_nothing (has_form form) t 0 n none_lower k (omega arith) (omega arith)
 
@@ -175,7 +174,7 @@ module _ (t : List ℕ) (w : TableBy Ascii t) (o : AllOctets t) where
             slotwise.slot_other (partly t n) (slot_of (renamed form (entry_of (slot_at t n)))) n room long k (λ q. omega arith)
             ∙ partly_above n low k (omega arith) b)
 
-      module _ (j : ℕ) (lower : lowest (has_form form) t 0 n ≡ At j) where
+      module _ (j : ℕ) (lower : lowest (has_form form) t 0 n ≡ Some j) where
         below : j < n
         below = omega (arith, (lowest_at (has_form form) t 0 n j lower).below)
 

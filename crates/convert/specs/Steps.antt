@@ -2,15 +2,13 @@
 --     partly_at, partly     a slot, and the table, where the first n slots are converted
 --     brought_at, brought   what one step makes of a table: slot i is free; a lower slot has its form; or it is the first with that form
 --     Brings, Settles, Absorbs    what a step asks for: at slot i; where that is used and has the form a; where a lower slot has that form
-use Rattle.std.specs.Prelude.{ℕ, ◌<◌, ◌≤◌, ◌≡◌, true, false, List, ltb}
+use Rattle.std.specs.Prelude.{ℕ, ◌<◌, ◌≤◌, ◌≡◌, true, false, List, ltb, Option, Some, None}
 use Rattle.heads.specs.Entry.{renamed}
 use Rattle.slots.specs.Slot.{free_slot, marked, sound_by, sound}
 use Rattle.slots.specs.Entry.{entry_of, slot_of}
 use Rattle.slots.specs.declared.Spelling.TheVariants.{Ascii}
 use Rattle.table.specs.Table.{most_slots, slots, slot_at, with_slot, has_address, lowest}
 use Rattle.table.specs.Tagged.{TaggedTo}
-use Rattle.table.specs.declared.Found.{Found}
-use Rattle.table.specs.declared.Found.TheVariants.{At, Nothing}
 use Rattle.merge.specs.Merging.{merged}
 use Rattle.convert.specs.Converting.{form_of, converted_at, table_of}
 
@@ -22,9 +20,9 @@ unfoldable pub partly : List ℕ → ℕ → List ℕ
 partly t n = table_of (partly_at t n) (slots t)
 
 -- slot i, by where its form stands in the lower slots
-unfoldable pub brought_at : List ℕ → ℕ → Found → List ℕ
-brought_at u i (At j) = with_slot (with_slot u i free_slot) j (slot_of (merged (entry_of (slot_at u j)) (entry_of (slot_at u i))))
-brought_at u i Nothing = with_slot u i (slot_of (renamed (form_of (slot_at u i)) (entry_of (slot_at u i))))
+unfoldable pub brought_at : List ℕ → ℕ → Option ℕ → List ℕ
+brought_at u i (Some j) = with_slot (with_slot u i free_slot) j (slot_of (merged (entry_of (slot_at u j)) (entry_of (slot_at u i))))
+brought_at u i None = with_slot u i (slot_of (renamed (form_of (slot_at u i)) (entry_of (slot_at u i))))
 
 unfoldable pub brought : List ℕ → ℕ → List ℕ
 brought u i =

@@ -2,26 +2,24 @@
 // canonical form, and entries that then have one address become one, in the lowest of their slots.
 #![tactic(auto)]
 
-ghost use Rattle.std.specs.Prelude.{◌≡◌, true};
+ghost use Rattle.std.specs.Prelude.{◌≡◌, true, Some};
 ghost use Rattle.refusals.specs.Rows.{answer_of};
 ghost use Rattle.slots.specs.Slot.{marked};
 ghost use Rattle.slots.specs.declared.Spelling.TheVariants.{Ascii};
 ghost use Rattle.table.specs.Table.{slot_at, has_address, lowest};
 ghost use Rattle.table.specs.Tagged.{OpenBy};
-ghost use Rattle.table.specs.declared.Found.TheVariants.{At};
 ghost use Rattle.convert.specs.Converting.{converted, refused_converting, left_by_converting};
 ghost use Rattle.convert.specs.Steps.{brought_at, brought, Brings, Settles, Absorbs};
 
 use refusals::Answer;
 use slots::{Slot, Spelling};
-use table::Found;
 
 // Merges slot i into the lower slot j, and frees it (T17). Its octets are copied first, so that the one slot can be read
 // while the other is written.
 #[tactic(auto, using(crate::proofs::Bringing::absorbing))]
 fn absorb(table: &mut [u8], j: usize, i: usize)
     requires { Absorbs table.old j i }
-    ensures { table.new ≡ brought_at table.old i (At j) }
+    ensures { table.new ≡ brought_at table.old i (Some j) }
 {
     let mut other = [0u8; Slot::LEN];
     other.copy_from_slice(table::slot_at(table, i));
@@ -37,8 +35,8 @@ fn settle(table: &mut [u8], tags: &[u32; Slot::MOST], i: usize, form: &[u8])
     ensures { table.new ≡ brought_at table.old i (lowest (has_address form.now) table.old 0 i) }
 {
     match lookup::lowest_with(table, tags, form, tags::tag_of(form), i) {
-        Found::At(j) => absorb(table, j, i),
-        Found::Nothing => table::set_address(table, i, form),
+        Some(j) => absorb(table, j, i),
+        None => table::set_address(table, i, form),
     }
 }
 
@@ -50,8 +48,8 @@ fn bring_used(table: &mut [u8], tags: &[u32; Slot::MOST], i: usize)
 {
     let mut form = [0u8; Slot::ADDRESS_ROOM];
     match address::canonical(table::address(table, i), &mut form) {
-        address::Fitted::Length(n) => settle(table, tags, i, &form[..n]),
-        address::Fitted::NoRoom => {}
+        Some(n) => settle(table, tags, i, &form[..n]),
+        None => {}
     }
 }
 

@@ -10,20 +10,18 @@ use native.Mathlib.Omega.{arith}
 use borrow.Author.Rules.{rules}
 use Rattle.date.specs.Date.{effective_date}
 use Rattle.date.specs.Answers.{dated_of, option_of}
-use Rattle.date.specs.declared.Dated.{Dated}
-use Rattle.date.specs.declared.Dated.TheVariants.{Available, Unavailable}
 
 pub option_dated : (o : Option ℕ) → option_of (dated_of o) ≡ o
 unfolding option_of dated_of
 option_dated None = refl
 option_dated (Some n) = refl
 
-module _ (date : Dated) (receipt : ℕ) where
-  pub effective_none : date ≡ Unavailable → receipt ≡ effective_date (option_of date) receipt
+module _ (date : Option ℕ) (receipt : ℕ) where
+  pub effective_none : date ≡ None → receipt ≡ effective_date (option_of date) receipt
   unfolding effective_date option_of
   effective_none q = rw q
 
-  pub effective_some : (n : ℕ) → date ≡ Available n → min n receipt ≡ effective_date (option_of date) receipt
+  pub effective_some : (n : ℕ) → date ≡ Some n → min n receipt ≡ effective_date (option_of date) receipt
   unfolding effective_date option_of
   effective_some n q = rw q
 

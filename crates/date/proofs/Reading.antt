@@ -18,8 +18,6 @@ use Rattle.date.specs.Answers.{read_in}
 use Rattle.datewords.specs.declared.token.WordAt.{WordAt}
 use Rattle.datewords.specs.declared.token.WordAt.TheVariants.{Between, End, Unreadable}
 use Rattle.datewords.specs.declared.meaning.Place.{Place}
-use Rattle.datewords.specs.declared.meaning.Meaning.{Meaning}
-use Rattle.datewords.specs.declared.meaning.Meaning.TheVariants.{Value, Nothing}
 use Rattle.date.specs.declared.PartRead.{PartRead}
 use Rattle.datewords.proofs.Digits.{value_is, nothing_is}
 
@@ -46,12 +44,12 @@ module _ (s u : List ℕ) (g : WordAt) (e : token_in s g ≡ first_token u) wher
     unfolding next read_in
     next_unreadable q = rw (next, first_unreadable q)
 
-    module _ (from to : ℕ) (q : g ≡ Between from to) (m : Meaning) (h : m ≡ meaning (meant what (take (to - from) (drop from s)))) where
-      pub next_got : (n : ℕ) → m ≡ Value n → read_in s (Some (record { value = n; to = to })) ≡ next what u
+    module _ (from to : ℕ) (q : g ≡ Between from to) (m : Option ℕ) (h : m ≡ meaning (meant what (take (to - from) (drop from s)))) where
+      pub next_got : (n : ℕ) → m ≡ Some n → read_in s (Some (record { value = n; to = to })) ≡ next what u
       unfolding next read_in read_of
       next_got n p = rw (next, first_between from to q, value_is (meant what (take (to - from) (drop from s))) m n h p)
 
-      pub next_missing : m ≡ Nothing → read_in s None ≡ next what u
+      pub next_missing : m ≡ None → read_in s None ≡ next what u
       unfolding next read_in read_of
       next_missing p = rw (next, first_between from to q, nothing_is (meant what (take (to - from) (drop from s))) m h p)
 

@@ -4,17 +4,15 @@
 use Rattle.std.specs.Prelude.{ℕ, List, drop}
 use Rattle.std.specs.Prelude.{Option, Some, None}
 use Rattle.date.specs.Date.{Read, got, missing}
-use Rattle.date.specs.declared.Dated.{Dated}
-use Rattle.date.specs.declared.Dated.TheVariants.{Available, Unavailable}
 use Rattle.date.specs.declared.PartRead.{PartRead}
 
-unfoldable pub dated_of : Option ℕ → Dated
-dated_of None = Unavailable
-dated_of (Some n) = Available n
+unfoldable pub dated_of : Option ℕ → Option ℕ
+dated_of None = None
+dated_of (Some n) = Some n
 
-unfoldable pub option_of : Dated → Option ℕ
-option_of (Available n) = Some n
-option_of Unavailable = None
+unfoldable pub option_of : Option ℕ → Option ℕ
+option_of (Some n) = Some n
+option_of None = None
 
 unfoldable pub read_in : List ℕ → Option PartRead → Read
 read_in s (Some p) = got p.value (drop p.to s)

@@ -7,7 +7,7 @@ ghost use Rattle.date.specs.Date.{next as next_of, optional as optional_of, exis
 ghost use Rattle.datewords.specs.Answers.{meaning as meaning_of};
 ghost use Rattle.date.specs.Answers.{dated_of, option_of, read_in};
 
-use datewords::meaning::{Meaning, Place};
+use datewords::meaning::Place;
 use datewords::token::WordAt;
 use datewords::{meaning, token};
 
@@ -21,12 +21,6 @@ struct PartRead {
     to: usize,
 }
 
-// The Date, in seconds since 1970.
-#[derive(Clone, Copy)]
-pub enum Dated {
-    Available(u64),
-    Unavailable,
-}
 
 // The token that is to stand at a place of a date, from the place `at` of the text on.
 #[tactic(auto, using(crate::proofs::Reading::nexts))]
@@ -35,8 +29,8 @@ fn next(s: &[u8], at: usize, what: Place) -> Option<PartRead>
 {
     match token::token(s, at) {
         WordAt::Between { from, to } => match meaning::meant(what, &s[from..to]) {
-            Meaning::Value(value) => Some(PartRead { value, to }),
-            Meaning::Nothing => None,
+            Some(value) => Some(PartRead { value, to }),
+            None => None,
         },
         WordAt::End | WordAt::Unreadable => None,
     }
@@ -55,18 +49,18 @@ fn optional(s: &[u8], at: usize, opening: Place, closing: Place) -> Option<PartR
 
 // The days from 1900 to the day, which must exist in its month (D8).
 #[tactic(auto, using(crate::proofs::Parts::existence))]
-fn existing(year: u64, month: u64, day: u64) -> Meaning
+fn existing(year: u64, month: u64, day: u64) -> Option<u64>
     requires le_year { (1900 ≤ year) × (year ≤ 9999) }
     requires le_month { (1 ≤ month) × (month ≤ 12) }
     ensures { result ≡ meaning_of (existing_of year month day) }
 {
     if day < 1 {
-        return Meaning::Nothing;
+        return None;
     }
     if calendar::month_length(year, month) < day {
-        return Meaning::Nothing;
+        return None;
     }
-    Meaning::Value(calendar::day_count(year, month, day))
+    Some(calendar::day_count(year, month, day))
 }
 
 // Day, month and year (D3): the days since 1900.
@@ -78,8 +72,8 @@ fn calendar_day(s: &[u8], at: usize) -> Option<PartRead>
     let month = next(s, day.to, Place::Month)?;
     let year = next(s, month.to, Place::Year)?;
     match existing(year.value, month.value, day.value) {
-        Meaning::Value(value) => Some(PartRead { value, ..year }),
-        Meaning::Nothing => None,
+        Some(value) => Some(PartRead { value, ..year }),
+        None => None,
     }
 }
 
@@ -134,39 +128,39 @@ fn zoned(s: &[u8], at: usize, local: u64) -> Option<PartRead>
 
 // Nothing may stand behind the zone (D3). What lies before 1970 counts as 0 (D13).
 #[tactic(auto, using(crate::proofs::Parts::endings))]
-fn ended(s: &[u8], at: usize, value: u64) -> Dated
+fn ended(s: &[u8], at: usize, value: u64) -> Option<u64>
     ensures { result ≡ dated_of (ended_of (got value (drop at s.now))) }
 {
     match token::token(s, at) {
-        WordAt::End => Dated::Available(value.saturating_sub(EPOCH)),
-        WordAt::Between { .. } | WordAt::Unreadable => Dated::Unavailable,
+        WordAt::End => Some(value.saturating_sub(EPOCH)),
+        WordAt::Between { .. } | WordAt::Unreadable => None,
     }
 }
 
 // The Date that the value of a Date field stands for.
 #[tactic(auto, using(crate::proofs::Parts::dating), unfolding(crate::specs::Date::date_of))]
-pub fn date(value: &[u8]) -> Dated
+pub fn date(value: &[u8]) -> Option<u64>
     ensures { result ≡ dated_of (date_of value.now) }
 {
     let Some(day_name) = optional(value, 0, Place::DayName, Place::Comma) else {
-        return Dated::Unavailable;
+        return None;
     };
     let Some(local) = local_time(value, day_name.to) else {
-        return Dated::Unavailable;
+        return None;
     };
     let Some(instant) = zoned(value, local.to, local.value) else {
-        return Dated::Unavailable;
+        return None;
     };
     ended(value, instant.to, instant.value)
 }
 
 // The receipt time, or a Date that is smaller (D2).
 #[tactic(auto, using(crate::proofs::Effective::effects))]
-pub fn effective_date(date: Dated, receipt: u64) -> u64
+pub fn effective_date(date: Option<u64>, receipt: u64) -> u64
     ensures { result ≡ effective_date (option_of date) receipt }
 {
     match date {
-        Dated::Available(n) => n.min(receipt),
-        Dated::Unavailable => receipt,
+        Some(n) => n.min(receipt),
+        None => receipt,
     }
 }

@@ -6,7 +6,7 @@ use Prim.Native.Nat.{ℕ, suc, ◌+◌, ◌-◌, ◌≤◌, ◌<◌}
 use mathlib.Core.Path.{◌≡◌, sym, ◌∙◌}
 use mathlib.Core.Logic.{⊎_elim}
 use mathlib.Core.List.{List}
-use Rattle.std.specs.Prelude.{Some}
+use Rattle.std.specs.Prelude.{Some, Option, None}
 use native.Mathlib.Numerals.{add-one}
 use native.Mathlib.Omega.{arith}
 use borrow.Author.Rules.{rules}
@@ -18,8 +18,6 @@ use Rattle.runs.specs.declared.Class.TheVariants.{Digit, Letter}
 use Rattle.runs.proofs.Running.{run_short}
 use Rattle.tokens.specs.Tokens.{skipped}
 use Rattle.tokens.specs.Answers.{reached}
-use Rattle.tokens.specs.declared.Reached.{Reached}
-use Rattle.tokens.specs.declared.Reached.TheVariants.{To, Unreadable as Stuck}
 use Rattle.tokens.proofs.Skipping.{skip_left, skip_unreadable}
 use Rattle.datewords.specs.Words.{opening_of, further, token_at, first_token}
 use Rattle.datewords.specs.Answers.{token_in}
@@ -36,8 +34,8 @@ further_short Plus s = run_short (belongs Digit) s
 further_short Minus s = run_short (belongs Digit) s
 further_short Mark s = omega arith
 
-module _ (s : List ℕ) (at : ℕ) (r : Reached) (e : r ≡ reached s (skipped (drop at s))) where
-  skip_any : (n : ℕ) → r ≡ To n → skipped (drop at s) ≡ Some (drop n s)
+module _ (s : List ℕ) (at : ℕ) (r : Option ℕ) (e : r ≡ reached s (skipped (drop at s))) where
+  skip_any : (n : ℕ) → r ≡ Some n → skipped (drop at s) ≡ Some (drop n s)
   skip_any n q = ⊎_elim within beyond (lt_or_le at (length s))
     where
       within : at < length s → skipped (drop at s) ≡ Some (drop n s)
@@ -49,11 +47,11 @@ module _ (s : List ℕ) (at : ℕ) (r : Reached) (e : r ≡ reached s (skipped (
       beyond : length s ≤ at → skipped (drop at s) ≡ Some (drop n s)
       beyond l = rw (same l) (skip_left s (length s) r (rw (same l) at e) n q (omega arith))
 
-  pub found_unreadable : r ≡ Stuck → token_in s Unreadable ≡ first_token (drop at s)
+  pub found_unreadable : r ≡ None → token_in s Unreadable ≡ first_token (drop at s)
   unfolding token_in first_token
   found_unreadable q = rw (first_token, skip_unreadable s at r e q)
 
-  module _ (from : ℕ) (q : r ≡ To from) where
+  module _ (from : ℕ) (q : r ≡ Some from) where
     pub found_end : length s ≤ from → token_in s End ≡ first_token (drop at s)
     unfolding token_in first_token token_at
     found_end l = rw (first_token, skip_any from q, drop_done s from l)

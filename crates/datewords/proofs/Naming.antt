@@ -20,7 +20,6 @@ use lib.ListN.{length}
 use Rattle.octets.specs.Octets.{same_name}
 use Rattle.datewords.specs.Words.{place_from, place_in, here_or}
 use Rattle.datewords.specs.Answers.{meaning}
-use Rattle.datewords.specs.declared.meaning.Meaning.TheVariants.{Value, Nothing}
 
 -- the names, each as a list of its own
 abbrev pub cut : List ℕ → List (List ℕ)
@@ -67,11 +66,11 @@ module _ (t : List ℕ) where
       go false e ih = rw (first_later (same_name t) _ (cut names) e, e) (ih ∙ later k _)
 
 module _ (t names : List ℕ) (r : Option ℕ) (e : r ≡ position (same_name t) (cut names)) where
-  pub which_is : (k : ℕ) → r ≡ Some k → Value k ≡ meaning (place_in t names)
+  pub which_is : (k : ℕ) → r ≡ Some k → Some k ≡ meaning (place_in t names)
   unfolding meaning
   which_is k q = rw (place_counts t 0 names, ← e, q, zero-add) refl
 
-  pub which_none : r ≡ None → Nothing ≡ meaning (place_in t names)
+  pub which_none : r ≡ None → None ≡ meaning (place_in t names)
   unfolding meaning
   which_none q = rw (place_counts t 0 names, ← e, q)
 

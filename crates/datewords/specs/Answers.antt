@@ -5,14 +5,12 @@
 use Rattle.std.specs.Prelude.{ℕ, ◌-◌, ◌≤◌, List, length, take, drop}
 use Rattle.std.specs.Prelude.{Option, Some, None}
 use Rattle.datewords.specs.Words.{Token, token, end, unreadable}
-use Rattle.datewords.specs.declared.meaning.Meaning.{Meaning}
-use Rattle.datewords.specs.declared.meaning.Meaning.TheVariants.{Value, Nothing}
 use Rattle.datewords.specs.declared.token.WordAt.{WordAt}
 use Rattle.datewords.specs.declared.token.WordAt.TheVariants.{Between, End, Unreadable}
 
-unfoldable pub meaning : Option ℕ → Meaning
-meaning None = Nothing
-meaning (Some n) = Value n
+unfoldable pub meaning : Option ℕ → Option ℕ
+meaning None = None
+meaning (Some n) = Some n
 
 unfoldable pub token_in : List ℕ → WordAt → Token
 token_in s (Between from to) = token (take (to - from) (drop from s)) (drop to s)

@@ -25,149 +25,143 @@ pub enum Place {
     West,
 }
 
-// A number; or the token may not stand there.
-#[derive(Clone, Copy)]
-pub enum Meaning {
-    Value(u64),
-    Nothing,
-}
 
 // The number that one digit stands for.
 #[tactic(auto, using(crate::proofs::Digits::one_digit))]
-fn digit(x: u8) -> Meaning
+fn digit(x: u8) -> Option<u64>
     ensures { result ≡ meaning_of (digit_of x) }
 {
     if runs::within(Class::Digit, x) {
-        return Meaning::Value(u64::from(x - b'0'));
+        return Some(u64::from(x - b'0'));
     }
-    Meaning::Nothing
+    None
 }
 
 // The number that a run of digits stands for. No place of a date takes more than four (D8 to D11).
 #[tactic(auto, using(crate::proofs::Digits::valuing))]
-fn number(run: &[u8]) -> Meaning
+fn number(run: &[u8]) -> Option<u64>
     ensures { result ≡ meaning_of (number_of run.now) }
 {
     if 4 < run.len() {
-        return Meaning::Nothing;
+        return None;
     }
     let mut n: u64 = 0;
     for &x in run {
         match digit(x) {
-            Meaning::Value(d) => n = 10 * n + d,
-            Meaning::Nothing => return Meaning::Nothing,
+            Some(d) => n = 10 * n + d,
+            None => return None,
         }
     }
-    Meaning::Value(n)
+    Some(n)
 }
 
 // Which of the names it is, each of three letters and in any case, the first one being 0.
-fn which(run: &[u8], names: &[u8]) -> Meaning
+fn which(run: &[u8], names: &[u8]) -> Option<u64>
     ensures { result ≡ meaning_of (place_in run.now names.now) }
 {
     let (names, _) = names.as_chunks::<3>();
     match names.iter().position(|name| octets::same_name(run, name)) {
-        Some(k) => Meaning::Value(k as u64),
-        None => Meaning::Nothing,
+        Some(k) => Some(k as u64),
+        None => None,
     }
 }
 
 // A comma or a colon, which stands for nothing.
 #[tactic(auto, using(crate::proofs::Meant::marks))]
-fn mark(run: &[u8], text: &[u8]) -> Meaning
+fn mark(run: &[u8], text: &[u8]) -> Option<u64>
     ensures { result ≡ meaning_of (mark_of run.now text.now) }
 {
     if octets::same(run, text) {
-        return Meaning::Value(0);
+        return Some(0);
     }
-    Meaning::Nothing
+    None
 }
 
 // The day, of one digit or two (D8).
 #[tactic(auto, using(crate::proofs::Meant::days))]
-fn day(run: &[u8]) -> Meaning
+fn day(run: &[u8]) -> Option<u64>
     ensures { result ≡ meaning_of (day_of run.now) }
 {
     if 2 < run.len() {
-        return Meaning::Nothing;
+        return None;
     }
     number(run)
 }
 
 // The month, January being 1 (D8).
 #[tactic(auto, using(crate::proofs::Meant::months))]
-fn month(run: &[u8]) -> Meaning
+fn month(run: &[u8]) -> Option<u64>
     ensures { result ≡ meaning_of (month_of run.now) }
 {
     match which(run, b"JanFebMarAprMayJunJulAugSepOctNovDec") {
-        Meaning::Value(k) => Meaning::Value(k + 1),
-        Meaning::Nothing => Meaning::Nothing,
+        Some(k) => Some(k + 1),
+        None => None,
     }
 }
 
 // The year that so many digits stand for (D9).
 #[tactic(auto, using(crate::proofs::Meant::years))]
-fn year_by(width: usize, n: u64) -> Meaning
+fn year_by(width: usize, n: u64) -> Option<u64>
     requires { n ≤ 9999 }
     ensures { result ≡ meaning_of (year_by width n) }
 {
     match width {
-        2 if n <= 49 => Meaning::Value(n + 2000),
-        2 | 3 => Meaning::Value(n + 1900),
-        4 if 1900 <= n => Meaning::Value(n),
-        _ => Meaning::Nothing,
+        2 if n <= 49 => Some(n + 2000),
+        2 | 3 => Some(n + 1900),
+        4 if 1900 <= n => Some(n),
+        _ => None,
     }
 }
 
 // The year, of two, three or four digits (D9).
 #[tactic(auto, using(crate::proofs::Meant::years))]
-fn year(run: &[u8]) -> Meaning
+fn year(run: &[u8]) -> Option<u64>
     ensures { result ≡ meaning_of (year_of run.now) }
 {
     match number(run) {
-        Meaning::Value(n) => year_by(run.len(), n),
-        Meaning::Nothing => Meaning::Nothing,
+        Some(n) => year_by(run.len(), n),
+        None => None,
     }
 }
 
 // Two digits that stand for `most` at most (D10).
 #[tactic(auto, using(crate::proofs::Meant::twos))]
-fn two_digits(run: &[u8], most: u64) -> Meaning
+fn two_digits(run: &[u8], most: u64) -> Option<u64>
     ensures { result ≡ meaning_of (two_digits most run.now) }
 {
     if run.len() != 2 {
-        return Meaning::Nothing;
+        return None;
     }
     match number(run) {
-        Meaning::Value(n) if n <= most => Meaning::Value(n),
-        Meaning::Value(_) | Meaning::Nothing => Meaning::Nothing,
+        Some(n) if n <= most => Some(n),
+        Some(_) | None => None,
     }
 }
 
 // The seconds that the four digits of a zone stand for (D11).
 #[tactic(auto, using(crate::proofs::Meant::offsets))]
-fn offset_by(n: u64) -> Meaning
+fn offset_by(n: u64) -> Option<u64>
     requires { n ≤ 9999 }
     ensures { result ≡ meaning_of (offset_by n) }
 {
     let minutes = n % 100;
     if 59 < minutes {
-        return Meaning::Nothing;
+        return None;
     }
-    Meaning::Value(3600 * (n / 100) + 60 * minutes)
+    Some(3600 * (n / 100) + 60 * minutes)
 }
 
 // The digits behind the sign of a zone: exactly four (D11).
 #[tactic(auto, using(crate::proofs::Meant::offsets))]
-fn offset(run: &[u8]) -> Meaning
+fn offset(run: &[u8]) -> Option<u64>
     ensures { result ≡ meaning_of (offset_of run.now) }
 {
     if run.len() != 4 {
-        return Meaning::Nothing;
+        return None;
     }
     match number(run) {
-        Meaning::Value(n) => offset_by(n),
-        Meaning::Nothing => Meaning::Nothing,
+        Some(n) => offset_by(n),
+        None => None,
     }
 }
 
@@ -177,43 +171,43 @@ fn hours_west(run: &[u8]) -> u64
     ensures { (result ≡ hours_west run.now) × (result ≤ 8) }
 {
     match which(run, b"ESTEDTCSTCDTMSTMDTPSTPDT") {
-        Meaning::Value(k) => ZONE_HOURS[k as usize],
-        Meaning::Nothing => 0,
+        Some(k) => ZONE_HOURS[k as usize],
+        None => 0,
     }
 }
 
 // The seconds that a zone lies east.
 #[tactic(auto, using(crate::proofs::Meant::zones), unfolding(crate::specs::Words::east_by, crate::specs::Answers::meaning))]
-fn east(run: &[u8]) -> Meaning
+fn east(run: &[u8]) -> Option<u64>
     ensures { result ≡ meaning_of (east_by (opens_with run.now) run.now) }
 {
     if run.is_empty() {
-        return Meaning::Nothing;
+        return None;
     }
     match token::opened_by(run[0]) {
         Opening::Plus => offset(&run[1..]),
-        Opening::Number | Opening::Word | Opening::Minus | Opening::Mark => Meaning::Nothing,
+        Opening::Number | Opening::Word | Opening::Minus | Opening::Mark => None,
     }
 }
 
 // The seconds that a zone lies west.
 #[tactic(auto, using(crate::proofs::Meant::zones), unfolding(crate::specs::Words::west_by, crate::specs::Answers::meaning))]
-fn west(run: &[u8]) -> Meaning
+fn west(run: &[u8]) -> Option<u64>
     ensures { result ≡ meaning_of (west_by (opens_with run.now) run.now) }
 {
     if run.is_empty() {
-        return Meaning::Nothing;
+        return None;
     }
     match token::opened_by(run[0]) {
         Opening::Minus => offset(&run[1..]),
-        Opening::Word => Meaning::Value(3600 * hours_west(run)),
-        Opening::Number | Opening::Plus | Opening::Mark => Meaning::Nothing,
+        Opening::Word => Some(3600 * hours_west(run)),
+        Opening::Number | Opening::Plus | Opening::Mark => None,
     }
 }
 
 // What the token means at a place of a date.
 #[tactic(auto, using(crate::proofs::Meant::meanings), unfolding(crate::specs::Words::meant))]
-pub fn meant(at: Place, run: &[u8]) -> Meaning
+pub fn meant(at: Place, run: &[u8]) -> Option<u64>
     ensures { result ≡ meaning_of (meant_of at run.now) }
 {
     match at {

@@ -5,7 +5,6 @@ ghost use Rattle.datewords.specs.Words.{opening_of, further, first_token};
 ghost use Rattle.datewords.specs.Answers.{token_in, Inside};
 
 use runs::Class;
-use tokens::Reached;
 
 // What a token is shows in its first octet.
 #[derive(Clone, Copy)]
@@ -65,8 +64,8 @@ pub fn token(s: &[u8], at: usize) -> WordAt
     ensures inside { Inside s.now result }
 {
     match tokens::skip(s, at) {
-        Reached::Unreadable => WordAt::Unreadable,
-        Reached::To(from) => {
+        None => WordAt::Unreadable,
+        Some(from) => {
             if s.len() <= from {
                 return WordAt::End;
             }

@@ -25,8 +25,6 @@ use Rattle.octets.proofs.Tests.{by_test}
 use Rattle.punycode.specs.Punycode.{front, consumed, all_basic, run, runs, decode}
 use Rattle.decoder.specs.Steps.{Front, behind_of, run_from, Fine, Steps, Going, Gone, Stepped, Shown, NoText, Decodes}
 use Rattle.decoder.specs.declared.Decoder.{Decoder}
-use Rattle.decoder.specs.declared.Decoded.{Decoded}
-use Rattle.decoder.specs.declared.Decoded.TheVariants.{Points, Nothing}
 
 -- `read_rest`
 pub record Rest (text : List ℕ) (b : ℕ) (d out : List ℕ) (s : Decoder) (at : ℕ) : Type 0 where
@@ -161,8 +159,8 @@ module _ (text d : List ℕ) (p : (length text ≤ length d) × (length d < 2 ^ 
           let u : consumed (front text) ≡ n = consumed_behind (front text) ∙ rw (f.same, b_long, ← m) in
           sym (decode_yes text (rw f.same (basic_yes _ h)) ∙ rw (u, f.same, shown))
 
-      pub decode_end : IsAscii (take b text) → (x : Decoded) (g : List ℕ) → Decodes e g (runs (drop n text) (take b e)) x → Decodes d g (decode text) x
-      decode_end a (Points k) g h = record { same = h.same ∙ kept; text = sym (same_run a) ∙ h.text; upto = h.upto }
-      decode_end a Nothing g h = record { same = h.same ∙ kept; text = sym (same_run a) ∙ h.text }
+      pub decode_end : IsAscii (take b text) → (x : Option ℕ) (g : List ℕ) → Decodes e g (runs (drop n text) (take b e)) x → Decodes d g (decode text) x
+      decode_end a (Some k) g h = record { same = h.same ∙ kept; text = sym (same_run a) ∙ h.text; upto = h.upto }
+      decode_end a None g h = record { same = h.same ∙ kept; text = sym (same_run a) ∙ h.text }
 
 pub ruleset decoding = (decode_copies, decode_small, decode_foreign, decode_within, decode_reads, decode_end, rules)

@@ -9,8 +9,6 @@ use Rattle.std.specs.Prelude.{ℕ, ◌+◌, ◌*◌, ◌^◌, ◌<◌, ◌≤◌
 use Rattle.std.specs.Prelude.{Option, Some, None}
 use Rattle.punycode.specs.Punycode.{front, landed, run}
 use Rattle.decoder.specs.declared.Decoder.{Decoder}
-use Rattle.decoder.specs.declared.Decoded.{Decoded}
-use Rattle.decoder.specs.declared.Decoded.TheVariants.{Points, Nothing}
 
 pub record Front (s : List ℕ) (r : ℕ) : Type 0 where
   pub same : front s ≡ take r s
@@ -91,6 +89,6 @@ pub record NoText (d e : List ℕ) (o : Option (List ℕ)) : Type 0 where
   pub same : length e ≡ length d
   pub text : o ≡ None
 
-abbrev pub Decodes : List ℕ → List ℕ → Option (List ℕ) → Decoded → Type 0
-Decodes d e o (Points m) = Shown d e o m
-Decodes d e o Nothing = NoText d e o
+abbrev pub Decodes : List ℕ → List ℕ → Option (List ℕ) → Option ℕ → Type 0
+Decodes d e o (Some m) = Shown d e o m
+Decodes d e o None = NoText d e o

@@ -8,14 +8,7 @@ ghost use Rattle.utf8.specs.Utf8.{scalar};
 ghost use Rattle.punycode.specs.Punycode.{runs, decode as decode_of};
 ghost use Rattle.decoder.specs.Steps.{Front, behind_of, Lands, Landed, Steps, Stepped, Decodes};
 
-use punycode::Value;
 
-// What a text stands for: so many code points, or nothing.
-#[derive(Clone, Copy)]
-pub enum Decoded {
-    Points(usize),
-    Nothing,
-}
 
 // How far the decoder is: the last code point that was put in, and the place behind it; the bias; what the number comes to
 // so far, what its next digit counts, and which digit that is; and how many code points there are.
@@ -104,7 +97,7 @@ fn read_one(out: &mut [u32], c: u8, s: Decoder) -> Option<Decoder>
     requires { Steps (length out.old) s }
     ensures { Stepped out.old out.new c s result }
 {
-    let Value::Digit(d) = punycode::value_of(c) else {
+    let Some(d) = punycode::value_of(c) else {
         return None;
     };
     let sum = s.i + d * s.w;
@@ -125,7 +118,7 @@ fn read_one(out: &mut [u32], c: u8, s: Decoder) -> Option<Decoder>
 
 // All numbers, behind b code points.
 #[tactic(auto, using(crate::proofs::Resting::resting))]
-fn read_rest(text: &[u8], out: &mut [u32], b: usize) -> Decoded
+fn read_rest(text: &[u8], out: &mut [u32], b: usize) -> Option<usize>
     requires { (b + length text.now ≤ length out.old) × (length out.old < 2 ^ 32) }
     ensures { Decodes out.old out.new (runs text.now (take b out.old)) result }
 {
@@ -141,26 +134,26 @@ fn read_rest(text: &[u8], out: &mut [u32], b: usize) -> Decoded
     for &c in text {
         match read_one(&mut *out, c, s) {
             Some(t) => s = t,
-            None => return Decoded::Nothing,
+            None => return None,
         }
     }
     if s.k == 36 {
-        Decoded::Points(s.len)
+        Some(s.len)
     } else {
-        Decoded::Nothing
+        None
     }
 }
 
 // The code points that a text stands for, at the beginning of `out` (L23). There are never more of them than octets.
 #[tactic(auto, using(crate::proofs::Resting::decoding))]
-pub fn decode(text: &[u8], out: &mut [u32]) -> Decoded
+pub fn decode(text: &[u8], out: &mut [u32]) -> Option<usize>
     requires { (length text.now ≤ length out.old) × (length out.old < 2 ^ 32) }
     ensures { Decodes out.old out.new (decode_of text.now) result }
 {
     let b = front(text);
     let basic = &text[..b];
     if !basic.is_ascii() {
-        return Decoded::Nothing;
+        return None;
     }
     copy(basic, &mut *out);
     read_rest(&text[behind(b)..], out, b)

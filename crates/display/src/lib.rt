@@ -4,7 +4,6 @@
 ghost use Rattle.std.specs.Prelude.{◌≡◌, length};
 ghost use Rattle.display.specs.Displaying.{displayed_of, left_by_displaying};
 
-use address::Fitted;
 use refusals::Refusal;
 use write::Written;
 
@@ -22,7 +21,7 @@ pub fn display(address: &[u8], out: &mut [u8]) -> Written
         return Written::Refused(Refusal::OwnAddress);
     }
     match showing::show(address, out) {
-        Fitted::Length(n) => Written::Done(n),
-        Fitted::NoRoom => Written::Refused(Refusal::OutputLength),
+        Some(n) => Written::Done(n),
+        None => Written::Refused(Refusal::OutputLength),
     }
 }

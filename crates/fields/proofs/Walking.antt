@@ -4,6 +4,7 @@
 --     walk_begin .. walk_next      the walk's steps
 --     survey_readable, surveyed_as what a caller asks of the answer
 -- Assumes nothing.
+use Rattle.std.specs.Prelude.{Option, Some, None}
 use Prim.Native.Nat.{ℕ, ◌-◌, ◌<◌, ◌≤◌}
 use mathlib.Core.Path.{◌≡◌, refl, sym, ap, ◌∙◌}
 use mathlib.Core.Bool.{Bool, true, false}
@@ -26,8 +27,6 @@ use Rattle.fields.specs.declared.Kind.{Kind}
 use Rattle.fields.specs.declared.Kind.TheVariants.{From, ContentType, Date, Autocrypt, Recipients}
 use Rattle.fields.specs.declared.Span.{Span}
 use Rattle.fields.specs.declared.Survey.{Survey}
-use Rattle.fields.specs.declared.Surveyed.{Surveyed}
-use Rattle.fields.specs.declared.Surveyed.TheVariants.{Readable, Unreadable}
 use Rattle.fields.proofs.Values.{values_out, values_all}
 
 pub record Passed (kind : Kind) (s : List ℕ) (v : Span) (at : ℕ) : Type 0 where
@@ -85,7 +84,7 @@ pub record Walked (s : List ℕ) (v : Survey) (at : ℕ) : Type 0 where
   pub autocrypt : Passed Autocrypt s v.autocrypt at
   pub recipients : Passed Recipients s v.recipients at
 
-pub walk_long : (s : List ℕ) → limit < length s → SurveyedAs s Unreadable
+pub walk_long : (s : List ℕ) → limit < length s → SurveyedAs s None
 unfolding SurveyedAs
 walk_long s h = sym (read_long s h)
 
@@ -104,7 +103,7 @@ walk_begin s v e h =
     })
 
 module _ (s : List ℕ) (v : Survey) (at : ℕ) (r : Step) (h : Walked s v at) (t : r ≡ step_at s at) where
-  pub walk_over : r ≡ Over → SurveyedAs s (Readable v)
+  pub walk_over : r ≡ Over → SurveyedAs s (Some v)
   unfolding SurveyedAs values_from values_of or_else
   walk_over q =
       record {
@@ -125,7 +124,7 @@ module _ (s : List ℕ) (v : Survey) (at : ℕ) (r : Step) (h : Walked s v at) (
       rest : (kind : Kind) → values_from kind s at ≡ []
       rest kind = rw (from_over s at r t q)
 
-  pub walk_broken : r ≡ Broken → SurveyedAs s Unreadable
+  pub walk_broken : r ≡ Broken → SurveyedAs s None
   unfolding SurveyedAs
   walk_broken q = sym (read_broken s at r h.legible t q)
 
@@ -151,6 +150,6 @@ pub ruleset walking = (walk_long, walk_begin, walk_over, walk_broken, walk_next,
 pub survey_readable : (s : List ℕ) (v : Survey) → SurveyAs s v → readable s ≡ true
 survey_readable s v h = h.readably
 
-pub surveyed_as : (s : List ℕ) (k : Surveyed) → SurveyedAs s k → (v : Survey) → k ≡ Readable v → SurveyAs s v
+pub surveyed_as : (s : List ℕ) (k : Option Survey) → SurveyedAs s k → (v : Survey) → k ≡ Some v → SurveyAs s v
 unfolding SurveyedAs
 surveyed_as s k h v q = rw q at h

@@ -1,7 +1,7 @@
 -- One walk over a block: whether it is readable (SCOPE, B1 and B8), and where the fields stand that are asked for (B12).
 --     span_past, survey_new, survey_past    what the walk keeps, field by field
 --     SpanAs, SurveyAs, SurveyedAs          what holds of it at the end
-use Rattle.std.specs.Prelude.{ℕ, ◌≡◌, Bool, true, false, List, [], eqb}
+use Rattle.std.specs.Prelude.{ℕ, ◌≡◌, Bool, true, false, List, [], eqb, Option, Some, None}
 use Rattle.octets.specs.Options.{is_some}
 use Rattle.header.specs.Header.{readable}
 use Rattle.header.specs.Answers.{fields_from}
@@ -11,8 +11,6 @@ use Rattle.fields.specs.declared.Kind.{Kind}
 use Rattle.fields.specs.declared.Kind.TheVariants.{From, ContentType, Date, Autocrypt, Recipients}
 use Rattle.fields.specs.declared.Span.{Span}
 use Rattle.fields.specs.declared.Survey.{Survey}
-use Rattle.fields.specs.declared.Surveyed.{Surveyed}
-use Rattle.fields.specs.declared.Surveyed.TheVariants.{Readable, Unreadable}
 
 -- A span with a field that begins at `at` and ends at `end`: only one of the kind changes it, the first both ends. No field ends at 0.
 unfoldable pub span_past : Bool → ℕ → ℕ → Span → Span
@@ -53,6 +51,6 @@ pub record SurveyAs (s : List ℕ) (v : Survey) : Type 0 where
   pub autocrypt : SpanAs Autocrypt s v.autocrypt
   pub recipients : SpanAs Recipients s v.recipients
 
-unfoldable pub SurveyedAs : List ℕ → Surveyed → Type 0
-SurveyedAs s (Readable v) = SurveyAs s v
-SurveyedAs s Unreadable = readable s ≡ false
+unfoldable pub SurveyedAs : List ℕ → Option Survey → Type 0
+SurveyedAs s (Some v) = SurveyAs s v
+SurveyedAs s None = readable s ≡ false

@@ -47,12 +47,6 @@ pub struct Survey {
     pub recipients: Span,
 }
 
-// What a block has; or it is unreadable.
-#[derive(Clone, Copy)]
-pub enum Surveyed {
-    Readable(Survey),
-    Unreadable,
-}
 
 // Is a field of this name asked for? Names have no case (B11).
 #[tactic(auto, unfolding(crate::specs::Fields::is_kind))]
@@ -138,18 +132,18 @@ impl Survey {
 
 // Walks over the block: is it readable, and where do the fields stand that are asked for?
 #[tactic(auto, using(crate::proofs::Walking::walking))]
-pub fn walk(block: &[u8]) -> Surveyed
+pub fn walk(block: &[u8]) -> Option<Survey>
     ensures { SurveyedAs block.now result }
 {
     if header::LIMIT < block.len() {
-        return Surveyed::Unreadable;
+        return None;
     }
     let mut seen = Survey::new();
     let mut place = 0;
     loop {
         match header::field_at(block, place) {
-            Step::Over => return Surveyed::Readable(seen),
-            Step::Broken => return Surveyed::Unreadable,
+            Step::Over => return Some(seen),
+            Step::Broken => return None,
             Step::Field { name_end, end, .. } => {
                 seen = seen.past(&block[place..name_end], place, end);
                 place = end;

@@ -5,14 +5,12 @@ use Rattle.std.specs.Prelude.{ℕ, ◌≡◌, cond, List, leb, length}
 use Rattle.std.specs.Prelude.{Option, Some, None}
 use Rattle.octets.specs.Written.{onto}
 use Rattle.letters.specs.Base64.{octets_in}
-use Rattle.keydata.specs.declared.Decoded.{Decoded}
-use Rattle.keydata.specs.declared.Decoded.TheVariants.{Octets, Refused}
 
 -- F9: octets are answered where the text is Base64 and they have room; a caller sets the limit of F10 by the room that it lends
-unfoldable pub decoded_of : Option (List ℕ) → ℕ → Decoded
-decoded_of None room = Refused
-decoded_of (Some w) room = cond (leb (length w) room) (Octets (length w)) Refused
+unfoldable pub decoded_of : Option (List ℕ) → ℕ → Option ℕ
+decoded_of None room = None
+decoded_of (Some w) room = cond (leb (length w) room) (Some (length w)) None
 
-unfoldable pub Decodes : Option (List ℕ) → List ℕ → List ℕ → Decoded → Type 0
-Decodes o d out (Octets n) = out ≡ onto (octets_in o) d
-Decodes o d out Refused = Unit
+unfoldable pub Decodes : Option (List ℕ) → List ℕ → List ℕ → Option ℕ → Type 0
+Decodes o d out (Some n) = out ≡ onto (octets_in o) d
+Decodes o d out None = Unit

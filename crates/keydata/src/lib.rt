@@ -15,12 +15,6 @@ ghost use Rattle.keydata.specs.Steps.{Run, Wrote};
 use groups::Next;
 use runs::Class;
 
-// What decoding answers: how many octets it wrote, or that the text is no Base64 or stands for more than there is room for.
-#[derive(Clone, Copy)]
-pub enum Decoded {
-    Octets(usize),
-    Refused,
-}
 
 // How far a text has been read, and the place behind its octets.
 #[derive(Clone, Copy)]
@@ -103,18 +97,18 @@ fn write(table: &[u8; 256], src: &[u8], out: &mut [u8]) -> Option<usize>
 // Decodes key data, with spaces and tabs anywhere, into the beginning of `out`. The text is read once and written as it is
 // read: after a refusal, what `out` holds means nothing.
 #[tactic(auto, using(crate::proofs::Answering::answering))]
-pub fn decode(src: &[u8], out: &mut [u8]) -> Decoded
+pub fn decode(src: &[u8], out: &mut [u8]) -> Option<usize>
     ensures value { result ≡ decoded_of (octets_of (without_blanks src.now)) (length out.old) }
     ensures decodes { Decodes (octets_of (without_blanks src.now)) out.old out.new result }
 {
     let room = out.len();
     let Some(n) = write(&letters::signs(), src, out) else {
-        return Decoded::Refused;
+        return None;
     };
     if n <= room {
-        Decoded::Octets(n)
+        Some(n)
     } else {
-        Decoded::Refused
+        None
     }
 }
 

@@ -8,18 +8,16 @@ use Rattle.std.specs.Prelude.{Option, Some, None}
 use borrow.Author.Rules.{rules}
 use Rattle.attributes.specs.Steps.{stated}
 use Rattle.attributes.specs.declared.Bounds.{Bounds}
-use Rattle.attributes.specs.declared.Preference.{Preference}
-use Rattle.attributes.specs.declared.Preference.TheVariants.{Unstated, Stated}
 use Rattle.keyfield.specs.Field.{mutual_by}
 use Rattle.keyfield.specs.Answers.{whole_of}
 use Rattle.keyfield.specs.declared.Scanned.{Scanned}
 
-module _ (preference : Preference) where
-  pub mutual_not : preference ≡ Unstated → false ≡ mutual_by (stated preference)
+module _ (preference : Option Bool) where
+  pub mutual_not : preference ≡ None → false ≡ mutual_by (stated preference)
   unfolding stated
   mutual_not u = rw u
 
-  pub mutual_is : (m : Bool) → preference ≡ Stated m → m ≡ mutual_by (stated preference)
+  pub mutual_is : (m : Bool) → preference ≡ Some m → m ≡ mutual_by (stated preference)
   unfolding stated
   mutual_is m u = rw u
 

@@ -20,8 +20,6 @@ use Rattle.letters.specs.Base64.{decode, octets_in}
 use Rattle.keydata.specs.Answers.{decoded_of, Decodes}
 use Rattle.keydata.specs.Steps.{NoneFit}
 use Rattle.keydata.proofs.Answered.{octets_answered, refused_answered, octets_held}
-use Rattle.keydata.specs.declared.Decoded.{Decoded}
-use Rattle.keydata.specs.declared.Decoded.TheVariants.{Octets, Refused}
 use Rattle.keyfield.specs.Field.{limited, key_of}
 use Rattle.keyfield.specs.Answers.{KeyAs}
 use Rattle.keyfield.proofs.Fields.{key_made}
@@ -42,15 +40,15 @@ module _ (text : List ℕ) (limit : ℕ) (d : List ℕ) (l : limit ≤ length d)
   room_is : length room ≡ limit
   room_is = rw sub-zero (length-take-le limit d l)
 
-  module _ (g : Decoded) (e : g ≡ decoded_of (decode (without_blanks text)) (length (take (limit - 0) (drop 0 d)))) where
+  module _ (g : Option ℕ) (e : g ≡ decoded_of (decode (without_blanks text)) (length (take (limit - 0) (drop 0 d)))) where
     told : g ≡ decoded_of (decode (without_blanks text)) limit
     told = e ∙ ap (decoded_of (decode (without_blanks text))) room_is
 
-    pub key_refused : g ≡ Refused → (key : List ℕ) → KeyAs limit text key None
+    pub key_refused : g ≡ None → (key : List ℕ) → KeyAs limit text key None
     unfolding KeyAs key_of
     key_refused k key = limited_none limit _ (refused_answered (decode (without_blanks text)) limit (sym k ∙ told))
 
-    module _ (n : ℕ) (k : g ≡ Octets n) where
+    module _ (n : ℕ) (k : g ≡ Some n) where
       answered : (decode (without_blanks text) ≡ Some (octets text)) × (length (octets text) ≡ n) × (n ≤ limit)
       answered = octets_answered (decode (without_blanks text)) limit n (sym k ∙ told)
 

@@ -6,7 +6,7 @@ use Prim.Native.Nat.{ℕ, ◌+◌, ◌<◌, ◌≤◌}
 use mathlib.Core.Path.{◌≡◌, refl, sym, ap, ◌∙◌}
 use mathlib.Core.Logic.{⊎_elim}
 use mathlib.Core.List.{List, [], ◌∷◌}
-use Rattle.std.specs.Prelude.{Option, Some, None}
+use Rattle.std.specs.Prelude.{Option, Some, None, Bool}
 use native.Mathlib.Omega.{arith}
 use borrow.Author.Rules.{rules}
 use lib.ListN.{length}
@@ -18,8 +18,6 @@ use Rattle.attributes.specs.Step.{step}
 use Rattle.attributes.specs.Answers.{part, Within, FirstAt}
 use Rattle.attributes.specs.Steps.{address_at, Stands, stated, step_at, NextWithin, Steps}
 use Rattle.attributes.specs.declared.Bounds.{Bounds}
-use Rattle.attributes.specs.declared.Preference.{Preference}
-use Rattle.attributes.specs.declared.Preference.TheVariants.{Unstated}
 use Rattle.attributes.specs.declared.NextPiece.{NextPiece}
 use Rattle.attributes.specs.declared.NextPiece.TheVariants.{On, Last, Spoils}
 use Rattle.attributes.proofs.Parts.{part_rest}
@@ -28,29 +26,29 @@ use Rattle.keyfield.specs.Field.{said_from, said_of, said_with, if_last}
 use Rattle.keyfield.specs.Answers.{whole_of, said_at, WholeWithin, Scans}
 use Rattle.keyfield.specs.declared.Scanned.{Scanned}
 
-pub record Scanning (s : List ℕ) (at : ℕ) (address : Option Bounds) (preference : Preference) : Type 0 where
+pub record Scanning (s : List ℕ) (at : ℕ) (address : Option Bounds) (preference : Option Bool) : Type 0 where
   pub upto : at ≤ length s
   pub stands : Stands s address
   pub so_far : said_of s ≡ said_from (address_at s address) (stated preference) (pieces 59 (part s at (length s)))
 
-pub scan_begin : (s : List ℕ) → Scanning s 0 None Unstated
+pub scan_begin : (s : List ℕ) → Scanning s 0 None None
 unfolding said_of address_at stated Stands
 scan_begin s = record { upto = omega arith; stands = tt; so_far = rw (part_rest s 0) }
 
 -- what has been read at the end is there
-whole_said : (s : List ℕ) (address : Option Bounds) (preference : Preference) (v : Bounds)
+whole_said : (s : List ℕ) (address : Option Bounds) (preference : Option Bool) (v : Bounds)
     → said_at s (whole_of address preference v) ≡ said_with (address_at s address) (stated preference) (part s v.from v.to)
 unfolding said_at whole_of said_with address_at
 whole_said s None preference v = refl
 whole_said s (Some at) preference v = refl
 
-whole_there : (s : List ℕ) (address : Option Bounds) (preference : Preference) (v : Bounds)
+whole_there : (s : List ℕ) (address : Option Bounds) (preference : Option Bool) (v : Bounds)
     → Stands s address → Within s v.from v.to → WholeWithin s (whole_of address preference v)
 unfolding WholeWithin whole_of Stands
 whole_there s None preference v h w = tt
 whole_there s (Some at) preference v h w = (h, w)
 
-module _ (s : List ℕ) (at : ℕ) (address : Option Bounds) (preference : Preference) (h : Scanning s at address preference) where
+module _ (s : List ℕ) (at : ℕ) (address : Option Bounds) (preference : Option Bool) (h : Scanning s at address preference) where
   pub scan_left : Within s at (length s)
   scan_left = record { order = h.upto; upto = omega arith }
 
@@ -76,7 +74,7 @@ module _ (s : List ℕ) (at : ℕ) (address : Option Bounds) (preference : Prefe
         more : said_of s ≡ said_from (address_at s address) (stated preference) (part s at end ∷ pieces 59 (part s (end + 1) (length s)))
         more = h.so_far ∙ rw (cut_pieces s at (length s) 59 end scan_left f l)
 
-        pub scan_next : (a : Option Bounds) (p : Preference) → n ≡ On a p → Scanning s (end + 1) a p
+        pub scan_next : (a : Option Bounds) (p : Option Bool) → n ≡ On a p → Scanning s (end + 1) a p
         unfolding said_from step_at NextWithin
         scan_next a p e =
             record { upto = omega arith; stands = rw e at t.within; so_far = more ∙ rw (said_from, comes (On a p) e) }
@@ -91,7 +89,7 @@ module _ (s : List ℕ) (at : ℕ) (address : Option Bounds) (preference : Prefe
         alone : said_of s ≡ said_from (address_at s address) (stated preference) (part s at end ∷ [])
         alone = h.so_far ∙ rw (cut_last s at (length s) 59 end scan_left f l)
 
-        pub scan_keyless : (a : Option Bounds) (p : Preference) → n ≡ On a p → Scans s None
+        pub scan_keyless : (a : Option Bounds) (p : Option Bool) → n ≡ On a p → Scans s None
         unfolding said_from step_at said_at WholeWithin
         scan_keyless a p e =
             record { is = sym (alone ∙ rw (said_from, comes (On a p) e)); within = tt }

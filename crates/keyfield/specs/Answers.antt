@@ -5,19 +5,18 @@
 --     Opens                a key opens lent memory
 --     KeyAs                the answer on a key alone
 --     ReadAt, ReadAs       the answer on a field
-use Rattle.std.specs.Prelude.{ℕ, ◌-◌, ◌≤◌, ◌≡◌, List, length, take, drop}
+use Rattle.std.specs.Prelude.{ℕ, ◌-◌, ◌≤◌, ◌≡◌, List, length, take, drop, Bool}
 use Rattle.std.specs.Prelude.{Option, Some, None}
 use Rattle.address.specs.Address.{canonical}
 use Rattle.attributes.specs.Answers.{part, Within}
 use Rattle.attributes.specs.Steps.{PlainAt, stated}
 use Rattle.attributes.specs.declared.Bounds.{Bounds}
-use Rattle.attributes.specs.declared.Preference.{Preference}
 use Rattle.keyfield.specs.Field.{Said, mutual_by, said_of, key_of, field_of}
 use Rattle.keyfield.specs.declared.Scanned.{Scanned}
 use Rattle.keyfield.specs.declared.Read.{Read}
 
 -- what is answered where the key data stands, behind the address and the preference that came before it
-unfoldable pub whole_of : Option Bounds → Preference → Bounds → Option Scanned
+unfoldable pub whole_of : Option Bounds → Option Bool → Bounds → Option Scanned
 whole_of None preference v = None
 whole_of (Some at) preference v = Some (record { address = at; «mutual» = mutual_by (stated preference); key_data = v })
 

@@ -7,8 +7,7 @@ ghost use Rattle.attributes.specs.Steps.{stated};
 ghost use Rattle.keyfield.specs.Field.{mutual_by};
 ghost use Rattle.keyfield.specs.Answers.{whole_of, Scans, KeyAs, ReadAs};
 
-use attributes::{Bounds, NextPiece, Preference};
-use keydata::Decoded;
+use attributes::{Bounds, NextPiece};
 
 // What the value says, its key data still a text: where the address stands, the preference, and where the key data stands.
 #[derive(Clone, Copy)]
@@ -28,18 +27,18 @@ pub struct Read {
 
 // F7: no `prefer-encrypt` is no preference.
 #[tactic(auto, using(crate::proofs::Ending::ending))]
-fn is_mutual(preference: Preference) -> bool
+fn is_mutual(preference: Option<bool>) -> bool
     ensures { result ≡ mutual_by (stated preference) }
 {
     match preference {
-        Preference::Unstated => false,
-        Preference::Stated(mutual) => mutual,
+        None => false,
+        Some(mutual) => mutual,
     }
 }
 
 // What has been read where the key data stands last: the address must have come before (F6).
 #[tactic(auto, using(crate::proofs::Ending::ending))]
-fn whole(address: Option<Bounds>, preference: Preference, key_data: Bounds) -> Option<Scanned>
+fn whole(address: Option<Bounds>, preference: Option<bool>, key_data: Bounds) -> Option<Scanned>
     ensures { result ≡ whole_of address preference key_data }
 {
     let address = address?;
@@ -57,7 +56,7 @@ fn scan(s: &[u8]) -> Option<Scanned>
 {
     let mut at = 0;
     let mut address = None;
-    let mut preference = Preference::Unstated;
+    let mut preference = None;
     loop {
         let end = attributes::find(s, at, s.len(), b';');
         match attributes::step_at(s, at, end, address, preference) {
@@ -88,8 +87,8 @@ fn read_key(text: &[u8], limit: usize, key: &mut [u8]) -> Option<usize>
     ensures { KeyAs limit text.now key.new result }
 {
     match keydata::decode(text, &mut key[0..limit]) {
-        Decoded::Octets(n) if 0 < n => Some(n),
-        Decoded::Octets(_) | Decoded::Refused => None,
+        Some(n) if 0 < n => Some(n),
+        Some(_) | None => None,
     }
 }
 

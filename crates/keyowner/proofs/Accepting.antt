@@ -17,8 +17,6 @@ use Rattle.octets.specs.Written.{onto}
 use Rattle.header.proofs.Unfolding.{value_within, value_there}
 use Rattle.address.specs.Address.{plain, canonical, is_canonical}
 use Rattle.address.specs.Answers.{written_of, onto_if_fits}
-use Rattle.address.specs.declared.Fitted.{Fitted}
-use Rattle.address.specs.declared.Fitted.TheVariants.{Length, NoRoom}
 use Rattle.address.proofs.Room.{written_length, written_no_room, onto_fits}
 use Rattle.address.proofs.Spelling.{canonical_most, plain_is_canonical}
 use Rattle.addresslist.specs.List.{among}
@@ -72,12 +70,12 @@ module _ (limit : ℕ) (s key : List ℕ) (r : Option Read) (a : ReadAs limit s 
     fits : (room : ℕ) → address_room ≤ room → length named ≤ room
     fits room h = omega (arith, canonical_most (take (f.address.to - f.address.from) (drop f.address.from s)) accept_plain)
 
-    module _ (room : List ℕ) (h : address_room ≤ length room) (w : Fitted) (u : w ≡ written_of (canonical (take (f.address.to - f.address.from) (drop f.address.from s))) (length room)) where
+    module _ (room : List ℕ) (h : address_room ≤ length room) (w : Option ℕ) (u : w ≡ written_of (canonical (take (f.address.to - f.address.from) (drop f.address.from s))) (length room)) where
       -- there is room
-      pub accept_no_room : (recipients : List (List ℕ)) (address : List ℕ) → w ≡ NoRoom → AcceptedAs limit (accepted_for limit recipients s) address key None
+      pub accept_no_room : (recipients : List (List ℕ)) (address : List ℕ) → w ≡ None → AcceptedAs limit (accepted_for limit recipients s) address key None
       accept_no_room recipients address y = absurd (omega (arith, written_no_room named (length room) (sym y ∙ u), fits (length room) h))
 
-      module _ (n : ℕ) (y : w ≡ Length n) (address : List ℕ) (z : address ≡ onto_if_fits (canonical (take (f.address.to - f.address.from) (drop f.address.from s))) room) where
+      module _ (n : ℕ) (y : w ≡ Some n) (address : List ℕ) (z : address ≡ onto_if_fits (canonical (take (f.address.to - f.address.from) (drop f.address.from s))) room) where
         long : n ≡ length named
         long = (written_length named (length room) n (sym y ∙ u)).0
 

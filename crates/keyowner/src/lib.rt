@@ -11,7 +11,6 @@ ghost use Rattle.roll.specs.Roll.{unrolled};
 ghost use Rattle.keyowner.specs.Owners.{accepted_for};
 ghost use Rattle.keyowner.specs.Answers.{OwnAs, Accepts, AcceptedAs};
 
-use address::Fitted;
 
 // What a field of the sender brings: its preference, and the length of its key.
 #[derive(Clone, Copy)]
@@ -63,7 +62,7 @@ pub fn accept(
 {
     let said = keyfield::read_field(value, limit, key)?;
     let at = said.address;
-    let Fitted::Length(n) = address::canonical(&value[at.from..at.to], address) else {
+    let Some(n) = address::canonical(&value[at.from..at.to], address) else {
         return None;
     };
     if roll::holds(recipients, tags, places, &address[0..n]) {

@@ -9,7 +9,7 @@ use Prim.Native.Nat.{ℕ, ◌+◌, ◌-◌, ◌<◌, ◌≤◌}
 use mathlib.Core.Path.{◌≡◌, refl, sym, ap, ◌∙◌}
 use mathlib.Core.Bool.{Bool, true, false, not, ◌&&◌}
 use mathlib.Core.List.{List, [], ◌++◌, append-nil}
-use Rattle.std.specs.Prelude.{Some, None}
+use Rattle.std.specs.Prelude.{Some, None, Option}
 use native.Mathlib.Nat.{sub-zero}
 use native.Mathlib.Omega.{arith}
 use borrow.Author.Rules.{rules}
@@ -21,8 +21,6 @@ use lib.Seq.{length-take-le}
 use Rattle.octets.specs.Octets.{lowered}
 use Rattle.octets.specs.Written.{put_at}
 use Rattle.octets.specs.Puts.{Written, TooLong, Puts, Told, Untold, PutsText}
-use Rattle.octets.specs.declared.Laid.{Laid}
-use Rattle.octets.specs.declared.Laid.TheVariants.{At, NoRoom}
 use Rattle.octets.proofs.Letters.{length_lowered}
 use Rattle.octets.proofs.Options.{by_option}
 use Rattle.octets.proofs.Putting.{put_long, put_both}
@@ -123,7 +121,7 @@ module _ (d s p₀ p : List ℕ) (l : length p₀ ≡ 59) (o : Read) where
           short = omega arith;
         }
 
-    pub code_put : (e : List ℕ) (r : Laid) → Puts d e 0 (encode (take n p)) r → PutsText d e 0 (code_of (small_of (points s))) r
+    pub code_put : (e : List ℕ) (r : Option ℕ) → Puts d e 0 (encode (take n p)) r → PutsText d e 0 (code_of (small_of (points s))) r
     code_put e r h = put_told d e 0 _ (encode (take n p)) is_code r h
 
 pub ruleset putting_code = (code_bad, code_many, code_prefix, code_count, code_points, code_put, rules)
@@ -178,8 +176,8 @@ module _ (s : List ℕ) (a : all_ascii s ≡ false) where
       (λ ps t. (encode (lower_points ps), (ap (λ o. code_of (small_of o)) t, equal (sym e ∙ coded_of ∙ ap coded t))))
 
   -- the code c₀ as it came, and c as it is written
-  module _ (d : List ℕ) (at : ℕ) (i : at ≤ length d) (c₀ c : List ℕ) (l : length c₀ ≡ 59) (r : Laid) (h : PutsText c₀ c 0 (code_of (small_of (points s))) r) where
-    pub coded_none : r ≡ NoRoom → Untold d at d (fitting (label_form s))
+  module _ (d : List ℕ) (at : ℕ) (i : at ≤ length d) (c₀ c : List ℕ) (l : length c₀ ≡ 59) (r : Option ℕ) (h : PutsText c₀ c 0 (code_of (small_of (points s))) r) where
+    pub coded_none : r ≡ None → Untold d at d (fitting (label_form s))
     coded_none q =
         let k : Untold c₀ 0 c (code_of (small_of (points s))) = rw q at h in
         untold_none d at d _
@@ -190,7 +188,7 @@ module _ (s : List ℕ) (a : all_ascii s ≡ false) where
         ap fitting t ∙ fits_none w (rw v.1.1 (omega (arith, k.long v.0 v.1.0)))))
         refl
 
-    module _ (n : ℕ) (q : r ≡ At n) where
+    module _ (n : ℕ) (q : r ≡ Some n) where
       told : Told c₀ 0 c n (code_of (small_of (points s)))
       told = rw q at h
 
@@ -209,7 +207,7 @@ module _ (s : List ℕ) (a : all_ascii s ≡ false) where
       pub coded_few : length (take n c) ≤ 59
       coded_few = omega (arith, coded_count, told.room)
 
-      pub coded_put : (e : List ℕ) (t : Laid) → Puts d e at (opening ++ take n c) t → PutsText d e at (fitting (label_form s)) t
+      pub coded_put : (e : List ℕ) (t : Option ℕ) → Puts d e at (opening ++ take n c) t → PutsText d e at (fitting (label_form s)) t
       coded_put e t g = put_told d e at _ (opening ++ told.text) fit_form t (rw (sym (rw sub-zero at (told_front c₀ c n _ told))) g)
 
 pub ruleset putting_coded = (coded_none, coded_end, coded_count, coded_few, coded_put, rules)
@@ -229,7 +227,7 @@ module _ (s : List ℕ) where
     unfolding label_of
     label_none n = untold_none d at d _ (rw (label_is, ← j, not-true b n)) refl
 
-    module _ (n : not b ≡ false) (e : List ℕ) (r : Laid) where
+    module _ (n : not b ≡ false) (e : List ℕ) (r : Option ℕ) where
       pub label_small : all_ascii s ≡ true → PutsText d e at (fitting (Some (lowered s))) r → PutsText d e at (label_of s) r
       label_small a h = rw (of_judged (sym j ∙ not-false b n), form_ascii s a) h
 

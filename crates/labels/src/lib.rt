@@ -13,7 +13,6 @@ ghost use Rattle.labels.specs.Labels.{label_octet, opening, label_form};
 ghost use Rattle.labels.specs.Answers.{judged as judged_of, code_of, fitting, label_of};
 
 use codepoints::Read;
-use octets::Laid;
 
 // How many octets the form of a label may have (L7).
 const LONGEST_LABEL: usize = 63;
@@ -42,70 +41,70 @@ fn judged(s: &[u8]) -> bool
 
 // Writes the form of a label in ASCII.
 #[tactic(auto, using(crate::proofs::Writing::putting_small))]
-fn put_small(s: &[u8], out: &mut [u8], at: usize) -> Laid
+fn put_small(s: &[u8], out: &mut [u8], at: usize) -> Option<usize>
     requires { at ≤ length out.old }
     ensures { PutsText out.old out.new at (fitting (Some (lowered s.now))) result }
 {
     if LONGEST_LABEL < s.len() || out.len() - at < s.len() {
-        return Laid::NoRoom;
+        return None;
     }
     octets::put_lower(out, at, s);
-    Laid::At(at + s.len())
+    Some(at + s.len())
 }
 
 // Writes the Punycode of a label's code points, in lower case. More of them than there is room for are not coded at all, since
 // each takes an octet at least: a stranger may send long labels.
 #[tactic(auto, using(crate::proofs::Writing::putting_code))]
-fn put_code(s: &[u8], out: &mut [u8]) -> Laid
+fn put_code(s: &[u8], out: &mut [u8]) -> Option<usize>
     requires { length out.old ≤ 59 }
     ensures { PutsText out.old out.new 0 (code_of (small_of (points_of s.now))) result }
 {
     let mut points = [0u32; LONGEST_CODE];
     match codepoints::read_small(s, &mut points) {
         Read::Points(n) => coder::encode(&points[..n], out),
-        Read::Bad => Laid::NoRoom,
-        Read::Full => Laid::NoRoom,
+        Read::Bad => None,
+        Read::Full => None,
     }
 }
 
 // Writes the opening and a code behind it, where both have room.
 #[tactic(auto, using(crate::proofs::Writing::putting_opened))]
-fn put_opened(code: &[u8], out: &mut [u8], at: usize) -> Laid
+fn put_opened(code: &[u8], out: &mut [u8], at: usize) -> Option<usize>
     requires at_in_bounds { at ≤ length out.old }
     requires code_len_bound { length code.now ≤ 59 }
     ensures { Puts out.old out.new at (opening ++ code.now) result }
 {
     if out.len() - at < 4 + code.len() {
-        return Laid::NoRoom;
+        return None;
     }
     octets::put(out, at, &OPENING);
     octets::put(out, at + 4, code);
-    Laid::At(at + 4 + code.len())
+    Some(at + 4 + code.len())
 }
 
 // Writes the form of a label that is not ASCII. The code has room for 59 octets, so that the form has 63 at most.
 #[tactic(auto, using(crate::proofs::Writing::putting_coded))]
-fn put_coded(s: &[u8], out: &mut [u8], at: usize) -> Laid
+fn put_coded(s: &[u8], out: &mut [u8], at: usize) -> Option<usize>
     requires at_in_bounds { at ≤ length out.old }
     requires s_value { all_ascii s.now ≡ false }
     ensures { PutsText out.old out.new at (fitting (label_form s.now)) result }
 {
     let mut code = [0u8; LONGEST_CODE];
     match put_code(s, &mut code) {
-        Laid::At(n) => put_opened(&code[..n], out, at),
-        Laid::NoRoom => Laid::NoRoom,
+        Some(n) => put_opened(&code[..n], out, at),
+        None => None,
     }
 }
 
 // Writes the form of a label from a place on, and answers the place behind it. There is none where it is no label, or where
 // there is no room.
 #[tactic(auto, using(crate::proofs::Writing::putting_label))]
-pub fn put_label(s: &[u8], out: &mut [u8], at: usize) -> Laid
+pub fn put_label(s: &[u8], out: &mut [u8], at: usize) -> Option<usize>
     requires { at ≤ length out.old }
     ensures { PutsText out.old out.new at (label_of s.now) result }
 {
     if !judged(s) {
-        return Laid::NoRoom;
+        return None;
     }
     if utf8::is_ascii(s) {
         return put_small(s, out, at);

@@ -13,7 +13,7 @@ use Prim.Native.Nat.{ℕ, ◌≤◌}
 use mathlib.Core.Path.{◌≡◌, refl, sym, ◌∙◌}
 use mathlib.Core.Bool.{Bool, true, false}
 use mathlib.Core.List.{List}
-use Rattle.std.specs.Prelude.{Some, None}
+use Rattle.std.specs.Prelude.{Some, None, Option}
 use native.Mathlib.Nat.{sub-zero}
 use native.Mathlib.Omega.{arith}
 use borrow.Author.Rules.{rules}
@@ -31,13 +31,9 @@ use Rattle.roll.specs.declared.Rolled.{Rolled}
 use Rattle.fields.specs.Fields.{fields_in}
 use Rattle.fields.specs.Spans.{SurveyAs, SurveyedAs}
 use Rattle.fields.specs.declared.Survey.{Survey}
-use Rattle.fields.specs.declared.Surveyed.{Surveyed}
-use Rattle.fields.specs.declared.Surveyed.TheVariants.{Readable, Unreadable}
 use Rattle.fields.proofs.Walking.{survey_readable}
 use Rattle.outer.specs.Outer.{sender_in}
 use Rattle.outer.specs.Answers.{sender_of, left_by_sender}
-use Rattle.outer.specs.declared.Sender.{Sender as Told}
-use Rattle.outer.specs.declared.Sender.TheVariants.{Address, NotOne}
 use Rattle.outer.proofs.Senders.{sender_canonical, answer_none, left_is, left_within}
 use Rattle.recipients.specs.Answers.{GatheredAs}
 use Rattle.recipients.proofs.RecipientRoll.{enough_room, gathered, gathered_index}
@@ -83,8 +79,8 @@ short : (s : List ℕ) → readable s ≡ true → length s ≤ limit
 short s h = clear_fits s true (sym h) refl
 
 -- `lint_with`
-module _ (outer payload : List ℕ) (k : Surveyed) (h : SurveyedAs outer k) where
-  module _ (list : List ℕ) (q : k ≡ Unreadable) where
+module _ (outer payload : List ℕ) (k : Option Survey) (h : SurveyedAs outer k) where
+  module _ (list : List ℕ) (q : k ≡ None) where
     pub outer_answered : Refused OuterBlock ≡ linted_of outer payload (length list)
     unfolding SurveyedAs
     outer_answered = answered outer payload list OuterBlock (first_outer outer payload (length list) (rw q at h))
@@ -93,7 +89,7 @@ module _ (outer payload : List ℕ) (k : Surveyed) (h : SurveyedAs outer k) wher
     unfolding SurveyedAs
     outer_left = left outer payload list OuterBlock (first_outer outer payload (length list) (rw q at h))
 
-  pub walked : (room : ℕ) → Roomy outer payload room → (survey : Survey) → k ≡ Readable survey
+  pub walked : (room : ℕ) → Roomy outer payload room → (survey : Survey) → k ≡ Some survey
       → (text : List ℕ) → length text ≡ room → Walked outer survey payload text
   unfolding SurveyedAs
   walked room r survey q text l =
@@ -111,8 +107,8 @@ module _ (outer : List ℕ) (survey : Survey) (payload text₀ : List ℕ) (h : 
   outer_readable : readable outer ≡ true
   outer_readable = survey_readable outer survey h.surveyed
 
-  module _ (r : Told) (t : r ≡ sender_of (sender_in (fields_in outer))) where
-    module _ (list : List ℕ) (q : r ≡ NotOne) where
+  module _ (r : Option ℕ) (t : r ≡ sender_of (sender_in (fields_in outer))) where
+    module _ (list : List ℕ) (q : r ≡ None) where
       no_sender : sender_in (fields_in outer) ≡ None
       no_sender = answer_none (sender_in (fields_in outer)) (sym q ∙ t)
 
@@ -122,7 +118,7 @@ module _ (outer : List ℕ) (survey : Survey) (payload text₀ : List ℕ) (h : 
       pub sender_left : list ≡ left_by_linting outer payload list
       sender_left = left outer payload list Sender (first_sender outer payload (length list) outer_readable no_sender)
 
-    module _ (out d : List ℕ) (l : out ≡ left_by_sender (sender_in (fields_in outer)) d) (n : ℕ) (q : r ≡ Address n) where
+    module _ (out d : List ℕ) (l : out ≡ left_by_sender (sender_in (fields_in outer)) d) (n : ℕ) (q : r ≡ Some n) where
       pub address_within : n ≤ length out
       address_within = left_within (sender_in (fields_in outer)) r t out d l n q
 

@@ -10,9 +10,8 @@ ghost use Rattle.lookover.specs.Looking.{missing};
 ghost use Rattle.lint.specs.Linting.{linted_of, left_by_linting};
 ghost use Rattle.lint.specs.Stages.{faults_with, listed_of, left_by_listing, Roomy, Walked, Sent, Readied, PassedAs};
 
-use fields::{Survey, Surveyed};
+use fields::Survey;
 use lookover::{Looked, Side};
-use outer::Sender;
 use refusals::Refusal;
 use slots::Slot;
 
@@ -150,13 +149,13 @@ fn lint_walked(
 {
     let mut sender = [0u8; Slot::ADDRESS_ROOM];
     match outer::sender_of(outer, survey, text, &mut sender) {
-        Sender::Address(n) => {
+        Some(n) => {
             if !header::readable(payload) {
                 return Linted::Refused(Refusal::PayloadBlock);
             }
             lint_sent(outer, survey, payload, &sender[..n], text, list)
         }
-        Sender::NotOne => Linted::Refused(Refusal::Sender),
+        None => Linted::Refused(Refusal::Sender),
     }
 }
 
@@ -169,8 +168,8 @@ fn lint_with<const N: usize>(outer: &[u8], payload: &[u8], list: &mut [u32]) -> 
 {
     let mut text = [0u8; N];
     match fields::walk(outer) {
-        Surveyed::Readable(survey) => lint_walked(outer, survey, payload, &mut text, list),
-        Surveyed::Unreadable => Linted::Refused(Refusal::OuterBlock),
+        Some(survey) => lint_walked(outer, survey, payload, &mut text, list),
+        None => Linted::Refused(Refusal::OuterBlock),
     }
 }
 

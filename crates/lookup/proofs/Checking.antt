@@ -7,6 +7,7 @@
 --     checks_length .. checks_sound     the three answers, with the tags
 --     the rulesets                      being_right, for `is_right`; looking_lower, for `in_lower`; judging, for `check`
 -- Assumes nothing.
+use Rattle.std.specs.Prelude.{Option, Some, None}
 use Prim.Native.Nat.{ℕ, ◌+◌, ◌-◌, ◌<◌, ◌≤◌}
 use mathlib.Core.Path.{◌≡◌, sym, ap, ◌∙◌}
 use mathlib.Core.Logic.{⊎_elim}
@@ -25,8 +26,6 @@ use Rattle.tags.specs.Tags.{tag_of}
 use Rattle.table.specs.Table.{slots, slot_at, has_address, lowest, is_at, in_lower, right_by, whole, judged_by, checked_by}
 use Rattle.table.specs.Tagged.{tag_at, TaggedTo}
 use Rattle.table.specs.declared.Checked.TheVariants.{Sound, Length, Slot}
-use Rattle.table.specs.declared.Found.{Found}
-use Rattle.table.specs.declared.Found.TheVariants.{At, Nothing}
 use Rattle.table.proofs.Judging.{judged_on, judged_here, checked_slots, checked_length, whole_few}
 use Rattle.lookup.specs.Looking.{Seeks, Judges, Compares, Checks}
 
@@ -78,15 +77,15 @@ module _ (t tags a : List ℕ) (i : ℕ) (ea : a ≡ address_of (slot_at t i)) (
 pub lower_low : (t tags : List ℕ) (i : ℕ) → Compares t tags i → i < 256
 lower_low t tags i c = omega (arith, c.tagged.few)
 
-module _ (t a : List ℕ) (i : ℕ) (r : Found) (ea : a ≡ address_of (slot_at t i)) (er : r ≡ lowest (has_address a) t 0 i) where
+module _ (t a : List ℕ) (i : ℕ) (r : Option ℕ) (ea : a ≡ address_of (slot_at t i)) (er : r ≡ lowest (has_address a) t 0 i) where
   lower_is : in_lower t i ≡ is_at r
   unfolding in_lower
   lower_is = sym (rw (er, ea))
 
-  pub lower_at : (j : ℕ) → r ≡ At j → true ≡ in_lower t i
+  pub lower_at : (j : ℕ) → r ≡ Some j → true ≡ in_lower t i
   lower_at j e = rw (lower_is, e)
 
-  pub lower_none : r ≡ Nothing → false ≡ in_lower t i
+  pub lower_none : r ≡ None → false ≡ in_lower t i
   lower_none e = rw (lower_is, e)
 
 pub ruleset looking_lower = (lower_seeks, lower_low, lower_at, lower_none, rules)

@@ -26,8 +26,6 @@ use Rattle.table.specs.Table.{slots, slot_at, found, checked}
 use Rattle.table.specs.Tagged.{Open}
 use Rattle.table.specs.Entries.{entry_in}
 use Rattle.table.specs.declared.Checked.TheVariants.{Sound}
-use Rattle.table.specs.declared.Found.{Found}
-use Rattle.table.specs.declared.Found.TheVariants.{At, Nothing}
 use Rattle.table.proofs.Slots.{room, area_octets}
 use Rattle.table.proofs.Lowest.{by_found}
 use Rattle.table.proofs.Finding.{found_at}
@@ -40,12 +38,12 @@ abbrev pub held_in : ℕ → Head → Held
 held_in i n = record { numbers = n; direct = i * 4392 + 296; gossip = i * 4392 + 2344 }
 
 -- as the code has it: f is what `find` answered
-module _ (t a : List ℕ) (f : Found) (e : f ≡ found t a) where
-  pub held_none : f ≡ Nothing → None ≡ held_of t a
+module _ (t a : List ℕ) (f : Option ℕ) (e : f ≡ found t a) where
+  pub held_none : f ≡ None → None ≡ held_of t a
   unfolding held_of held_at
   held_none q = rw (held_of, sym e ∙ q)
 
-  module _ (i : ℕ) (q : f ≡ At i) where
+  module _ (i : ℕ) (q : f ≡ Some i) where
     pub held_at_lem : (n : Head) → n ≡ head_of (slot_at t i) → Some (held_in i n) ≡ held_of t a
     unfolding held_of held_at
     held_at_lem n p = rw (held_of, sym e ∙ q, p)
@@ -84,7 +82,7 @@ pub record Tells (t a : List ℕ) (e : Held) : Type 0 where
       → (take e.numbers.gossip_length (drop e.gossip t) ≡ gossip_key_of slot) × (e.gossip + e.numbers.gossip_length ≤ length t)
 
 -- the entry in slot i
-module _ (t a : List ℕ) (s : checked t ≡ Sound) (i : ℕ) (e : found t a ≡ At i) where
+module _ (t a : List ℕ) (s : checked t ≡ Sound) (i : ℕ) (e : found t a ≡ Some i) where
   parts : SoundSlot (slot_at t i)
   parts = sound_parts (slot_at t i) (entry_sound t a s i e)
 

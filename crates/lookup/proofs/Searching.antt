@@ -8,6 +8,7 @@
 --     find_seeks, found_is        the whole table
 --     the rulesets                searching, for `search`; sifting, for `lowest_with`; finding, for `find`
 -- Assumes nothing.
+use Rattle.std.specs.Prelude.{Option, Some, None}
 use Prim.Native.Nat.{ℕ, ◌+◌, ◌<◌, ◌≤◌}
 use mathlib.Core.Path.{◌≡◌, refl, sym, ◌∙◌}
 use mathlib.Core.Bool.{Bool, true, false, not}
@@ -25,8 +26,6 @@ use Rattle.tags.specs.Tags.{tag_of, in_first}
 use Rattle.tags.proofs.Among.{first_not}
 use Rattle.table.specs.Table.{slots, slot_at, has_address, lowest, found}
 use Rattle.table.specs.Tagged.{tag_at, Tagged}
-use Rattle.table.specs.declared.Found.{Found}
-use Rattle.table.specs.declared.Found.TheVariants.{At, Nothing}
 use Rattle.table.proofs.Scanning.{Scan, scan_begin, scan_no, scan_yes, scan_end}
 use Rattle.table.proofs.Finding.{has_used, has_address_lem, lowest_none}
 use Rattle.lookup.specs.Looking.{Seeks}
@@ -47,7 +46,7 @@ module _ (t tags a : List ℕ) (tag n : ℕ) (q : Seeks t tags a tag n) where
   pub pass_tag : (i : ℕ) → Scan (has_address a) t n i → i < n → (get_or tags i 0 ≡ tag → ⊥) → Scan (has_address a) t n (i + 1)
   pass_tag i h l d = scan_no (has_address a) t n i h l (apart i l d)
 
-  pub none_with : (b : Bool) → b ≡ in_first tag tags n → not b ≡ true → Nothing ≡ lowest (has_address a) t 0 n
+  pub none_with : (b : Bool) → b ≡ in_first tag tags n → not b ≡ true → None ≡ lowest (has_address a) t 0 n
   none_with b e z =
       sym (lowest_none (has_address a) t 0 n (λ m _ l. apart m (omega arith) (λ p. first_not tag tags n m (sym e ∙ not-true b z) (omega arith) p)))
 
@@ -68,13 +67,13 @@ module _ (t a : List ℕ) (n i : ℕ) (h : Scan (has_address a) t n i) (l : i < 
   pub pass_by : b ≡ false → Scan (has_address a) t n (i + 1)
   pass_by q = scan_no (has_address a) t n i h l (rw (← e.0) (sym p ∙ q))
 
-  pub stands : b ≡ true → At i ≡ lowest (has_address a) t 0 n
+  pub stands : b ≡ true → Some i ≡ lowest (has_address a) t 0 n
   stands q = scan_yes (has_address a) t n i h l (rw (← e.0) (sym p ∙ q))
 
 pub search_begin : (t a : List ℕ) (n : ℕ) → Scan (has_address a) t n 0
 search_begin t a n = scan_begin (has_address a) t n
 
-pub search_end : (t a : List ℕ) (n i : ℕ) → Scan (has_address a) t n i → n ≤ i → Nothing ≡ lowest (has_address a) t 0 n
+pub search_end : (t a : List ℕ) (n i : ℕ) → Scan (has_address a) t n i → n ≤ i → None ≡ lowest (has_address a) t 0 n
 search_end t a n i h l = scan_end (has_address a) t n i h l
 
 pub ruleset searching = (slot_within, tag_within, search_begin, pass_tag, pass_by, stands, search_end, rules)
@@ -88,7 +87,7 @@ same_is (x ∷ s) [] = refl
 same_is (x ∷ s) (y ∷ t) = rw (same_is s t)
 
 -- the whole table
-pub found_is : (t a : List ℕ) (n : ℕ) (f : Found) → n ≡ slots t → f ≡ lowest (has_address a) t 0 n → f ≡ found t a
+pub found_is : (t a : List ℕ) (n : ℕ) (f : Option ℕ) → n ≡ slots t → f ≡ lowest (has_address a) t 0 n → f ≡ found t a
 unfolding found
 found_is t a n f e p = p ∙ rw e
 

@@ -5,15 +5,13 @@ use Rattle.std.specs.Prelude.{ℕ, ◌+◌, ◌*◌, List, Option, Some, None}
 use Rattle.heads.specs.Head.{head_of}
 use Rattle.slots.specs.Slot.{slot_length, direct_at, gossip_at}
 use Rattle.table.specs.Table.{slot_at, found}
-use Rattle.table.specs.declared.Found.{Found}
-use Rattle.table.specs.declared.Found.TheVariants.{At, Nothing}
 use Rattle.lookup.specs.declared.Held.{Held}
 
 -- T3: in the table, the rooms for the two keys begin at octets 296 and 2344 of the slot
-unfoldable pub held_at : List ℕ → Found → Option Held
-held_at t (At i) =
+unfoldable pub held_at : List ℕ → Option ℕ → Option Held
+held_at t (Some i) =
     Some (record { numbers = head_of (slot_at t i); direct = i * slot_length + direct_at; gossip = i * slot_length + gossip_at })
-held_at t Nothing = None
+held_at t None = None
 
 -- T15: what the table has of a canonical address
 unfoldable pub held_of : List ℕ → List ℕ → Option Held

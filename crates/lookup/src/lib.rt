@@ -11,7 +11,7 @@ ghost use Rattle.lookup.specs.Held.{held_of};
 
 use heads::Head;
 use slots::{Slot, Spelling};
-use table::{Checked, Found};
+use table::Checked;
 
 // What a table has of an address: the numbers of its entry, and where the entry's two keys begin in the table.
 #[derive(Clone, Copy)]
@@ -37,16 +37,16 @@ fn holds(slot: &[u8], address: &[u8]) -> bool
 // The lowest of the first `n` slots that holds the address (T12): tags are compared before addresses, and the first equal
 // address leads out of the scan.
 #[tactic(auto, using(crate::proofs::Searching::searching))]
-fn search(table: &[u8], tags: &[u32; Slot::MOST], address: &[u8], tag: u32, n: usize) -> Found
+fn search(table: &[u8], tags: &[u32; Slot::MOST], address: &[u8], tag: u32, n: usize) -> Option<usize>
     requires { Seeks table.now tags.now address.now tag n }
     ensures { result ≡ lowest (has_address address.now) table.now 0 n }
 {
     for i in 0..n {
         if tags[i] == tag && holds(table::slot_at(table, i), address) {
-            return Found::At(i);
+            return Some(i);
         }
     }
-    Found::Nothing
+    None
 }
 
 // The lowest of the first `n` slots that holds the address, as `search` finds it. Where there are more than a few slots,
@@ -58,19 +58,19 @@ pub fn lowest_with(
     address: &[u8],
     tag: u32,
     n: usize,
-) -> Found
+) -> Option<usize>
     requires { Seeks table.now tags.now address.now tag n }
     ensures { result ≡ lowest (has_address address.now) table.now 0 n }
 {
     if FEW < n && !tags::is_among(tags, n, tag) {
-        return Found::Nothing;
+        return None;
     }
     search(table, tags, address, tag, n)
 }
 
 // The slot that holds the canonical address (T15).
 #[tactic(auto, using(crate::proofs::Searching::finding))]
-pub fn find(table: &[u8], tags: &[u32; Slot::MOST], address: &[u8]) -> Found
+pub fn find(table: &[u8], tags: &[u32; Slot::MOST], address: &[u8]) -> Option<usize>
     requires { Tagged table.now tags.now }
     ensures { result ≡ found table.now address.now }
 {
@@ -90,7 +90,7 @@ pub fn entry_of(table: &[u8], tags: &[u32; Slot::MOST], address: &[u8]) -> Optio
     ensures { result ≡ held_of table.now address.now }
 {
     match find(table, tags, address) {
-        Found::At(i) => {
+        Some(i) => {
             let at = i * Slot::LEN;
             Some(Held {
                 numbers: table::numbers(table, i),
@@ -98,7 +98,7 @@ pub fn entry_of(table: &[u8], tags: &[u32; Slot::MOST], address: &[u8]) -> Optio
                 gossip: at + Slot::GOSSIP_AT,
             })
         }
-        Found::Nothing => None,
+        None => None,
     }
 }
 
@@ -123,7 +123,7 @@ fn in_lower(table: &[u8], tags: &[u32; Slot::MOST], i: usize) -> bool
     ensures { result ≡ in_lower table.now i }
 {
     let lower = lowest_with(table, tags, table::address(table, i), tags[i], i);
-    matches!(lower, Found::At(_))
+    matches!(lower, Some(_))
 }
 
 // Is the slot free, or sound with its address in no lower slot (R2)?

@@ -10,7 +10,7 @@ use Prim.Native.Nat.{ℕ, ◌<◌, ◌≤◌}
 use mathlib.Core.Path.{◌≡◌, sym, ◌∙◌}
 use mathlib.Core.Bool.{true}
 use mathlib.Core.List.{List, []}
-use Rattle.std.specs.Prelude.{None}
+use Rattle.std.specs.Prelude.{None, Option, Some}
 use native.Mathlib.Omega.{arith}
 use borrow.Author.Rules.{rules}
 use lib.ListN.{length, take, length-take}
@@ -23,16 +23,12 @@ use Rattle.header.specs.Header.{FieldText, readable}
 use Rattle.fields.specs.Fields.{fields_in, values_of}
 use Rattle.fields.specs.Spans.{SurveyedAs}
 use Rattle.fields.specs.declared.Survey.{Survey}
-use Rattle.fields.specs.declared.Surveyed.{Surveyed}
-use Rattle.fields.specs.declared.Surveyed.TheVariants as surveyed
 use Rattle.fields.proofs.Walking.{survey_readable, surveyed_as}
 use Rattle.heads.specs.Head.{time_limit}
 use Rattle.update.specs.Message.{Gossiped, Message}
 use Rattle.keyfield.specs.Field.{chosen}
 use Rattle.outer.specs.Outer.{sender_in, is_reported, recipients_in}
 use Rattle.outer.specs.Answers.{sender_of, left_by_sender}
-use Rattle.outer.specs.declared.Sender.{Sender}
-use Rattle.outer.specs.declared.Sender.TheVariants.{Address, NotOne}
 use Rattle.outer.proofs.Senders.{answer_none, left_is, left_within}
 use Rattle.keys.specs.Keys.{accepted, gossip_in}
 use Rattle.message.specs.Message.{message_rows, message_of}
@@ -53,13 +49,13 @@ module _ (most receipt : ℕ) (outer payload : List ℕ) (g : Gossip) (sender ke
   read_late l = first_time receipt outer payload g l
 
   pub read_closed :
-      receipt ≤ time_limit → (k : Surveyed) → k ≡ surveyed.Unreadable → SurveyedAs outer k → ReadAs most receipt outer payload g sender key (Refused refusal.OuterBlock)
+      receipt ≤ time_limit → (k : Option Survey) → k ≡ None → SurveyedAs outer k → ReadAs most receipt outer payload g sender key (Refused refusal.OuterBlock)
   unfolding ReadAs SurveyedAs
   read_closed l k q h = first_outer receipt outer payload g l (rw q at h)
 
 pub open_on :
     (most receipt : ℕ) (outer text sender key : List ℕ) → receipt ≤ time_limit → Lent most outer text sender key
-    → (k : Surveyed) (v : Survey) → k ≡ surveyed.Readable v → SurveyedAs outer k → Opened most receipt outer v text sender key
+    → (k : Option Survey) (v : Survey) → k ≡ Some v → SurveyedAs outer k → Opened most receipt outer v text sender key
 open_on most receipt outer text sender key l h k v q s =
     let seen = surveyed_as outer k s v q in
     record {
@@ -74,14 +70,14 @@ pub ruleset opening = (read_late, read_closed, open_on, rules)
 
 -- `read_on`: it knows o of the memory as it was
 module _ (most receipt : ℕ) (outer : List ℕ) (v : Survey) (text₀ d key₀ : List ℕ) (o : Opened most receipt outer v text₀ d key₀)
-    (k : Sender) (e : k ≡ sender_of (sender_in (fields_in outer))) where
-  pub read_unsent : k ≡ NotOne → (payload : List ℕ) (g : Gossip) (sender key : List ℕ) → ReadAs most receipt outer payload g sender key (Refused refusal.Sender)
+    (k : Option ℕ) (e : k ≡ sender_of (sender_in (fields_in outer))) where
+  pub read_unsent : k ≡ None → (payload : List ℕ) (g : Gossip) (sender key : List ℕ) → ReadAs most receipt outer payload g sender key (Refused refusal.Sender)
   unfolding ReadAs
   read_unsent q payload g sender key =
       first_sender receipt outer payload g o.in_time (survey_readable outer v o.walked.surveyed)
       (answer_none (sender_in (fields_in outer)) (sym q ∙ e))
 
-  module _ (sender : List ℕ) (w : sender ≡ left_by_sender (sender_in (fields_in outer)) d) (n : ℕ) (q : k ≡ Address n) where
+  module _ (sender : List ℕ) (w : sender ≡ left_by_sender (sender_in (fields_in outer)) d) (n : ℕ) (q : k ≡ Some n) where
     pub sent_within : n ≤ length sender
     sent_within = left_within (sender_in (fields_in outer)) k e sender d w n q
 

@@ -11,10 +11,9 @@ ghost use Rattle.outer.specs.Outer.{is_reported};
 ghost use Rattle.message.specs.Answers.{JudgedAs, BringsAs, ReadAs};
 ghost use Rattle.message.specs.Lent.{Lent, Walked, Opened, Sent, MailReadAs};
 
-use fields::{Survey, Surveyed};
+use fields::Survey;
 use heads::Head;
 use keyowner::OwnKey;
-use outer::Sender;
 use refusals::Refusal;
 use settings::{Gossip, Settings};
 
@@ -126,8 +125,8 @@ fn read_on(
     ensures { MailReadAs mail.entry sender.new key.new result }
 {
     match outer::sender_of(mail.outer, survey, text, sender) {
-        Sender::Address(n) => read_sent(mail, survey, text, &sender[..n], key),
-        Sender::NotOne => Reading::Refused(Refusal::Sender),
+        Some(n) => read_sent(mail, survey, text, &sender[..n], key),
+        None => Reading::Refused(Refusal::Sender),
     }
 }
 
@@ -156,7 +155,7 @@ pub fn read(
         settings,
     };
     match fields::walk(outer) {
-        Surveyed::Readable(survey) => read_on(mail, survey, text, sender, key),
-        Surveyed::Unreadable => Reading::Refused(Refusal::OuterBlock),
+        Some(survey) => read_on(mail, survey, text, sender, key),
+        None => Reading::Refused(Refusal::OuterBlock),
     }
 }

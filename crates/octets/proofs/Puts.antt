@@ -20,8 +20,6 @@ use lib.ListN.{length, take, drop, set, length-append}
 use lib.Seq.{take_at}
 use Rattle.octets.specs.Written.{put_at}
 use Rattle.octets.specs.Puts.{Written, TooLong, Puts, Told, Untold, PutsText}
-use Rattle.octets.specs.declared.Laid.{Laid}
-use Rattle.octets.specs.declared.Laid.TheVariants.{At, NoRoom}
 use Rattle.octets.proofs.Putting.{over_none, over_one, put_long, put_both}
 
 pub wrote_none : (d : List ℕ) (at : ℕ) (w : List ℕ) → at ≤ length d → Written d at d at w w
@@ -87,12 +85,12 @@ module _ (d : List ℕ) (at : ℕ) (e : List ℕ) (o : Option (List ℕ)) where
   pub untold_long : (w : List ℕ) → o ≡ Some w → length d < at + length w → length e ≡ length d → Untold d at e o
   untold_long w q l k = record { long = λ v p. let u : v ≡ w = cc in rw u l; same = k }
 
-pub text_long : (d e : List ℕ) (at : ℕ) (o : Option (List ℕ)) (r : Laid) → PutsText d e at o r → length e ≡ length d
-text_long d e at o (At m) h = told_long d at e m o h
-text_long d e at o NoRoom h = h.same
+pub text_long : (d e : List ℕ) (at : ℕ) (o : Option (List ℕ)) (r : Option ℕ) → PutsText d e at o r → length e ≡ length d
+text_long d e at o (Some m) h = told_long d at e m o h
+text_long d e at o None h = h.same
 
-pub put_told : (d e : List ℕ) (at : ℕ) (o : Option (List ℕ)) (w : List ℕ) → o ≡ Some w → (r : Laid) → Puts d e at w r → PutsText d e at o r
-put_told d e at o w q (At m) h =
+pub put_told : (d e : List ℕ) (at : ℕ) (o : Option (List ℕ)) (w : List ℕ) → o ≡ Some w → (r : Option ℕ) → Puts d e at w r → PutsText d e at o r
+put_told d e at o w q (Some m) h =
     let u : w ≡ h.octets = h.splits ∙ append-nil h.octets in
     record { text = w; is = q; writes = rw u h.writes; counts = rw u h.counts; room = h.room }
-put_told d e at o w q NoRoom h = untold_long d at e o w q h.long h.same
+put_told d e at o w q None h = untold_long d at e o w q h.long h.same

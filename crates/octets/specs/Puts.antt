@@ -5,11 +5,9 @@
 --     Puts        what writing w answers
 --     Told, Untold    a text that there may not be is written; it is not
 --     PutsText    what writing a text answers that there may not be
-use Rattle.std.specs.Prelude.{ℕ, ◌+◌, ◌<◌, ◌≤◌, ◌≡◌, List, [], ◌++◌, length}
+use Rattle.std.specs.Prelude.{ℕ, ◌+◌, ◌<◌, ◌≤◌, ◌≡◌, List, [], ◌++◌, length, None}
 use Rattle.std.specs.Prelude.{Option, Some}
 use Rattle.octets.specs.Written.{put_at}
-use Rattle.octets.specs.declared.Laid.{Laid}
-use Rattle.octets.specs.declared.Laid.TheVariants.{At, NoRoom}
 
 pub record Written (d : List ℕ) (at : ℕ) (e : List ℕ) (to : ℕ) (w rest : List ℕ) : Type 0 where
   pub octets : List ℕ
@@ -22,9 +20,9 @@ pub record TooLong (d : List ℕ) (at : ℕ) (e : List ℕ) (w : List ℕ) : Typ
   pub long : length d < at + length w
   pub same : length e ≡ length d
 
-abbrev pub Puts : List ℕ → List ℕ → ℕ → List ℕ → Laid → Type 0
-Puts d e at w (At m) = Written d at e m w []
-Puts d e at w NoRoom = TooLong d at e w
+abbrev pub Puts : List ℕ → List ℕ → ℕ → List ℕ → Option ℕ → Type 0
+Puts d e at w (Some m) = Written d at e m w []
+Puts d e at w None = TooLong d at e w
 
 -- there is a text, and it is written
 pub record Told (d : List ℕ) (at : ℕ) (e : List ℕ) (to : ℕ) (o : Option (List ℕ)) : Type 0 where
@@ -39,6 +37,6 @@ pub record Untold (d : List ℕ) (at : ℕ) (e : List ℕ) (o : Option (List ℕ
   pub long : (w : List ℕ) → o ≡ Some w → length d < at + length w
   pub same : length e ≡ length d
 
-abbrev pub PutsText : List ℕ → List ℕ → ℕ → Option (List ℕ) → Laid → Type 0
-PutsText d e at o (At m) = Told d at e m o
-PutsText d e at o NoRoom = Untold d at e o
+abbrev pub PutsText : List ℕ → List ℕ → ℕ → Option (List ℕ) → Option ℕ → Type 0
+PutsText d e at o (Some m) = Told d at e m o
+PutsText d e at o None = Untold d at e o

@@ -11,12 +11,6 @@ ghost use Rattle.octets.specs.Finding.{length_before, Skipped};
 ghost use Rattle.octets.specs.Numbers.{number, digits};
 ghost use Rattle.octets.specs.Written.{put_at};
 
-// Where a text ends that was written from a place on; or it has no room there.
-#[derive(Clone, Copy)]
-pub enum Laid {
-    At(usize),
-    NoRoom,
-}
 
 // Is it a space or a tab (L1)?
 #[tactic(auto, unfolding(crate::specs::Octets::blank))]

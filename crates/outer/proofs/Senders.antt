@@ -16,8 +16,6 @@ use Rattle.octets.specs.Written.{onto}
 use Rattle.octets.specs.Options.{only_one, or_else}
 use Rattle.address.specs.Address.{plain, canonical, is_canonical}
 use Rattle.address.specs.Answers.{written_of, onto_if_fits}
-use Rattle.address.specs.declared.Fitted.{Fitted}
-use Rattle.address.specs.declared.Fitted.TheVariants.{Length, NoRoom}
 use Rattle.address.proofs.Room.{written_length, written_no_room, onto_fits}
 use Rattle.address.proofs.Spelling.{plain_is_canonical, canonical_most, canonical_octets}
 use Rattle.header.specs.Header.{FieldText}
@@ -32,8 +30,6 @@ use Rattle.fields.specs.declared.Kind.TheVariants.{From}
 use Rattle.fields.proofs.Values.{fields_octets, only_octets as value_octets}
 use Rattle.outer.specs.Outer.{canonical_of, sender_by, sender_in}
 use Rattle.outer.specs.Answers.{sender_of, left_by_sender}
-use Rattle.outer.specs.declared.Sender.{Sender}
-use Rattle.outer.specs.declared.Sender.TheVariants.{Address, NotOne}
 use Rattle.outer.proofs.Texts.{part_there, part_within}
 
 -- the sender's address is the canonical form of a plain address
@@ -74,7 +70,7 @@ module _ (fs : List FieldText) where
   unfolding sender_in sender_by
   other p = sym (ap sender_by p)
 
-  pub sent_no_field : None ≡ only_one (values_of From fs) → NotOne ≡ sender_of (sender_in fs)
+  pub sent_no_field : None ≡ only_one (values_of From fs) → None ≡ sender_of (sender_in fs)
   unfolding sender_of
   sent_no_field p = rw (other p)
 
@@ -99,7 +95,7 @@ module _ (fs : List FieldText) where
     unfolding only_in canonical_of
     no_one z = told ∙ ap (λ (i : Option OnlyAddress). canonical_of (only_in v i)) z
 
-    pub sent_no_one : j ≡ None → NotOne ≡ sender_of (sender_in fs)
+    pub sent_no_one : j ≡ None → None ≡ sender_of (sender_in fs)
     unfolding sender_of
     sent_no_one z = rw (no_one z)
 
@@ -139,14 +135,14 @@ module _ (fs : List FieldText) where
         unfolding left_by_sender
         left_one left r = rw is (r ∙ onto_fits (canonical (between text b.from b.to)) out (fits (length out) h))
 
-        module _ (g : Fitted) (u : g ≡ written_of (canonical (between text b.from b.to)) (length out)) where
-          pub sent_one : (m : ℕ) → g ≡ Length m → Address m ≡ sender_of (sender_in fs)
+        module _ (g : Option ℕ) (u : g ≡ written_of (canonical (between text b.from b.to)) (length out)) where
+          pub sent_one : (m : ℕ) → g ≡ Some m → Some m ≡ sender_of (sender_in fs)
           unfolding sender_of
           sent_one m r =
-              rw is (ap Address (written_length (canonical (between text b.from b.to)) (length out) m (sym r ∙ u)).0)
+              rw is (ap Some (written_length (canonical (between text b.from b.to)) (length out) m (sym r ∙ u)).0)
 
           -- there is room
-          pub sent_no_room : g ≡ NoRoom → NotOne ≡ sender_of (sender_in fs)
+          pub sent_no_room : g ≡ None → None ≡ sender_of (sender_in fs)
           sent_no_room r =
               absurd (omega (arith, written_no_room (canonical (between text b.from b.to)) (length out) (sym r ∙ u), fits (length out) h))
 
@@ -154,18 +150,18 @@ pub ruleset sending =
     (sent_no_field, left_no_field, sent_no_one, left_no_one, sent_from, sent_upto, sent_plain, left_one, sent_one, sent_no_room, value_within, value_long, rules)
 
 -- as a caller asks it of the answer r and of what the lent memory holds
-pub answer_some : (o : Option (List ℕ)) (n : ℕ) → Address n ≡ sender_of o → (a : List ℕ) × ((o ≡ Some a) × (n ≡ length a))
+pub answer_some : (o : Option (List ℕ)) (n : ℕ) → Some n ≡ sender_of o → (a : List ℕ) × ((o ≡ Some a) × (n ≡ length a))
 unfolding sender_of
 answer_some None n e = let z : ◌≡◌ {A = ℕ} 0 1 = cc in absurd (omega arith)
 answer_some (Some a) n e = (a, (refl, cc))
 
-pub answer_none : (o : Option (List ℕ)) → NotOne ≡ sender_of o → o ≡ None
+pub answer_none : (o : Option (List ℕ)) → None ≡ sender_of o → o ≡ None
 unfolding sender_of
 answer_none None e = refl
 answer_none (Some a) e = cc
 
-module _ (o : Option (List ℕ)) (r : Sender) (t : r ≡ sender_of o) where
-  module _ (out d : List ℕ) (l : out ≡ left_by_sender o d) (n : ℕ) (q : r ≡ Address n) where
+module _ (o : Option (List ℕ)) (r : Option ℕ) (t : r ≡ sender_of o) where
+  module _ (out d : List ℕ) (l : out ≡ left_by_sender o d) (n : ℕ) (q : r ≡ Some n) where
     address : (a : List ℕ) × ((o ≡ Some a) × (n ≡ length a))
     address = answer_some o n (sym q ∙ t)
 

@@ -3,13 +3,11 @@
 use Rattle.std.specs.Prelude.{ℕ, List, length}
 use Rattle.std.specs.Prelude.{Option, Some, None}
 use Rattle.octets.specs.Written.{onto}
-use Rattle.outer.specs.declared.Sender.{Sender}
-use Rattle.outer.specs.declared.Sender.TheVariants.{Address, NotOne}
 
 -- the answer: how long the sender's address is, or that there is not exactly one sender
-unfoldable pub sender_of : Option (List ℕ) → Sender
-sender_of None = NotOne
-sender_of (Some a) = Address (length a)
+unfoldable pub sender_of : Option (List ℕ) → Option ℕ
+sender_of None = None
+sender_of (Some a) = Some (length a)
 
 -- the address stands at the front of the lent memory; without a sender that stays as it was
 unfoldable pub left_by_sender : Option (List ℕ) → List ℕ → List ℕ

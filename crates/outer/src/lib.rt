@@ -12,33 +12,26 @@ ghost use Rattle.fields.specs.Spans.{SurveyAs};
 ghost use Rattle.outer.specs.Outer.{sender_in, is_reported, said_date};
 ghost use Rattle.outer.specs.Answers.{sender_of, left_by_sender};
 
-use date::Dated;
 use fields::{Kind, Survey};
 
-// The length of the sender's canonical address; or there is not exactly one sender (R5).
-#[derive(Clone, Copy)]
-pub enum Sender {
-    Address(usize),
-    NotOne,
-}
 
 // Writes the sender's canonical address to the front of `out` (U3).
 #[tactic(auto, using(crate::proofs::Senders::sending))]
-pub fn sender_of(block: &[u8], survey: Survey, text: &mut [u8], out: &mut [u8]) -> Sender
+pub fn sender_of(block: &[u8], survey: Survey, text: &mut [u8], out: &mut [u8]) -> Option<usize>
     requires { SurveyAs block.now survey × (length block.now ≤ length text.old) × (address_room ≤ length out.old) }
     ensures value { result ≡ sender_of (sender_in (fields_in block.now)) }
     ensures out_after { out.new ≡ left_by_sender (sender_in (fields_in block.now)) out.old }
 {
     let Some(field) = fields::only_field(block, survey.from, Kind::From) else {
-        return Sender::NotOne;
+        return None;
     };
     let n = field.unfold(block, text);
     match addresslist::only_address(&text[..n]) {
         Some(one) => match address::canonical(&text[one.from..one.to], out) {
-            address::Fitted::Length(length) => Sender::Address(length),
-            address::Fitted::NoRoom => Sender::NotOne,
+            Some(length) => Some(length),
+            None => None,
         },
-        None => Sender::NotOne,
+        None => None,
     }
 }
 
@@ -62,12 +55,12 @@ pub fn is_report(block: &[u8], survey: Survey, text: &mut [u8]) -> bool
 
 // The Date of the message, which its one Date field has to give (D1).
 #[tactic(auto, using(crate::proofs::Dates::dating))]
-pub fn date(block: &[u8], survey: Survey, text: &mut [u8]) -> Dated
+pub fn date(block: &[u8], survey: Survey, text: &mut [u8]) -> Option<u64>
     requires { SurveyAs block.now survey × (length block.now ≤ length text.old) }
     ensures { result ≡ dated_of (said_date (fields_in block.now)) }
 {
     let Some(field) = fields::only_field(block, survey.date, Kind::Date) else {
-        return Dated::Unavailable;
+        return None;
     };
     let n = field.unfold(block, text);
     date::date(&text[..n])

@@ -105,11 +105,11 @@ pub extern "C" fn probe_put_number(out: &mut [u8], at: usize, width: usize, n: u
 #[unsafe(no_mangle)]
 pub extern "C" fn probe_decode(text: &[u8], out: &mut [u8]) -> Answer {
     match keydata::decode(text, out) {
-        keydata::Decoded::Octets(n) => Answer {
+        Some(n) => Answer {
             kind: 0,
             value: n as u64,
         },
-        keydata::Decoded::Refused => Answer { kind: 1, value: 0 },
+        None => Answer { kind: 1, value: 0 },
     }
 }
 
@@ -126,13 +126,13 @@ pub extern "C" fn probe_lines(key: &[u8], out: &mut [u8], at: usize) -> Answer {
     }
 }
 
-fn place(r: tokens::Reached) -> Answer {
+fn place(r: Option<usize>) -> Answer {
     match r {
-        tokens::Reached::To(n) => Answer {
+        Some(n) => Answer {
             kind: 0,
             value: n as u64,
         },
-        tokens::Reached::Unreadable => Answer { kind: 1, value: 0 },
+        None => Answer { kind: 1, value: 0 },
     }
 }
 
@@ -162,17 +162,17 @@ pub extern "C" fn probe_run_end(s: &[u8], at: usize, class: u8) -> usize {
 #[unsafe(no_mangle)]
 pub extern "C" fn probe_date(value: &[u8]) -> Answer {
     match date::date(value) {
-        date::Dated::Available(n) => Answer { kind: 0, value: n },
-        date::Dated::Unavailable => Answer { kind: 1, value: 0 },
+        Some(n) => Answer { kind: 0, value: n },
+        None => Answer { kind: 1, value: 0 },
     }
 }
 
 #[unsafe(no_mangle)]
 pub extern "C" fn probe_effective_date(available: bool, seconds: u64, receipt: u64) -> u64 {
     if available {
-        date::effective_date(date::Dated::Available(seconds), receipt)
+        date::effective_date(Some(seconds), receipt)
     } else {
-        date::effective_date(date::Dated::Unavailable, receipt)
+        date::effective_date(None, receipt)
     }
 }
 
@@ -290,11 +290,11 @@ pub extern "C" fn probe_canonical(s: &[u8], out: &mut [u8]) -> Answer {
         return Answer { kind: 2, value: 0 };
     }
     match address::canonical(s, out) {
-        address::Fitted::Length(n) => Answer {
+        Some(n) => Answer {
             kind: 0,
             value: n as u64,
         },
-        address::Fitted::NoRoom => Answer { kind: 2, value: 0 },
+        None => Answer { kind: 2, value: 0 },
     }
 }
 
@@ -355,11 +355,11 @@ pub extern "C" fn probe_next_address(
 #[unsafe(no_mangle)]
 pub extern "C" fn probe_count(s: &[u8]) -> Answer {
     match addresslist::count(s) {
-        addresslist::Counted::Count(n) => Answer {
+        Some(n) => Answer {
             kind: 0,
             value: n as u64,
         },
-        addresslist::Counted::Unreadable => Answer { kind: 1, value: 0 },
+        None => Answer { kind: 1, value: 0 },
     }
 }
 
@@ -372,13 +372,13 @@ pub extern "C" fn probe_only(s: &[u8], places: &mut [u64]) -> u64 {
     }
 }
 
-fn slot_found(r: table::Found) -> Answer {
+fn slot_found(r: Option<usize>) -> Answer {
     match r {
-        table::Found::At(i) => Answer {
+        Some(i) => Answer {
             kind: 0,
             value: i as u64,
         },
-        table::Found::Nothing => Answer { kind: 1, value: 0 },
+        None => Answer { kind: 1, value: 0 },
     }
 }
 

@@ -5,12 +5,10 @@
 use Rattle.std.specs.Prelude.{ℕ, ◌/◌, ◌≤◌, ◌≡◌, Bool, cond}
 use Rattle.std.specs.Prelude.{Option, Some, None}
 use Rattle.punycode.specs.Punycode.{threshold, damp}
-use Rattle.punycode.specs.declared.Value.{Value}
-use Rattle.punycode.specs.declared.Value.TheVariants.{Digit, Other}
 
-unfoldable pub value_of : Option ℕ → Value
-value_of None = Other
-value_of (Some v) = Digit v
+unfoldable pub value_of : Option ℕ → Option ℕ
+value_of None = None
+value_of (Some v) = Some v
 
 pub record Threshold (k bias r : ℕ) : Type 0 where
   pub same : r ≡ threshold k bias

@@ -6,12 +6,6 @@ ghost use Rattle.std.specs.Prelude.{◌^◌, ◌<◌, ◌≡◌};
 ghost use Rattle.punycode.specs.Punycode.{digit as digit_of, value as value_as, adapt as adapt_of};
 ghost use Rattle.punycode.specs.Steps.{value_of, Threshold, Halved};
 
-// What an octet is worth as a digit; or it is none.
-#[derive(Clone, Copy)]
-pub enum Value {
-    Digit(u64),
-    Other,
-}
 
 // The octet of a digit.
 #[tactic(auto, unfolding(crate::specs::Punycode::digit))]
@@ -28,14 +22,14 @@ pub fn digit(v: u64) -> u8
 
 // The digit of an octet. Most are small letters, so they are asked for first.
 #[tactic(auto, unfolding(crate::specs::Punycode::value, crate::specs::Steps::value_of))]
-pub fn value_of(c: u8) -> Value
+pub fn value_of(c: u8) -> Option<u64>
     ensures { result ≡ value_of (value_as c) }
 {
     match c {
-        b'a'..=b'z' => Value::Digit(u64::from(c - b'a')),
-        b'A'..=b'Z' => Value::Digit(u64::from(c - b'A')),
-        b'0'..=b'9' => Value::Digit(u64::from(c - b'0') + 26),
-        _ => Value::Other,
+        b'a'..=b'z' => Some(u64::from(c - b'a')),
+        b'A'..=b'Z' => Some(u64::from(c - b'A')),
+        b'0'..=b'9' => Some(u64::from(c - b'0') + 26),
+        _ => None,
     }
 }
 

@@ -32,8 +32,6 @@ use Rattle.refusals.specs.declared.Answer.TheVariants.{Done as Admitted, Refused
 use Rattle.refusals.proofs.Rows.{by_refusal, none_here, none_front, none_behind, front_only, refused_is, done_is, answer_refused, answer_done, unless_refuses, unless_passes, front_refuses, front_passes, no_row, rows}
 use Rattle.addresslist.specs.List.{addresses}
 use Rattle.addresslist.specs.Answers.{counted_of}
-use Rattle.addresslist.specs.declared.Counted.{Counted}
-use Rattle.addresslist.specs.declared.Counted.TheVariants.{Count, Unreadable}
 use Rattle.addresslist.proofs.Readable.{counted_some, counted_none}
 use Rattle.slots.specs.declared.Spelling.TheVariants.{Canonical}
 use Rattle.table.specs.Table.{checked}
@@ -57,12 +55,12 @@ list_of : (o : Option (List (List ℕ))) (list : List (List ℕ)) (n : ℕ) → 
 unfolding recipient_list
 list_of o list n e q = rw (e, q)
 
-module _ (o : Option (List (List ℕ))) (k : Counted) (e : k ≡ counted_of o) where
-  pub list_none : k ≡ Unreadable → false ≡ recipient_list o
+module _ (o : Option (List (List ℕ))) (k : Option ℕ) (e : k ≡ counted_of o) where
+  pub list_none : k ≡ None → false ≡ recipient_list o
   unfolding recipient_list
   list_none q = rw (counted_none o (sym q ∙ e))
 
-  module _ (n : ℕ) (q : k ≡ Count n) where
+  module _ (n : ℕ) (q : k ≡ Some n) where
     list_counted : (leb 1 n && leb n 100) ≡ recipient_list o
     list_counted = let c = counted_some o n (sym q ∙ e) in list_of o c.0 n c.1.0 c.1.1
 

@@ -10,7 +10,7 @@ ghost use Rattle.table.specs.Tagged.{Open};
 ghost use Rattle.recommend.specs.Recommending.{recipient_list, Admits, survey_of, recommended_of, looked_up_of, target_part_of, target_key_of};
 ghost use Rattle.recommend.specs.declared.Recommended.TheVariants.{Refused};
 
-use addresslist::{Counted, NextAddress};
+use addresslist::NextAddress;
 use advice::{Advice, Part};
 use refusals::{Answer, Refusal};
 use slots::Slot;
@@ -45,8 +45,8 @@ fn is_recipient_list(list: &[u8]) -> bool
     ensures { result ≡ recipient_list (addresses list.now) }
 {
     match addresslist::count(list) {
-        Counted::Count(n) => 1 <= n && n <= MOST_RECIPIENTS,
-        Counted::Unreadable => false,
+        Some(n) => 1 <= n && n <= MOST_RECIPIENTS,
+        None => false,
     }
 }
 

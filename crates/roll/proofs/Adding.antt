@@ -9,7 +9,7 @@ use Prim.Native.Nat.{ℕ, ◌+◌, ◌^◌, ◌<◌, ◌≤◌}
 use mathlib.Core.Path.{◌≡◌, refl, sym, ap, ◌∙◌}
 use mathlib.Core.Bool.{true, false≢true}
 use mathlib.Core.List.{List, [], ◌∷◌, ◌++◌, append-nil, append_assoc}
-use Rattle.std.specs.Prelude.{Option}
+use Rattle.std.specs.Prelude.{Option, Some, None}
 use native.Mathlib.Nat.{zero-add}
 use native.Mathlib.Numerals.{add-one}
 use native.Mathlib.Omega.{arith}
@@ -32,8 +32,6 @@ use Rattle.addresslist.specs.Answers.{between, beginning, left, Hands, counted_o
 use Rattle.addresslist.specs.declared.ListCursor.{ListCursor}
 use Rattle.addresslist.specs.declared.NextAddress.{NextAddress}
 use Rattle.addresslist.specs.declared.NextAddress.TheVariants.{Address, End, Unreadable}
-use Rattle.addresslist.specs.declared.Counted.{Counted}
-use Rattle.addresslist.specs.declared.Counted.TheVariants.{Count, Unreadable as Uncounted}
 use Rattle.addresslist.proofs.Handing.{left_beginning, hand_gives, hand_plain, hand_from, hand_upto, hand_less, hand_end, hand_unread}
 use Rattle.addresslist.proofs.Readable.{counted_some, counted_none}
 use Rattle.roll.specs.Roll.{entry, rolled, listed_in}
@@ -253,12 +251,12 @@ pub ruleset adding =
     (adding_begin, adding_adds, adding_on, adding_over, hand_from, hand_upto, hand_less, rules)
 
 -- a whole list, by its count
-module _ (s : List ℕ) (k : Counted) (t : k ≡ counted_of (addresses s)) where
-  pub list_readable : (n : ℕ) → k ≡ Count n → is_some (addresses s) ≡ true
+module _ (s : List ℕ) (k : Option ℕ) (t : k ≡ counted_of (addresses s)) where
+  pub list_readable : (n : ℕ) → k ≡ Some n → is_some (addresses s) ≡ true
   unfolding is_some
   list_readable n q = rw (counted_some (addresses s) n (sym q ∙ t)).1.0
 
-  pub list_grew : (roll : List ℕ) (at : Rolled) → k ≡ Uncounted → Grew roll at (listed_in s) roll at
+  pub list_grew : (roll : List ℕ) (at : Rolled) → k ≡ None → Grew roll at (listed_in s) roll at
   list_grew roll at q = rw (listed_unreadable s (counted_none (addresses s) (sym q ∙ t))) (grew_none roll at)
 
 pub ruleset adding_list = (list_readable, list_grew, rules)

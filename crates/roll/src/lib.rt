@@ -15,7 +15,7 @@ ghost use Rattle.roll.specs.Roll.{unrolled, listed_in};
 ghost use Rattle.roll.specs.Index.{address_at, Indexed};
 ghost use Rattle.roll.specs.Growing.{Kept, Adds, Grew};
 
-use addresslist::{Counted, NextAddress};
+use addresslist::NextAddress;
 
 // What ends an address in a roll: an octet that none has.
 const ENDER: u8 = 0;
@@ -77,8 +77,8 @@ pub fn add_list(
     ensures kept { Kept roll.new tags.new places.new result }
 {
     match addresslist::count(list) {
-        Counted::Count(_) => add_readable(roll, tags, places, at, list),
-        Counted::Unreadable => at,
+        Some(_) => add_readable(roll, tags, places, at, list),
+        None => at,
     }
 }
 

@@ -18,8 +18,6 @@ use Rattle.address.specs.Address.{is_canonical}
 use Rattle.addresslist.specs.List.{among}
 use Rattle.table.specs.Table.{found, free_count, checked}
 use Rattle.table.specs.declared.Checked.TheVariants.{Sound}
-use Rattle.table.specs.declared.Found.{Found}
-use Rattle.table.specs.declared.Found.TheVariants.{At, Nothing}
 use Rattle.table.proofs.Entries.{slots_most}
 use Rattle.table.proofs.Lowest.{free_most}
 use Rattle.roll.specs.Roll.{unrolled}
@@ -29,18 +27,18 @@ use Rattle.roll.proofs.Growing.{begin_none, kept_begin, kept_list, adds_one}
 use Rattle.room.specs.Room.{is_new, with_new}
 use Rattle.room.specs.Counting.{Asks, Rolls, Meets, IsTooMany, MetAs, RollsAs}
 
-module _ (t a : List ℕ) (f : Found) (e : f ≡ found t a) where
-  pub told_found : (old : List (List ℕ)) (i : ℕ) → f ≡ At i → false ≡ is_new t old a
+module _ (t a : List ℕ) (f : Option ℕ) (e : f ≡ found t a) where
+  pub told_found : (old : List (List ℕ)) (i : ℕ) → f ≡ Some i → false ≡ is_new t old a
   unfolding is_new
   told_found old i q = rw (← e, q)
 
-  pub told_held : (old : List (List ℕ)) → f ≡ Nothing → (b : Bool) → b ≡ among a old → not b ≡ is_new t old a
+  pub told_held : (old : List (List ℕ)) → f ≡ None → (b : Bool) → b ≡ among a old → not b ≡ is_new t old a
   unfolding is_new
   told_held old q b h = rw (← e, q, h)
 
   -- by the part of the memory that is the roll
   pub told_rolled :
-      (tags known numbers spots : List ℕ) (at : Rolled) → Asks t tags known numbers spots at a → f ≡ Nothing → (b : Bool)
+      (tags known numbers spots : List ℕ) (at : Rolled) → Asks t tags known numbers spots at a → f ≡ None → (b : Bool)
       → b ≡ among a (unrolled (take (at.end - 0) (drop 0 known))) → not b ≡ is_new t (in_roll at known) a
   told_rolled tags known numbers spots at k q b h =
       told_held (in_roll at known) q b (h ∙ ap (among a) (kept_list known numbers spots at k.kept))

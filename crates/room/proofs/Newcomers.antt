@@ -17,8 +17,6 @@ use Rattle.octets.specs.Options.{is_some}
 use Rattle.header.specs.Answers.{fields_from}
 use Rattle.addresslist.specs.List.{among}
 use Rattle.table.specs.Table.{found, free_count}
-use Rattle.table.specs.declared.Found.{Found}
-use Rattle.table.specs.declared.Found.TheVariants.{At, Nothing}
 use Rattle.roll.specs.Roll.{unrolled}
 use Rattle.roll.specs.Growing.{in_roll}
 use Rattle.roll.specs.declared.Rolled.{Rolled}
@@ -162,12 +160,12 @@ module _ (t known : List ℕ) (none : Rolled) (e : none.end ≡ 0) (sender out :
 pub ruleset seating = (first_meets, first_rolls, first_full, first_seated, rolls_begin, rules)
 
 -- the sender and no other
-module _ (t sender : List ℕ) (f : Found) (e : f ≡ found t sender) where
-  pub alone_own : (i : ℕ) → f ≡ At i → true ≡ room_beside t [] (sender ∷ [])
+module _ (t sender : List ℕ) (f : Option ℕ) (e : f ≡ found t sender) where
+  pub alone_own : (i : ℕ) → f ≡ Some i → true ≡ room_beside t [] (sender ∷ [])
   alone_own i q =
       sym (beside_known t [] sender [] (sym (told_found t sender f e [] i q)) ∙ beside_over t [] (omega arith))
 
-  pub alone_free : f ≡ Nothing → (free : ℕ) → free ≡ free_count t → ltb 0 free ≡ room_beside t [] (sender ∷ [])
+  pub alone_free : f ≡ None → (free : ℕ) → free ≡ free_count t → ltb 0 free ≡ room_beside t [] (sender ∷ [])
   unfolding among room_beside newcomers
   alone_free q free h = rw h (sym (beside_new t [] sender [] (sym (told_held t sender f e [] q false refl))))
 

@@ -10,7 +10,6 @@ ghost use Rattle.room.specs.Counting.{Asks, Meets, MetAs, RollsAs, Seats, Seeks}
 
 use roll::Rolled;
 use slots::Slot;
-use table::Found;
 
 // Room for the roll of as many newcomers as there may be slots, each with what ends it.
 pub const ROLL: usize = 65536;
@@ -31,8 +30,8 @@ fn is_new(
     let end = at.end;
     let many = at.many;
     match lookup::find(table, tags, address) {
-        Found::At(_) => false,
-        Found::Nothing => !roll::holds(&known[0..end], &numbers[0..many], &spots[0..many], address),
+        Some(_) => false,
+        None => !roll::holds(&known[0..end], &numbers[0..many], &spots[0..many], address),
     }
 }
 
@@ -169,7 +168,7 @@ pub fn has_room_alone(table: &[u8], tags: &[u32; Slot::MOST], sender: &[u8]) -> 
     ensures { result ≡ room_beside table.now [] (sender.now ∷ []) }
 {
     match lookup::find(table, tags, sender) {
-        Found::At(_) => true,
-        Found::Nothing => 0 < table::count_free(table),
+        Some(_) => true,
+        None => 0 < table::count_free(table),
     }
 }

@@ -20,16 +20,12 @@ use Rattle.octets.specs.Finding.{length_before}
 use Rattle.octets.specs.Written.{put_at, onto}
 use Rattle.octets.specs.Options.{in_front}
 use Rattle.octets.specs.Puts.{Written, TooLong, Puts, PutsText}
-use Rattle.octets.specs.declared.Laid.{Laid}
-use Rattle.octets.specs.declared.Laid.TheVariants.{At, NoRoom as Full}
 use Rattle.octets.proofs.Puts.{wrote_then, wrote_long, full_then, wrote_before, full_before}
-use Rattle.std.specs.Prelude.{Some}
+use Rattle.std.specs.Prelude.{Some, Option, None}
 use Rattle.pieces.specs.Pieces.{pieces, before, behind}
 use Rattle.pieces.proofs.Pieces.{sides_join, before_long, behind_drop}
 use Rattle.address.specs.Address.{plain, canonical}
 use Rattle.address.specs.Answers.{each_of, labels_by, written_of, onto_if_fits}
-use Rattle.address.specs.declared.Fitted.{Fitted}
-use Rattle.address.specs.declared.Fitted.TheVariants.{Length, NoRoom}
 use Rattle.address.proofs.Room.{written_fits, written_none, onto_fits, onto_none}
 use Rattle.address.proofs.Forming.{form_never, form_there, form_end}
 use Rattle.address.proofs.Spelling.{right, plain_canonical, canonical_most}
@@ -48,14 +44,14 @@ shown_by_labels : (t : List ℕ) → labels_by (λ p. Some (shown p)) t ≡ Some
 unfolding labels_by shown_labels
 shown_by_labels t = rw (labels_by, each_shown (pieces 46 t))
 
-some_puts : (d e : List ℕ) (at : ℕ) (w : List ℕ) (r : Laid) → PutsText d e at (Some w) r → Puts d e at w r
-some_puts d e at w (At m) h =
+some_puts : (d e : List ℕ) (at : ℕ) (w : List ℕ) (r : Option ℕ) → PutsText d e at (Some w) r → Puts d e at w r
+some_puts d e at w (Some m) h =
     let k : w ≡ h.text = cc (h.is) in
     record { octets = w; splits = sym (append-nil w); writes = rw k h.writes; counts = rw k h.counts; room = h.room }
-some_puts d e at w Full h = record { long = h.long w refl; same = h.same }
+some_puts d e at w None h = record { long = h.long w refl; same = h.same }
 
 pub labels_shown :
-    (d e : List ℕ) (at : ℕ) (t : List ℕ) (r : Laid) → PutsText d e at (labels_by (λ p. Some (shown p)) t) r → Puts d e at (shown_labels t) r
+    (d e : List ℕ) (at : ℕ) (t : List ℕ) (r : Option ℕ) → PutsText d e at (labels_by (λ p. Some (shown p)) t) r → Puts d e at (shown_labels t) r
 labels_shown d e at t r h = some_puts d e at (shown_labels t) r (rw shown_by_labels at h)
 
 -- an address in canonical form: n is the place of its `@`
@@ -83,13 +79,13 @@ module _ (s : List ℕ) (l : length (before 64 s) < length s) (n : ℕ) (r : n �
       let rest : behind 64 s ≡ drop (n + 1) s = behind_drop 64 s ∙ rw (← place) in
       rw (head, ← rest) (sym (append_assoc (before 64 s) (64 ∷ []) _))
 
-  module _ (d e : List ℕ) (g : Laid) (p : Puts d e 0 (take (n + 1) s) g) where
-    pub head_none : g ≡ Full → TooLong d 0 e (shown_form s)
+  module _ (d e : List ℕ) (g : Option ℕ) (p : Puts d e 0 (take (n + 1) s) g) where
+    pub head_none : g ≡ None → TooLong d 0 e (shown_form s)
     head_none q =
         let k : TooLong d 0 e (take (n + 1) s) = rw q at p in
         rw whole (full_before d 0 e (take (n + 1) s) _ k)
 
-    module _ (to : ℕ) (q : g ≡ At to) where
+    module _ (to : ℕ) (q : g ≡ Some to) where
       begun : Written d 0 e to (shown_form s) (shown_labels (drop (n + 1) s))
       begun =
           let k : Written d 0 e to (take (n + 1) s) [] = rw q at p in
@@ -98,23 +94,23 @@ module _ (s : List ℕ) (l : length (before 64 s) < length s) (n : ℕ) (r : n �
       pub head_room : to ≤ length e
       head_room = omega (arith, begun.room, wrote_long d 0 e to _ _ begun)
 
-      pub head_labels : (f : List ℕ) (o : Laid) → Puts e f to (shown_labels (drop (n + 1) s)) o → Puts d f 0 (shown_form s) o
-      head_labels f (At m) h = wrote_then d 0 e to (shown_form s) _ begun f m [] h
-      head_labels f Full h = full_then d 0 e to (shown_form s) _ begun f h
+      pub head_labels : (f : List ℕ) (o : Option ℕ) → Puts e f to (shown_labels (drop (n + 1) s)) o → Puts d f 0 (shown_form s) o
+      head_labels f (Some m) h = wrote_then d 0 e to (shown_form s) _ begun f m [] h
+      head_labels f None h = full_then d 0 e to (shown_form s) _ begun f h
 
 pub ruleset putting_address = (head_end, head_sum, head_count, head_none, head_room, head_labels, rules)
 
 -- a text that is written to the front of lent memory
 module _ (t d : List ℕ) where
   module _ (l : length d < length t) where
-    pub front_none : NoRoom ≡ written_of t (length d)
+    pub front_none : None ≡ written_of t (length d)
     front_none = sym (written_none t (length d) l)
 
     pub front_same : d ≡ onto_if_fits t d
     front_same = sym (onto_none t d l)
 
   module _ (l : length t ≤ length d) where
-    pub front_written : Length (length t) ≡ written_of t (length d)
+    pub front_written : Some (length t) ≡ written_of t (length d)
     front_written = sym (written_fits t (length d) l)
 
     pub front_kept : (out : List ℕ) → out ≡ put_at d 0 t → out ≡ onto_if_fits t d
@@ -124,18 +120,18 @@ module _ (t d : List ℕ) where
 pub ruleset putting_front = (front_none, front_same, front_written, front_kept, rules)
 
 -- what is shown of the form s, made in x₀, which is then x
-module _ (s x₀ x d : List ℕ) (most : length (shown_form s) ≤ 1016) (l : length x₀ ≡ 1016) (r : Laid) (h : Puts x₀ x 0 (shown_form s) r) where
-  module _ (q : r ≡ Full) where
+module _ (s x₀ x d : List ℕ) (most : length (shown_form s) ≤ 1016) (l : length x₀ ≡ 1016) (r : Option ℕ) (h : Puts x₀ x 0 (shown_form s) r) where
+  module _ (q : r ≡ None) where
     never : ⊥
     never = let k : TooLong x₀ 0 x (shown_form s) = rw q at h in omega (arith, k.long)
 
-    pub never_written : NoRoom ≡ written_of (shown_form s) (length d)
+    pub never_written : None ≡ written_of (shown_form s) (length d)
     never_written = absurd never
 
     pub never_kept : d ≡ onto_if_fits (shown_form s) d
     never_kept = absurd never
 
-  module _ (n : ℕ) (q : r ≡ At n) where
+  module _ (n : ℕ) (q : r ≡ Some n) where
     made : Written x₀ 0 x n (shown_form s) []
     made = rw q at h
 
@@ -152,7 +148,7 @@ module _ (s x₀ x d : List ℕ) (most : length (shown_form s) ≤ 1016) (l : le
         ∙ take_at made.octets (drop (0 + length made.octets) x₀) n (sym (made.counts ∙ zero-add _))
         ∙ sym (made.splits ∙ append-nil made.octets)
 
-    pub made_written : (g : Fitted) → g ≡ written_of (take n x) (length d) → g ≡ written_of (shown_form s) (length d)
+    pub made_written : (g : Option ℕ) → g ≡ written_of (take n x) (length d) → g ≡ written_of (shown_form s) (length d)
     made_written g e = e ∙ rw made_is
 
     pub made_kept : (out : List ℕ) → out ≡ onto_if_fits (take n x) d → out ≡ onto_if_fits (shown_form s) d
@@ -161,18 +157,18 @@ module _ (s x₀ x d : List ℕ) (most : length (shown_form s) ≤ 1016) (l : le
 pub ruleset showing_form = (never_written, never_kept, made_end, made_count, made_written, made_kept, rules)
 
 -- a plain address s, whose form is written into f₀, which is then f
-module _ (s f₀ f d : List ℕ) (p : plain s ≡ true) (l : length f₀ ≡ 254) (g : Fitted) (w : g ≡ written_of (canonical s) (length f₀)) where
-  module _ (q : g ≡ NoRoom) where
+module _ (s f₀ f d : List ℕ) (p : plain s ≡ true) (l : length f₀ ≡ 254) (g : Option ℕ) (w : g ≡ written_of (canonical s) (length f₀)) where
+  module _ (q : g ≡ None) where
     fits : ⊥
     fits = form_never s p (length f₀) (omega arith) g w q
 
-    pub none_written : NoRoom ≡ written_of (displayed s) (length d)
+    pub none_written : None ≡ written_of (displayed s) (length d)
     none_written = absurd fits
 
     pub none_kept : d ≡ onto_if_fits (displayed s) d
     none_kept = absurd fits
 
-  module _ (n : ℕ) (q : g ≡ Length n) (o : f ≡ onto_if_fits (canonical s) f₀) where
+  module _ (n : ℕ) (q : g ≡ Some n) (o : f ≡ onto_if_fits (canonical s) f₀) where
     its : take n f ≡ canonical s
     its = rw sub-zero at (form_there s p (length f₀) (omega arith) g w n q f₀ f o refl)
 
@@ -195,7 +191,7 @@ module _ (s f₀ f d : List ℕ) (p : plain s ≡ true) (l : length f₀ ≡ 254
     pub its_most : length (shown_form (take n f)) ≤ 1016
     its_most = rw is_displayed (displayed_most s p)
 
-    pub its_written : (h : Fitted) → h ≡ written_of (shown_form (take n f)) (length d) → h ≡ written_of (displayed s) (length d)
+    pub its_written : (h : Option ℕ) → h ≡ written_of (shown_form (take n f)) (length d) → h ≡ written_of (displayed s) (length d)
     its_written h e = e ∙ rw is_displayed
 
     pub its_kept : (out : List ℕ) → out ≡ onto_if_fits (shown_form (take n f)) d → out ≡ onto_if_fits (displayed s) d

@@ -20,8 +20,6 @@ use lib.Seq.{length-take-le, take_all}
 use Rattle.octets.specs.Octets.{same_octets, starts_with}
 use Rattle.octets.specs.Written.{put_at}
 use Rattle.octets.specs.Puts.{Written, Puts, Told, Untold, PutsText}
-use Rattle.octets.specs.declared.Laid.{Laid}
-use Rattle.octets.specs.declared.Laid.TheVariants.{At, NoRoom}
 use Rattle.octets.proofs.Comparing.{opens_long}
 use Rattle.octets.proofs.Lists.{lt_or_le}
 use Rattle.octets.proofs.Options.{by_option}
@@ -32,8 +30,6 @@ use Rattle.codepoints.proofs.Bounds.{encoded_most}
 use Rattle.punycode.specs.Punycode.{decode}
 use Rattle.punycode.proofs.Sound.{decode_scalars, decode_most}
 use Rattle.decoder.specs.Steps.{Shown, NoText, Decodes}
-use Rattle.decoder.specs.declared.Decoded.{Decoded}
-use Rattle.decoder.specs.declared.Decoded.TheVariants.{Points, Nothing}
 use Rattle.labels.specs.Labels.{opening, label_form, label}
 use Rattle.labels.specs.Answers.{label_of}
 use Rattle.labels.proofs.Forming.{label_own, label_of_lem, of_label}
@@ -48,15 +44,15 @@ text_put d t e at i l p =
 pub ruleset putting_text = (text_put, rules)
 
 -- a text t and a form w. The text's own form is written into f₀, which is then f.
-module _ (t w f₀ f : List ℕ) (l : length f₀ ≡ 63) (r : Laid) (h : PutsText f₀ f 0 (label_of t) r) where
-  pub own_none : r ≡ NoRoom → false ≡ (label t && same_form w (label_form t))
+module _ (t w f₀ f : List ℕ) (l : length f₀ ≡ 63) (r : Option ℕ) (h : PutsText f₀ f 0 (label_of t) r) where
+  pub own_none : r ≡ None → false ≡ (label t && same_form w (label_form t))
   own_none q =
       let k : Untold f₀ 0 f (label_of t) = rw q at h in
       by_test (label t)
       (λ e. absurd (omega (arith, k.long _ (label_of_lem t e), (label_own t e).short)))
       (λ e. rw e)
 
-  module _ (n : ℕ) (q : r ≡ At n) where
+  module _ (n : ℕ) (q : r ≡ Some n) where
     own : Told f₀ 0 f n (label_of t)
     own = rw q at h
 
@@ -80,14 +76,14 @@ module _ (t w f₀ f : List ℕ) (l : length f₀ ≡ 63) (r : Laid) (h : PutsTe
 pub ruleset having_form = (own_none, own_end, own_count, own_same, rules)
 
 -- the code points p₀ as they came, and p as they are decoded from c
-module _ (c d p₀ p : List ℕ) (o : Decoded) where
-  pub decoded_none : o ≡ Nothing → Decodes p₀ p (decode c) o → Untold d 0 d (text_of (decode c))
+module _ (c d p₀ p : List ℕ) (o : Option ℕ) where
+  pub decoded_none : o ≡ None → Decodes p₀ p (decode c) o → Untold d 0 d (text_of (decode c))
   unfolding text_of
   decoded_none a q =
       let k : NoText p₀ p (decode c) = rw a at q in
       untold_none d 0 d _ (ap text_of k.text) refl
 
-  module _ (n : ℕ) (a : o ≡ Points n) (q : Decodes p₀ p (decode c) o) where
+  module _ (n : ℕ) (a : o ≡ Some n) (q : Decodes p₀ p (decode c) o) where
     read : Shown p₀ p (decode c) n
     read = rw a at q
 
@@ -104,13 +100,13 @@ module _ (c d p₀ p : List ℕ) (o : Decoded) where
     unfolding text_of
     is_text = ap text_of read.text
 
-    pub decoded_put : (e : List ℕ) (r : Laid) → Puts d e 0 (encoded (take n p)) r → PutsText d e 0 (text_of (decode c)) r
+    pub decoded_put : (e : List ℕ) (r : Option ℕ) → Puts d e 0 (encoded (take n p)) r → PutsText d e 0 (text_of (decode c)) r
     decoded_put e r h = put_told d e 0 _ (encoded (take n p)) is_text r h
 
 pub ruleset putting_decoded = (decoded_none, decoded_end, decoded_count, decoded_points, decoded_put, rules)
 
 -- what the buffer d is left as, e, where a text is written from `at` on
-module _ (d e : List ℕ) (at : ℕ) (r : Laid) where
+module _ (d e : List ℕ) (at : ℕ) (r : Option ℕ) where
   module _ (t w : List ℕ) (b : Bool) where
     pub either_text : b ≡ true → b ≡ (label t && same_form w (label_form t)) → Puts d e at t r → Puts d e at (either_of w t) r
     unfolding either_of
@@ -136,8 +132,8 @@ module _ (w : List ℕ) (few : 4 ≤ length w) (most : length w ≤ 63) where
   code_is : code ≡ drop 4 w
   code_is = take_all (length w - 4) (drop 4 w) (omega (arith, length-drop 4 w))
 
-  module _ (x₀ x : List ℕ) (l : length x₀ ≡ 236) (o : Laid) (h : PutsText x₀ x 0 (text_of (decode code)) o) (d e : List ℕ) (at : ℕ) (r : Laid) where
-    pub opened_none : o ≡ NoRoom → Puts d e at w r → Puts d e at (shown_by w (decode (drop 4 w))) r
+  module _ (x₀ x : List ℕ) (l : length x₀ ≡ 236) (o : Option ℕ) (h : PutsText x₀ x 0 (text_of (decode code)) o) (d e : List ℕ) (at : ℕ) (r : Option ℕ) where
+    pub opened_none : o ≡ None → Puts d e at w r → Puts d e at (shown_by w (decode (drop 4 w))) r
     unfolding shown_by text_of
     opened_none q p =
         let k : Untold x₀ 0 x (text_of (decode code)) = rw q at h in
@@ -146,7 +142,7 @@ module _ (w : List ℕ) (few : 4 ≤ length w) (most : length w ≤ 63) where
         (λ y. rw (← code_is, y) p)
         (λ ps y. absurd (s ps y))
 
-  module _ (x₀ x : List ℕ) (n : ℕ) (o : Laid) (q : o ≡ At n) (h : PutsText x₀ x 0 (text_of (decode code)) o) where
+  module _ (x₀ x : List ℕ) (n : ℕ) (o : Option ℕ) (q : o ≡ Some n) (h : PutsText x₀ x 0 (text_of (decode code)) o) where
     told : Told x₀ 0 x n (text_of (decode code))
     told = rw q at h
 
@@ -162,7 +158,7 @@ module _ (w : List ℕ) (few : 4 ≤ length w) (most : length w ≤ 63) where
         ∙ by_text w (decode code) told.text told.is
         ∙ ap (either_of w) (sym (rw sub-zero at (told_front x₀ x n _ told)))
 
-    pub opened_put : (d e : List ℕ) (at : ℕ) (r : Laid) → Puts d e at (either_of w (take n x)) r → Puts d e at (shown_by w (decode (drop 4 w))) r
+    pub opened_put : (d e : List ℕ) (at : ℕ) (r : Option ℕ) → Puts d e at (either_of w (take n x)) r → Puts d e at (shown_by w (decode (drop 4 w))) r
     opened_put d e at r p = rw either_is p
 
 pub ruleset putting_opened = (opened_none, opened_end, opened_count, opened_put, rules)
@@ -176,7 +172,7 @@ module _ (w : List ℕ) where
       (λ (l : 4 ≤ length w). l)
       (lt_or_le (length w) 4)
 
-  module _ (d e : List ℕ) (at : ℕ) (r : Laid) where
+  module _ (d e : List ℕ) (at : ℕ) (r : Option ℕ) where
     pub long_shown : 63 < length w → Puts d e at w r → Puts d e at (shown w) r
     long_shown l h = rw (shown_long w l) h
 

@@ -19,7 +19,6 @@ use Rattle.slots.proofs.Goodness.{good_entry}
 use Rattle.table.specs.Table.{slots, slot_at, found, checked}
 use Rattle.table.specs.Entries.{entry_in}
 use Rattle.table.specs.declared.Checked.TheVariants.{Sound}
-use Rattle.table.specs.declared.Found.TheVariants.{At, Nothing}
 use Rattle.table.proofs.Slots.{slot_octets, slot_long}
 use Rattle.table.proofs.Lowest.{by_found}
 use Rattle.table.proofs.Finding.{found_at, found_used, found_address}
@@ -27,19 +26,19 @@ use Rattle.table.proofs.Judging.{whole_few}
 use Rattle.table.proofs.Keeping.{table_sound, used_sound}
 
 module _ (t a : List ℕ) where
-  pub entry_at : (i : ℕ) → found t a ≡ At i → entry_in t a ≡ Some (entry_of (slot_at t i))
+  pub entry_at : (i : ℕ) → found t a ≡ Some i → entry_in t a ≡ Some (entry_of (slot_at t i))
   unfolding entry_in
   entry_at i e = rw (entry_in, e)
 
-  pub entry_nothing : found t a ≡ Nothing → entry_in t a ≡ None
+  pub entry_nothing : found t a ≡ None → entry_in t a ≡ None
   unfolding entry_in
   entry_nothing e = rw (entry_in, e)
 
-  pub entry_sound : checked t ≡ Sound → (i : ℕ) → found t a ≡ At i → sound (slot_at t i) ≡ true
+  pub entry_sound : checked t ≡ Sound → (i : ℕ) → found t a ≡ Some i → sound (slot_at t i) ≡ true
   entry_sound s i e = (used_sound t (table_sound t s) i (found_at t a i e).0 (found_used t a i e)).0
 
 module _ (t a : List ℕ) (s : checked t ≡ Sound) (o : AllOctets t) where
-  pub found_good : (i : ℕ) → found t a ≡ At i → Good (entry_of (slot_at t i))
+  pub found_good : (i : ℕ) → found t a ≡ Some i → Good (entry_of (slot_at t i))
   found_good i e =
       good_entry (slot_at t i) (slot_long t i (found_at t a i e).0) (sound_parts (slot_at t i) (entry_sound t a s i e)) (slot_octets t i o)
 

@@ -7,6 +7,7 @@
 --     write_sound             a good entry written where no other slot has its address
 --     write_new, write_own    the two places of that kind: a slot when the address is new, and the address's own
 -- Assumes nothing.
+use Rattle.std.specs.Prelude.{Option, Some, None}
 use Prim.Native.Nat.{ℕ, suc, zero, ◌+◌, ◌<◌, ◌≤◌}
 use mathlib.Core.Path.{◌≡◌, refl, sym, ◌∙◌}
 use mathlib.Core.Logic.{⊎_elim}
@@ -30,8 +31,6 @@ use Rattle.slots.proofs.Made.{slot_long, slot_sound, address_kept}
 use Rattle.table.specs.Table.{slots, slot_at, with_slot, has_address, lowest, is_at, in_lower, right_by, right, whole, judged_by, checked_by, checked, found}
 use Rattle.table.specs.Slotwise.{TableBy, SoundTable}
 use Rattle.table.specs.declared.Checked.TheVariants.{Sound, Length, Slot}
-use Rattle.table.specs.declared.Found.{Found}
-use Rattle.table.specs.declared.Found.TheVariants.{At, Nothing}
 use Rattle.table.proofs.Slots.{length_kept, slots_kept, slot_same, slot_other}
 use Rattle.table.proofs.Judging.{judged_on, judged_here, checked_slots, checked_length}
 use Rattle.table.proofs.Finding.{lowest_nothing, lowest_none, found_at, found_nothing, has_used, has_address_lem}
@@ -96,9 +95,9 @@ or_sound true s l p q = refl
 or_sound false s l p q = rw (p, q)
 
 -- an answer that is no index
-not_at : (f : Found) → is_at f ≡ false → f ≡ Nothing
-not_at (At i) e = absurd (false≢true (sym e))
-not_at Nothing e = refl
+not_at : (f : Option ℕ) → is_at f ≡ false → f ≡ None
+not_at (Some i) e = absurd (false≢true (sym e))
+not_at None e = refl
 
 module _ (t : List ℕ) where
   -- the address of slot i stands in no lower slot
@@ -134,7 +133,7 @@ module _ (t : List ℕ) (s : SoundTable t) where
       (λ (h : j ≤ i). ⊎_elim (λ (g : j < i). absurd (apart a j i g l q p)) (λ (g : i ≤ j). omega arith) (lt_or_le j i))
       (lt_or_le i j)
 
-  pub others_not : (a : List ℕ) (i : ℕ) → found t a ≡ At i → (j : ℕ) → j < slots t → (j ≡ i → ⊥) → has_address a (slot_at t j) ≡ false
+  pub others_not : (a : List ℕ) (i : ℕ) → found t a ≡ Some i → (j : ℕ) → j < slots t → (j ≡ i → ⊥) → has_address a (slot_at t j) ≡ false
   others_not a i e j l n =
       by_test (has_address a (slot_at t j)) (λ h. absurd (n (alone a j i l (found_at t a i e).0 h (found_at t a i e).1))) (λ h. h)
 
@@ -208,8 +207,8 @@ module _ (t : List ℕ) (s : SoundTable t) (e : Entry) (g : Good e) (i : ℕ) (l
       })
 
 module _ (t : List ℕ) (s : SoundTable t) (e : Entry) (g : Good e) (i : ℕ) where
-  pub write_new : i < slots t → found t e.address ≡ Nothing → checked (with_slot t i (slot_of e)) ≡ Sound
+  pub write_new : i < slots t → found t e.address ≡ None → checked (with_slot t i (slot_of e)) ≡ Sound
   write_new l f = write_sound t s e g i l (λ j k d. found_nothing t e.address f j k)
 
-  pub write_own : found t e.address ≡ At i → checked (with_slot t i (slot_of e)) ≡ Sound
+  pub write_own : found t e.address ≡ Some i → checked (with_slot t i (slot_of e)) ≡ Sound
   write_own f = write_sound t s e g i (found_at t e.address i f).0 (λ j k d. others_not t s e.address i f j k d)

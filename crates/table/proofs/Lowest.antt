@@ -6,6 +6,7 @@
 --     some_free                  where a slot is free there is a lowest one
 --     free_most                  no more slots are free than there are
 -- Assumes nothing.
+use Rattle.std.specs.Prelude.{Option, Some, None}
 use Prim.Native.Nat.{ℕ, suc, zero, ◌+◌, ◌<◌, ◌≤◌}
 use mathlib.Core.Path.{◌≡◌, refl, sym, ◌∙◌}
 use mathlib.Core.Logic.{⊎_elim}
@@ -15,17 +16,15 @@ use native.Mathlib.Omega.{arith}
 use Rattle.octets.proofs.Lists.{lt_or_le}
 use Rattle.octets.proofs.Tests.{by_test}
 use Rattle.table.specs.Table.{slots, slot_at, unused, lowest, how_many, lowest_free, free_count, is_at}
-use Rattle.table.specs.declared.Found.{Found}
-use Rattle.table.specs.declared.Found.TheVariants.{At, Nothing}
 use Rattle.table.proofs.Scanning.{lowest_here, lowest_later, many_more, many_same}
 
-pub by_found : {P : Type 0} (f : Found) → ((i : ℕ) → f ≡ At i → P) → (f ≡ Nothing → P) → P
-by_found (At i) h k = h i refl
-by_found Nothing h k = k refl
+pub by_found : {P : Type 0} (f : Option ℕ) → ((i : ℕ) → f ≡ Some i → P) → (f ≡ None → P) → P
+by_found (Some i) h k = h i refl
+by_found None h k = k refl
 
 module _ (test : List ℕ → Bool) (t : List ℕ) where
   pub lowest_is : (i k j : ℕ) → i ≤ j → j < i + k → test (slot_at t j) ≡ true → ((m : ℕ) → i ≤ m → m < j → test (slot_at t m) ≡ false)
-      → lowest test t i k ≡ At j
+      → lowest test t i k ≡ Some j
   lowest_is i zero j a b p f = absurd (omega arith)
   lowest_is i (suc k) j a b p f =
       ⊎_elim (λ (l : i < j). lowest_later test t i k (f i (omega arith) l) ∙ lowest_is (i + 1) k j (omega arith) (omega arith) p (λ m c d. f m (omega arith) d))
@@ -33,13 +32,13 @@ module _ (test : List ℕ → Bool) (t : List ℕ) where
       (lt_or_le i j)
 
   -- where none passes there are none that do
-  none_many : (i k : ℕ) → lowest test t i k ≡ Nothing → how_many test t i k ≡ 0
+  none_many : (i k : ℕ) → lowest test t i k ≡ None → how_many test t i k ≡ 0
   unfolding how_many
   none_many i zero e = refl
   none_many i (suc k) e =
       by_test (test (slot_at t i))
       (λ h.
-      let q : At i ≡ Nothing = sym (lowest_here test t i k h) ∙ e in
+      let q : Some i ≡ None = sym (lowest_here test t i k h) ∙ e in
       let z : ◌≡◌ {A = ℕ} 0 1 = cc in
       absurd (omega arith))
       (λ h. many_same test t i k h ∙ none_many (i + 1) k (sym (lowest_later test t i k h) ∙ e))

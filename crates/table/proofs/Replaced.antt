@@ -27,7 +27,6 @@ use Rattle.slots.proofs.Sounds.{unmarked_not_sound}
 use Rattle.slots.proofs.Made.{slot_long, slot_sound, address_kept, entry_back}
 use Rattle.table.specs.Table.{slots, slot_at, with_slot, unused, has_address, found, free_count}
 use Rattle.table.specs.Entries.{entry_in}
-use Rattle.table.specs.declared.Found.TheVariants.{At}
 use Rattle.table.proofs.Slots.{room, slots_kept, slot_same, slot_other}
 use Rattle.table.proofs.Lowest.{by_found, lowest_is, lowest_same, many_alike, many_fewer}
 use Rattle.table.proofs.Finding.{found_at}
@@ -73,7 +72,7 @@ module _ (t : List ℕ) (i : ℕ) (l : i < slots t) (e : Entry) (g : Good e) whe
   kept : slots (with_slot t i (slot_of e)) ≡ slots t
   kept = slots_kept t (slot_of e) i l (slot_long e g)
 
-  pub found_written : ((j : ℕ) → j < slots t → (j ≡ i → ⊥) → has_address e.address (slot_at t j) ≡ false) → found (with_slot t i (slot_of e)) e.address ≡ At i
+  pub found_written : ((j : ℕ) → j < slots t → (j ≡ i → ⊥) → has_address e.address (slot_at t j) ≡ false) → found (with_slot t i (slot_of e)) e.address ≡ Some i
   unfolding found
   found_written n =
       rw kept

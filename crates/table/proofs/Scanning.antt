@@ -5,6 +5,7 @@
 --     Tally t n many i            of n slots so many before i are free
 --     finding_free, tallying      the scans for free slots
 -- Assumes nothing.
+use Rattle.std.specs.Prelude.{Some, None}
 use Prim.Native.Nat.{ℕ, suc, ◌+◌, ◌-◌, ◌<◌, ◌≤◌}
 use mathlib.Core.Path.{◌≡◌, sym, ◌∙◌}
 use mathlib.Core.Bool.{Bool, true, false}
@@ -15,11 +16,10 @@ use borrow.Author.Rules.{rules}
 use Rattle.octets.proofs.Lists.{left_one}
 use Rattle.slots.specs.Slot.{marked}
 use Rattle.table.specs.Table.{slots, slot_at, unused, lowest, how_many, lowest_free, free_count}
-use Rattle.table.specs.declared.Found.TheVariants.{At, Nothing}
 
 -- one slot
 module _ (test : List ℕ → Bool) (t : List ℕ) (i k : ℕ) where
-  pub lowest_here : test (slot_at t i) ≡ true → lowest test t i (suc k) ≡ At i
+  pub lowest_here : test (slot_at t i) ≡ true → lowest test t i (suc k) ≡ Some i
   unfolding lowest
   lowest_here e = rw (lowest, e)
 
@@ -47,10 +47,10 @@ module _ (test : List ℕ → Bool) (t : List ℕ) (n : ℕ) where
     pub scan_no : i < n → test (slot_at t i) ≡ false → Scan test t n (i + 1)
     scan_no l e = record { upto = omega arith; so_far = h.so_far ∙ rw (left_one n i l) (lowest_later test t i (n - (i + 1)) e) }
 
-    pub scan_yes : i < n → test (slot_at t i) ≡ true → At i ≡ lowest test t 0 n
+    pub scan_yes : i < n → test (slot_at t i) ≡ true → Some i ≡ lowest test t 0 n
     scan_yes l e = sym (h.so_far ∙ rw (left_one n i l) (lowest_here test t i (n - (i + 1)) e))
 
-    pub scan_end : n ≤ i → Nothing ≡ lowest test t 0 n
+    pub scan_end : n ≤ i → None ≡ lowest test t 0 n
     unfolding lowest
     scan_end l =
         let z : n - i ≡ 0 = omega arith in
@@ -69,11 +69,11 @@ module _ (t : List ℕ) (n i : ℕ) (e : n ≡ slots t) where
     unfolding unused
     free_no b l p q = scan_no unused t n i h l (rw (sym p ∙ q))
 
-    pub free_yes : (b : Bool) → i < n → b ≡ marked (slot_at t i) → b ≡ false → At i ≡ lowest_free t
+    pub free_yes : (b : Bool) → i < n → b ≡ marked (slot_at t i) → b ≡ false → Some i ≡ lowest_free t
     unfolding lowest_free unused
     free_yes b l p q = rw (← e) (scan_yes unused t n i h l (rw (sym p ∙ q)))
 
-    pub free_end : n ≤ i → Nothing ≡ lowest_free t
+    pub free_end : n ≤ i → None ≡ lowest_free t
     unfolding lowest_free
     free_end l = rw (← e) (scan_end unused t n i h l)
 

@@ -28,7 +28,6 @@ use Rattle.heads.specs.Entry.{head_for}
 use Rattle.slots.specs.Entry.{padded, areas, slot_of}
 use Rattle.table.specs.Table.{slots, slot_at, unused, has_address, lowest, how_many, found, lowest_free, free_count, in_lower, right_by, whole, judged_by, checked_by, checked}
 use Rattle.table.specs.declared.Checked.TheVariants.{Sound, Length, Slot}
-use Rattle.table.specs.declared.Found.TheVariants.{At, Nothing}
 
 no_slots : checked [] ≡ Length
 unfolding checked_by whole slots
@@ -55,15 +54,15 @@ alice =
       gossip = None;
     })
 
-second_found : found (empty ++ alice) (ascii "alice@a.example") ≡ At 1
+second_found : found (empty ++ alice) (ascii "alice@a.example") ≡ Some 1
 unfolding empty alice slot_of areas padded head_octets times lengths digits bits_of head_for found slots lowest has_address marked same_octets address_of number slot_at or_else is_some
 second_found = refl
 
-not_found : found (empty ++ alice) (ascii "bob@a.example") ≡ Nothing
+not_found : found (empty ++ alice) (ascii "bob@a.example") ≡ None
 unfolding empty alice slot_of areas padded head_octets times lengths digits bits_of head_for found slots lowest has_address marked same_octets address_of number slot_at or_else is_some
 not_found = refl
 
-second_free : lowest_free (alice ++ empty) ≡ At 1
+second_free : lowest_free (alice ++ empty) ≡ Some 1
 unfolding empty alice slot_of areas padded head_octets times lengths digits bits_of head_for lowest_free unused slots lowest marked same_octets slot_at or_else
 second_free = refl
 

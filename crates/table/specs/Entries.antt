@@ -6,11 +6,10 @@ use Rattle.std.specs.Prelude.{Option, Some, None}
 use Rattle.heads.specs.Entry.{Entry}
 use Rattle.slots.specs.Entry.{entry_of}
 use Rattle.table.specs.Table.{slot_at, found}
-use Rattle.table.specs.declared.Found.TheVariants.{At, Nothing}
 
 -- T15: the entry of a canonical address
 unfoldable pub entry_in : List ℕ → List ℕ → Option Entry
-entry_in t a = elim (found t a) [ At i ↦ Some (entry_of (slot_at t i)) | Nothing ↦ None ]
+entry_in t a = elim (found t a) [ Some i ↦ Some (entry_of (slot_at t i)) | None ↦ None ]
 
 -- C10: two tables that hold the same entry for every address. A word of statements, which no contract cites
 abbrev pub Alike : List ℕ → List ℕ → Type 0

@@ -10,7 +10,7 @@
 --     right_by                 a slot that is free or sound, in its table
 --     whole, judged_by, checked_by  refusals 1 and 2
 --     right, checked           with the spelling of addresses that is in force
-use Rattle.std.specs.Prelude.{ℕ, zero, suc, ◌+◌, ◌*◌, ◌/◌, ◌%◌, Bool, true, false, not, ◌&&◌, ◌||◌, List, leb, eqb, length, take, drop}
+use Rattle.std.specs.Prelude.{ℕ, zero, suc, ◌+◌, ◌*◌, ◌/◌, ◌%◌, Bool, true, false, not, ◌&&◌, ◌||◌, List, leb, eqb, length, take, drop, Option, Some, None}
 use Rattle.octets.specs.Octets.{same_octets}
 use Rattle.octets.specs.Written.{put_at}
 use Rattle.slots.specs.Slot.{slot_length, address_of, marked, free, sound_by}
@@ -18,8 +18,6 @@ use Rattle.slots.specs.declared.Spelling.{Spelling}
 use Rattle.slots.specs.declared.Spelling.TheVariants.{Canonical}
 use Rattle.table.specs.declared.Checked.{Checked}
 use Rattle.table.specs.declared.Checked.TheVariants.{Sound, Length, Slot}
-use Rattle.table.specs.declared.Found.{Found}
-use Rattle.table.specs.declared.Found.TheVariants.{At, Nothing}
 
 -- T1: a table has at most 256 slots
 abbrev pub most_slots : ℕ
@@ -46,9 +44,9 @@ unfoldable pub has_address : List ℕ → List ℕ → Bool
 has_address a s = marked s && same_octets (address_of s) a
 
 -- the lowest that passes the test, of the k slots from slot i on
-unfoldable pub lowest : (List ℕ → Bool) → List ℕ → ℕ → ℕ → Found
-lowest test t i zero = Nothing
-lowest test t i (suc k) = elim (test (slot_at t i)) [ true ↦ At i | false ↦ lowest test t (i + 1) k ]
+unfoldable pub lowest : (List ℕ → Bool) → List ℕ → ℕ → ℕ → Option ℕ
+lowest test t i zero = None
+lowest test t i (suc k) = elim (test (slot_at t i)) [ true ↦ Some i | false ↦ lowest test t (i + 1) k ]
 
 -- how many pass the test, of the k slots from slot i on
 unfoldable pub how_many : (List ℕ → Bool) → List ℕ → ℕ → ℕ → ℕ
@@ -56,11 +54,11 @@ how_many test t i zero = 0
 how_many test t i (suc k) = elim (test (slot_at t i)) [ true ↦ 1 + how_many test t (i + 1) k | false ↦ how_many test t (i + 1) k ]
 
 -- T15: where the entry of a canonical address stands, if it has one
-unfoldable pub found : List ℕ → List ℕ → Found
+unfoldable pub found : List ℕ → List ℕ → Option ℕ
 found t a = lowest (has_address a) t 0 (slots t)
 
 -- U4: the free slot with the lowest index
-unfoldable pub lowest_free : List ℕ → Found
+unfoldable pub lowest_free : List ℕ → Option ℕ
 lowest_free t = lowest unused t 0 (slots t)
 
 -- R8: how many slots are free
@@ -68,9 +66,9 @@ unfoldable pub free_count : List ℕ → ℕ
 free_count t = how_many unused t 0 (slots t)
 
 -- whether there is such a slot
-abbrev pub is_at : Found → Bool
-is_at (At i) = true
-is_at Nothing = false
+abbrev pub is_at : Option ℕ → Bool
+is_at (Some i) = true
+is_at None = false
 
 -- T8.3: whether the address of slot i stands in a slot with a lower index. A broken one counts too, which makes no difference (T12)
 unfoldable pub in_lower : List ℕ → ℕ → Bool

@@ -24,12 +24,6 @@ pub enum Checked {
     Slot(usize),
 }
 
-// The index of a slot, or that there is none.
-#[derive(Clone, Copy)]
-pub enum Found {
-    At(usize),
-    Nothing,
-}
 
 // How many whole slots there are (T1).
 #[tactic(auto, unfolding(crate::specs::Table::slots))]
@@ -59,15 +53,15 @@ pub fn is_used(table: &[u8], i: usize) -> bool
 
 // The free slot with the lowest index (U4). In a sound table a slot without the mark is free (T4).
 #[tactic(auto, using(crate::proofs::Scanning::finding_free))]
-pub fn lowest_free(table: &[u8]) -> Found
+pub fn lowest_free(table: &[u8]) -> Option<usize>
     ensures { result ≡ lowest_free table.now }
 {
     for i in 0..count(table) {
         if !is_used(table, i) {
-            return Found::At(i);
+            return Some(i);
         }
     }
-    Found::Nothing
+    None
 }
 
 // How many slots are free (R8).

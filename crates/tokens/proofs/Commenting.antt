@@ -11,7 +11,7 @@ use Prim.Native.Nat.{ℕ, suc, zero, ◌+◌, ◌-◌, ◌<◌, ◌≤◌}
 use mathlib.Core.Path.{◌≡◌, refl, sym, ◌∙◌}
 use mathlib.Core.Bool.{false}
 use mathlib.Core.List.{List}
-use Rattle.std.specs.Prelude.{None}
+use Rattle.std.specs.Prelude.{None, Option, Some}
 use native.Mathlib.Omega.{arith}
 use native.Mathlib.Numerals.{add-one}
 use borrow.Author.Rules.{rules}
@@ -24,8 +24,6 @@ use Rattle.tokens.specs.Answers.{step_in, opened, Opening, Passing, Passed}
 use Rattle.tokens.proofs.Stepping.{Moved, moved}
 use Rattle.tokens.specs.declared.StepIn.{StepIn}
 use Rattle.tokens.specs.declared.StepIn.TheVariants.{On, Ends, Stops}
-use Rattle.tokens.specs.declared.Reached.{Reached}
-use Rattle.tokens.specs.declared.Reached.TheVariants.{To, Unreadable}
 
 past_end : (s : List ℕ) (i n : ℕ) → length s ≤ i → past (suc n) false (drop i s) ≡ None
 unfolding past
@@ -80,17 +78,17 @@ module _ (s : List ℕ) (at room i : ℕ) (h : Inside s at room i) where
     inside_stops q = h.same ∙ told Stops q
 
   -- a comment inside, which the reader of comments has passed or found unreadable
-  module _ (r : Reached) (fits : room < 16) (p : Passed s i (opened room) (opened room) r) where
-    read : (k : Reached) → r ≡ k → Passed s i (suc (opened (room + 1))) (suc (opened (room + 1))) k
+  module _ (r : Option ℕ) (fits : room < 16) (p : Passed s i (opened room) (opened room) r) where
+    read : (k : Option ℕ) → r ≡ k → Passed s i (suc (opened (room + 1))) (suc (opened (room + 1))) k
     read k q = rw (← one_more room fits, ← q) p
 
-    pub inside_comment : (m : ℕ) → r ≡ To m → Inside s at room m
-    inside_comment m q = record { from = omega (arith, read (To m) q); same = h.same ∙ (read (To m) q).same }
+    pub inside_comment : (m : ℕ) → r ≡ Some m → Inside s at room m
+    inside_comment m q = record { from = omega (arith, read (Some m) q); same = h.same ∙ (read (Some m) q).same }
 
-    pub inside_unread : r ≡ Unreadable → past (suc (opened (room + 1))) false (drop at s) ≡ None
-    inside_unread q = h.same ∙ read Unreadable q
+    pub inside_unread : r ≡ None → past (suc (opened (room + 1))) false (drop at s) ≡ None
+    inside_unread q = h.same ∙ read None q
 
-pub comment_nearer : (s : List ℕ) (i before after m : ℕ) (r : Reached) → Passed s i before after r → r ≡ To m → length s - m < length s - i
+pub comment_nearer : (s : List ℕ) (i before after m : ℕ) (r : Option ℕ) → Passed s i before after r → r ≡ Some m → length s - m < length s - i
 comment_nearer s i before after m r p q = let t : Passing s i before after m = rw q at p in omega arith
 
 module _ (s : List ℕ) (at room : ℕ) (p : Opening s at room) where
@@ -98,7 +96,7 @@ module _ (s : List ℕ) (at room : ℕ) (p : Opening s at room) where
   comment_full e = rw e (past_too_deep s at p.0 p.1)
 
   pub comment_whole :
-      (r : Reached) → (room ≡ 0 → ⊥) → Passed s (at + 1) (suc (opened ((room - 1) + 1))) (opened ((room - 1) + 1)) r
+      (r : Option ℕ) → (room ≡ 0 → ⊥) → Passed s (at + 1) (suc (opened ((room - 1) + 1))) (opened ((room - 1) + 1)) r
       → Passed s at (opened room) (opened room) r
   comment_whole r more c = go r (rw same_room at c)
     where
@@ -108,9 +106,9 @@ module _ (s : List ℕ) (at room : ℕ) (p : Opening s at room) where
       begun : past (opened room) false (drop at s) ≡ past (suc (opened room)) false (drop (at + 1) s)
       begun = past_opens s at p.0 (opened room) p.1 (omega arith)
 
-      go : (k : Reached) → Passed s (at + 1) (suc (opened room)) (opened room) k → Passed s at (opened room) (opened room) k
-      go (To n) t = record { beyond = omega arith; upto = t.upto; same = begun ∙ t.same }
-      go Unreadable t = begun ∙ t
+      go : (k : Option ℕ) → Passed s (at + 1) (suc (opened room)) (opened room) k → Passed s at (opened room) (opened room) k
+      go (Some n) t = record { beyond = omega arith; upto = t.upto; same = begun ∙ t.same }
+      go None t = begun ∙ t
 
 pub ruleset commenting =
     (inside_begin, inside_end, inside_on, inside_nearer, inside_ends, inside_stops, inside_comment, inside_unread, comment_nearer, comment_full, comment_whole, rules)

@@ -19,7 +19,6 @@ use native.Mathlib.Numerals.{add-one}
 use lib.ListN.{length, drop, length-drop}
 use lib.Seq.{drop-drop}
 use Rattle.tokens.specs.Answers.{reached}
-use Rattle.tokens.specs.declared.Reached.TheVariants.{To, Unreadable}
 
 pub none_or_some : (found : Option (List ℕ)) (rest : List ℕ) → found ≡ None → found ≡ Some rest → ⊥
 none_or_some found rest p q = let z : ◌≡◌ {A = ℕ} 0 1 = cc in omega arith
@@ -42,9 +41,9 @@ pub suffix_one : {r : List ℕ} (s : List ℕ) → Suffix r (drop 1 s) → Suffi
 suffix_one [] h = h
 suffix_one (x ∷ s) h = behind x h
 
-pub reached_at : (s : List ℕ) (i : ℕ) → i ≤ length s → reached s (Some (drop i s)) ≡ To i
+pub reached_at : (s : List ℕ) (i : ℕ) → i ≤ length s → reached s (Some (drop i s)) ≡ Some i
 unfolding reached
-reached_at s i h = let e : length s - length (drop i s) ≡ i = omega (arith, length-drop i s) in ap To e
+reached_at s i h = let e : length s - length (drop i s) ≡ i = omega (arith, length-drop i s) in ap Some e
 
 pub record Left (s : List ℕ) (at n : ℕ) (found : Option (List ℕ)) : Type 0 where
   pub from : at ≤ n
@@ -53,7 +52,7 @@ pub record Left (s : List ℕ) (at n : ℕ) (found : Option (List ℕ)) : Type 0
 
 pub reached_to :
     (s : List ℕ) (at n : ℕ) (found : Option (List ℕ)) → at ≤ length s
-    → ((rest : List ℕ) → found ≡ Some rest → Suffix rest (drop at s)) → To n ≡ reached s found → Left s at n found
+    → ((rest : List ℕ) → found ≡ Some rest → Suffix rest (drop at s)) → Some n ≡ reached s found → Left s at n found
 unfolding reached
 reached_to s at n None l part e = let z : ◌≡◌ {A = ℕ} 0 1 = cc in absurd (omega arith)
 reached_to s at n (Some rest) l part e =
@@ -66,7 +65,7 @@ reached_to s at n (Some rest) l part e =
       left = ap Some (suffix_drop h ∙ rw (drop-drop, k));
     }
 
-pub reached_none : (s : List ℕ) (found : Option (List ℕ)) → Unreadable ≡ reached s found → found ≡ None
+pub reached_none : (s : List ℕ) (found : Option (List ℕ)) → None ≡ reached s found → found ≡ None
 unfolding reached
 reached_none s None e = refl
 reached_none s (Some rest) e = cc

@@ -9,7 +9,7 @@ use Prim.Native.Nat.{ℕ, ◌+◌, ◌-◌, ◌<◌, ◌≤◌}
 use mathlib.Core.Path.{◌≡◌, refl, sym, ◌∙◌}
 use mathlib.Core.Bool.{Bool, true, false}
 use mathlib.Core.List.{List, [], ◌∷◌}
-use Rattle.std.specs.Prelude.{Some, None}
+use Rattle.std.specs.Prelude.{Some, None, Option}
 use mathlib.Core.Logic.{⊎_elim}
 use native.Mathlib.Omega.{arith}
 use borrow.Author.Rules.{rules}
@@ -22,8 +22,6 @@ use Rattle.tokens.specs.declared.OctetKind.{OctetKind}
 use Rattle.tokens.specs.declared.OctetKind.TheVariants.{Closes, Escapes, Control, Plain}
 use Rattle.tokens.specs.declared.StepIn.{StepIn}
 use Rattle.tokens.specs.declared.StepIn.TheVariants.{On, Ends, Stops}
-use Rattle.tokens.specs.declared.Reached.{Reached}
-use Rattle.tokens.specs.declared.Reached.TheVariants.{To, Unreadable}
 use Rattle.tokens.proofs.Places.{none_or_some, Suffix, whole, suffix_one, reached_at, reached_to, reached_none, Left}
 use Rattle.tokens.proofs.Stepping.{Moved, moved}
 
@@ -34,7 +32,7 @@ pub quoting_begin : (s : List ℕ) (at : ℕ) → Quoting s at at
 quoting_begin s at = record { same = refl }
 
 module _ (s : List ℕ) (at i : ℕ) (h : Quoting s at i) where
-  pub quoting_end : length s ≤ i → Unreadable ≡ reached s (after_quote false (drop at s))
+  pub quoting_end : length s ≤ i → None ≡ reached s (after_quote false (drop at s))
   unfolding after_quote reached
   quoting_end l = rw (h.same, drop_done s i l)
 
@@ -49,10 +47,10 @@ module _ (s : List ℕ) (at i : ℕ) (h : Quoting s at i) where
     pub quoting_nearer : (m : ℕ) → g ≡ On m → length s - m < length s - i
     quoting_nearer m q = omega (arith, told (On m) q)
 
-    pub quoting_ends : (m : ℕ) → g ≡ Ends m → To m ≡ reached s (after_quote false (drop at s))
+    pub quoting_ends : (m : ℕ) → g ≡ Ends m → Some m ≡ reached s (after_quote false (drop at s))
     quoting_ends m q = rw (h.same, (told (Ends m) q).2) (sym (reached_at s m (told (Ends m) q).1))
 
-    pub quoting_stops : g ≡ Stops → Unreadable ≡ reached s (after_quote false (drop at s))
+    pub quoting_stops : g ≡ Stops → None ≡ reached s (after_quote false (drop at s))
     unfolding reached
     quoting_stops q = rw (h.same, told Stops q)
 
@@ -90,8 +88,8 @@ quote_suffix taken (x ∷ s) rest e = go (λ next. quote_suffix next s rest) (re
     go more (goes next p) = suffix_one s (more next (sym p ∙ e))
 
 -- what a caller of `quoted` learns from its answer r
-module _ (s : List ℕ) (at : ℕ) (r : Reached) (e : r ≡ reached s (after_quote false (drop at s))) where
-  module _ (n : ℕ) (q : r ≡ To n) where
+module _ (s : List ℕ) (at : ℕ) (r : Option ℕ) (e : r ≡ reached s (after_quote false (drop at s))) where
+  module _ (n : ℕ) (q : r ≡ Some n) where
     pub quoted_to : Left s (at + 1) n (after_quote false (drop at s))
     unfolding after_quote reached
     quoted_to = ⊎_elim here beyond (lt_or_le at (length s))
@@ -104,5 +102,5 @@ module _ (s : List ℕ) (at : ℕ) (r : Reached) (e : r ≡ reached s (after_quo
         beyond : length s ≤ at → Left s (at + 1) n (after_quote false (drop at s))
         beyond l = let z : ◌≡◌ {A = ℕ} 0 1 = cc (drop_done s at l) in absurd (omega arith)
 
-  pub quoted_unreadable : r ≡ Unreadable → after_quote false (drop at s) ≡ None
+  pub quoted_unreadable : r ≡ None → after_quote false (drop at s) ≡ None
   quoted_unreadable q = reached_none s (after_quote false (drop at s)) (sym q ∙ e)

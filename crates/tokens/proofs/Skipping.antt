@@ -10,7 +10,7 @@ use Prim.Native.Nat.{ℕ, suc, zero, ◌+◌, ◌<◌, ◌≤◌}
 use mathlib.Core.Path.{◌≡◌, refl, sym, ◌∙◌}
 use mathlib.Core.Bool.{Bool, true, false}
 use mathlib.Core.List.{List, [], ◌∷◌}
-use Rattle.std.specs.Prelude.{Some, None}
+use Rattle.std.specs.Prelude.{Some, None, Option}
 use native.Mathlib.Omega.{arith}
 use native.Mathlib.Nat.{sub-zero}
 use borrow.Author.Rules.{rules}
@@ -23,8 +23,6 @@ use Rattle.tokens.specs.Tokens.{control, kind_of, depth, past, skipped}
 use Rattle.tokens.specs.Answers.{reached, opened, Passing, Passed}
 use Rattle.tokens.specs.declared.OctetKind.{OctetKind}
 use Rattle.tokens.specs.declared.OctetKind.TheVariants.{Closes, Escapes, Control, Plain}
-use Rattle.tokens.specs.declared.Reached.{Reached}
-use Rattle.tokens.specs.declared.Reached.TheVariants.{To, Unreadable}
 use Rattle.tokens.proofs.Places.{none_or_some, Suffix, whole, behind, Left, reached_at, reached_to, reached_none}
 use Rattle.tokens.proofs.Commenting.{comment_nearer}
 
@@ -39,25 +37,25 @@ pub skipping_begin : (s : List ℕ) (at : ℕ) → Skipping s at at
 skipping_begin s at = record { same = refl }
 
 module _ (s : List ℕ) (at i : ℕ) (h : Skipping s at i) where
-  pub skipping_end : length s ≤ i → To (length s) ≡ reached s (skipped (drop at s))
+  pub skipping_end : length s ≤ i → Some (length s) ≡ reached s (skipped (drop at s))
   unfolding past reached
   skipping_end l = rw (h.same, drop_done s i l, sub-zero)
 
   -- a comment, which the reader of comments has passed or found unreadable
-  module _ (r : Reached) (p : Passed s i (opened depth) (opened depth) r) where
-    pub skipping_comment : (m : ℕ) → r ≡ To m → Skipping s at m
+  module _ (r : Option ℕ) (p : Passed s i (opened depth) (opened depth) r) where
+    pub skipping_comment : (m : ℕ) → r ≡ Some m → Skipping s at m
     skipping_comment m q = let t : Passing s i 0 0 m = rw q at p in record { same = h.same ∙ t.same }
 
-    pub skipping_unread : r ≡ Unreadable → Unreadable ≡ reached s (skipped (drop at s))
+    pub skipping_unread : r ≡ None → None ≡ reached s (skipped (drop at s))
     unfolding reached
-    skipping_unread q = let t : Passed s i 0 0 Unreadable = rw q at p in rw (h.same, t)
+    skipping_unread q = let t : Passed s i 0 0 None = rw q at p in rw (h.same, t)
 
   module _ (l : i < length s) (b : Bool) (e : b ≡ blank (get_or s i 0)) where
     pub skipping_blank : b ≡ true → Skipping s at (i + 1)
     unfolding past
     skipping_blank q = record { same = h.same ∙ rw (drop_one s i l, past, sym e ∙ q) }
 
-    pub skipping_stop : b ≡ false → (get_or s i 0 ≡ 40 → ⊥) → To i ≡ reached s (skipped (drop at s))
+    pub skipping_stop : b ≡ false → (get_or s i 0 ≡ 40 → ⊥) → Some i ≡ reached s (skipped (drop at s))
     skipping_stop q o =
         let t : skipped (drop i s) ≡ Some (drop i s) = rw (drop_one s i l) (stays (get_or s i 0) (drop (i + 1) s) (sym e ∙ q) o) in
         rw (h.same, t) (sym (reached_at s i (omega arith)))
@@ -119,13 +117,13 @@ module _ (s rest : List ℕ) (e : skipped s ≡ Some rest) where
   skipped_suffix = (left_behind 0 false s rest e).0
 
 -- what a caller of `skip` learns from its answer r
-module _ (s : List ℕ) (at : ℕ) (r : Reached) (e : r ≡ reached s (skipped (drop at s))) where
-  module _ (n : ℕ) (q : r ≡ To n) (l : at ≤ length s) where
+module _ (s : List ℕ) (at : ℕ) (r : Option ℕ) (e : r ≡ reached s (skipped (drop at s))) where
+  module _ (n : ℕ) (q : r ≡ Some n) (l : at ≤ length s) where
     pub skip_to : Left s at n (skipped (drop at s))
     skip_to = reached_to s at n (skipped (drop at s)) l (λ rest p. skipped_suffix (drop at s) rest p) (sym q ∙ e)
 
     pub skip_left : skipped (drop at s) ≡ Some (drop n s)
     skip_left = skip_to.left
 
-  pub skip_unreadable : r ≡ Unreadable → skipped (drop at s) ≡ None
+  pub skip_unreadable : r ≡ None → skipped (drop at s) ≡ None
   skip_unreadable q = reached_none s (skipped (drop at s)) (sym q ∙ e)

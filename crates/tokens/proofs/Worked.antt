@@ -9,7 +9,6 @@ use lib.ListN.{replicate}
 use Rattle.octets.specs.Octets.{ascii, octet, blank, tab}
 use Rattle.tokens.specs.Tokens.{control, kind_of, past, skipped, after_quote}
 use Rattle.tokens.specs.Answers.{reached}
-use Rattle.tokens.specs.declared.Reached.TheVariants.{To}
 
 -- so many comments one inside the other
 nested : ℕ → List ℕ
@@ -63,6 +62,6 @@ unfolding quotes after_quote kind_of control
 quotes_hold = refl
 
 -- as places
-place : reached (ascii "a (b) c") (skipped (ascii " (b) c")) ≡ To 6
+place : reached (ascii "a (b) c") (skipped (ascii " (b) c")) ≡ Some 6
 unfolding reached past blank kind_of control
 place = refl

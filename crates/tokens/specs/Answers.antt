@@ -9,13 +9,11 @@ use Rattle.tokens.specs.Tokens.{control, kind_of, depth, past}
 use Rattle.tokens.specs.declared.OctetKind.TheVariants.{Closes, Escapes, Control, Plain}
 use Rattle.tokens.specs.declared.StepIn.{StepIn}
 use Rattle.tokens.specs.declared.StepIn.TheVariants.{On, Ends, Stops}
-use Rattle.tokens.specs.declared.Reached.{Reached}
-use Rattle.tokens.specs.declared.Reached.TheVariants.{To, Unreadable}
 
 -- the place of what is left; unreadable where there is none
-unfoldable pub reached : List ℕ → Option (List ℕ) → Reached
-reached s None = Unreadable
-reached s (Some rest) = To (length s - length rest)
+unfoldable pub reached : List ℕ → Option (List ℕ) → Option ℕ
+reached s None = None
+reached s (Some rest) = Some (length s - length rest)
 
 -- L4, L5: is there an octet that a backslash may take? A control octet is none.
 unfoldable pub takes : List ℕ → Bool
@@ -49,6 +47,6 @@ pub record Passing (s : List ℕ) (at before after n : ℕ) : Type 0 where
   pub same : past before false (drop at s) ≡ past after false (drop n s)
 
 -- it has come to such a place, or the text is unreadable
-abbrev pub Passed : List ℕ → ℕ → ℕ → ℕ → Reached → Type 0
-Passed s at before after (To n) = Passing s at before after n
-Passed s at before after Unreadable = past before false (drop at s) ≡ None
+abbrev pub Passed : List ℕ → ℕ → ℕ → ℕ → Option ℕ → Type 0
+Passed s at before after (Some n) = Passing s at before after n
+Passed s at before after None = past before false (drop at s) ≡ None

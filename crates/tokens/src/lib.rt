@@ -27,12 +27,6 @@ enum StepIn {
     Stops,
 }
 
-// The place that a reader reached; or the text is unreadable.
-#[derive(Clone, Copy)]
-pub enum Reached {
-    To(usize),
-    Unreadable,
-}
 
 // Is it an octet below 32, or 127, the tab excepted (L1)?
 #[tactic(auto, unfolding(crate::specs::Tokens::control))]
@@ -84,12 +78,12 @@ fn step_in(closing: u8, s: &[u8], at: usize) -> StepIn
 
 // A comment opens at the place `at`, where `room` more may be open, this one counted: reads to behind its end.
 #[cycle(comment_content)]
-fn comment(s: &[u8], at: usize, room: usize) -> Reached
+fn comment(s: &[u8], at: usize, room: usize) -> Option<usize>
     requires { Opening s.now at room }
     ensures { Passed s.now at (opened room) (opened room) result }
 {
     if room == 0 {
-        return Reached::Unreadable;
+        return None;
     }
     content(s, at + 1, room - 1)
 }
@@ -97,7 +91,7 @@ fn comment(s: &[u8], at: usize, room: usize) -> Reached
 // The content of a comment from the place `at` on, where `room` more may be open: reads to behind the comment's end. Its
 // octets are read in a loop, so that a long comment takes no more of the stack than a short one.
 #[cycle(comment_content)]
-fn content(s: &[u8], at: usize, room: usize) -> Reached
+fn content(s: &[u8], at: usize, room: usize) -> Option<usize>
     requires { room < depth }
     ensures { Passed s.now at (suc (opened (room + 1))) (opened (room + 1)) result }
 {
@@ -105,22 +99,22 @@ fn content(s: &[u8], at: usize, room: usize) -> Reached
     while i < s.len() {
         if s[i] == b'(' {
             match comment(s, i, room) {
-                Reached::To(n) => i = n,
-                Reached::Unreadable => return Reached::Unreadable,
+                Some(n) => i = n,
+                None => return None,
             }
         } else {
             match step_in(b')', s, i) {
                 StepIn::On(n) => i = n,
-                StepIn::Ends(n) => return Reached::To(n),
-                StepIn::Stops => return Reached::Unreadable,
+                StepIn::Ends(n) => return Some(n),
+                StepIn::Stops => return None,
             }
         }
     }
-    Reached::Unreadable
+    None
 }
 
 // The place behind all spaces, tabs and comments from the place `at` on.
-pub fn skip(s: &[u8], at: usize) -> Reached
+pub fn skip(s: &[u8], at: usize) -> Option<usize>
     ensures { result ≡ reached s.now (skipped (drop at s.now)) }
 {
     let mut i = at;
@@ -129,28 +123,28 @@ pub fn skip(s: &[u8], at: usize) -> Reached
             i += 1;
         } else if s[i] == b'(' {
             match comment(s, i, DEPTH) {
-                Reached::To(n) => i = n,
-                Reached::Unreadable => return Reached::Unreadable,
+                Some(n) => i = n,
+                None => return None,
             }
         } else {
-            return Reached::To(i);
+            return Some(i);
         }
     }
-    Reached::To(s.len())
+    Some(s.len())
 }
 
 // The place behind a quoted string whose opening quote stands before the place `at`.
 #[tactic(auto, using(crate::proofs::Quoting::quoting))]
-pub fn quoted(s: &[u8], at: usize) -> Reached
+pub fn quoted(s: &[u8], at: usize) -> Option<usize>
     ensures { result ≡ reached s.now (after_quote false (drop at s.now)) }
 {
     let mut i = at;
     while i < s.len() {
         match step_in(b'"', s, i) {
             StepIn::On(n) => i = n,
-            StepIn::Ends(n) => return Reached::To(n),
-            StepIn::Stops => return Reached::Unreadable,
+            StepIn::Ends(n) => return Some(n),
+            StepIn::Stops => return None,
         }
     }
-    Reached::Unreadable
+    None
 }

@@ -2,6 +2,7 @@
 --     seen_open, field_open, gossip_open    where the entry was changed
 --     keeping                               what the three ask
 -- Assumes nothing.
+use Rattle.std.specs.Prelude.{Option, Some}
 use Prim.Native.Nat.{ℕ, ◌≤◌}
 use mathlib.Core.Path.{◌≡◌}
 use mathlib.Core.Bool.{Bool, true, false}
@@ -19,15 +20,13 @@ use Rattle.slots.specs.Entry.{entry_of, slot_of}
 use Rattle.table.specs.Table.{slot_at, with_slot, found, checked}
 use Rattle.table.specs.Tagged.{Open}
 use Rattle.table.specs.declared.Checked.TheVariants.{Sound}
-use Rattle.table.specs.declared.Found.{Found}
-use Rattle.table.specs.declared.Found.TheVariants.{At}
 use Rattle.update.specs.Update.{younger, younger_gossip, begun}
 use Rattle.update.proofs.Writing.{seen_raised, field_set, gossip_set}
 use Rattle.update.proofs.Putting.{keyless_open, keyed_open, heard_open}
 
 -- as the code has it: f, u and tags are what `place` answered and left
 module _ (t a u tags : List ℕ) (w : Open u tags) (eu : u ≡ begun t a) (s : checked t ≡ Sound) (c : is_canonical a ≡ true) (o : (j : ℕ) → Fits w8 (get_or a j 0))
-    (p : (j : ℕ) → Fits w8 (get_or t j 0)) (f : Found) (i : ℕ) (ef : f ≡ found (begun t a) a) (ei : f ≡ At i) (date : ℕ) (h : date ≤ time_limit)
+    (p : (j : ℕ) → Fits w8 (get_or t j 0)) (f : Option ℕ) (i : ℕ) (ef : f ≡ found (begun t a) a) (ei : f ≡ Some i) (date : ℕ) (h : date ≤ time_limit)
     (b : Bool) (hb : b ≡ false) (v : List ℕ) where
   placed : Open (begun t a) tags
   placed = rw eu at w

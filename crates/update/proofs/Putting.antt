@@ -31,7 +31,6 @@ use Rattle.table.specs.Table.{slots, slot_at, with_slot, found, lowest_free, is_
 use Rattle.table.specs.Entries.{entry_in}
 use Rattle.table.specs.Tagged.{Open}
 use Rattle.table.specs.declared.Checked.TheVariants.{Sound}
-use Rattle.table.specs.declared.Found.TheVariants.{At}
 use Rattle.table.proofs.Slots.{slot_same}
 use Rattle.table.proofs.Finding.{found_at, found_used, found_address, free_at}
 use Rattle.table.proofs.Keeping.{table_sound, others_not, write_own}
@@ -133,7 +132,7 @@ module _ (t a : List ℕ) (c : is_canonical a ≡ true) (p : AllOctets a) where
     begun_is_sound = begun_sound t a c p s
 
     -- the slot of the address, and the changed entry
-    module _ (i : ℕ) (f : found (begun t a) a ≡ At i) where
+    module _ (i : ℕ) (f : found (begun t a) a ≡ Some i) where
       pub changed_good : Good (change (entry_of (slot_at (begun t a) i)))
       changed_good = k.good (entry_of (slot_at (begun t a) i)) (found_good (begun t a) a begun_is_sound (begun_octets t a c p o) i f)
 

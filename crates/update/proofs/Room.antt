@@ -9,7 +9,7 @@
 use Prim.Native.Nat.{ℕ, ◌+◌, ◌≤◌}
 use mathlib.Core.Path.{◌≡◌, refl, sym, ap, ◌∙◌}
 use mathlib.Core.Bool.{Bool, true, false, ◌||◌, or-false, or-true, or_assoc, false≢true}
-use Rattle.std.specs.Prelude.{Option}
+use Rattle.std.specs.Prelude.{Option, Some, None}
 use mathlib.Core.List.{List, [], ◌∷◌, ◌++◌}
 use native.Mathlib.Omega.{arith}
 use lib.ListN.{length}
@@ -27,7 +27,6 @@ use Rattle.heads.proofs.Goodness.{good_newcomer}
 use Rattle.table.specs.Table.{slot_at, found, lowest_free, free_count, is_at, checked}
 use Rattle.table.specs.Entries.{entry_in}
 use Rattle.table.specs.declared.Checked.TheVariants.{Sound}
-use Rattle.table.specs.declared.Found.TheVariants.{At, Nothing}
 use Rattle.table.proofs.Finding.{found_at, found_used, free_at}
 use Rattle.table.proofs.Replaced.{free_fewer, free_same}
 use Rattle.table.proofs.Entries.{entry_at, entry_nothing}
@@ -57,10 +56,10 @@ module _ (t a : List ℕ) (c : is_canonical a ≡ true) (p : AllOctets a) (chang
       (found_used (begun t a) a i f)))
       (λ f. rw (put_nothing t a change f))
 
-  pub put_free_own : (i : ℕ) → found t a ≡ At i → free_count (put t a change) ≡ free_count t
+  pub put_free_own : (i : ℕ) → found t a ≡ Some i → free_count (put t a change) ≡ free_count t
   put_free_own i e = put_free ∙ rw (begun_own t a i e)
 
-  pub put_free_new : (i : ℕ) → found t a ≡ Nothing → lowest_free t ≡ At i → free_count t ≡ 1 + free_count (put t a change)
+  pub put_free_new : (i : ℕ) → found t a ≡ None → lowest_free t ≡ Some i → free_count t ≡ 1 + free_count (put t a change)
   put_free_new i e f =
       rw (put_free, begun_new t a e i f) (free_fewer t i (free_at t i f).0 (newcomer a) (good_newcomer a c p) (free_at t i f).1)
 
@@ -117,7 +116,7 @@ or_already false false h = refl
 
 module _ (t a : List ℕ) (rest : List (List ℕ)) (r : length (newcomers t [] (a ∷ rest)) ≤ free_count t) where
   -- an address that has no entry is a newcomer, and takes a slot
-  module _ (e : found t a ≡ Nothing) where
+  module _ (e : found t a ≡ None) where
     one : newcomers t [] (a ∷ rest) ≡ a ∷ newcomers t (a ∷ []) rest
     unfolding among
     one = newcomer_one t [] a rest (rw e)
@@ -136,7 +135,7 @@ module _ (t a : List ℕ) (rest : List (List ℕ)) (r : length (newcomers t [] (
     found_now : (b : List ℕ) → is_at (found (put t a change) b) ≡ (is_at (found t b) || same_octets a b)
     found_now b = put_found t a c p change k s o room_first b
 
-    rest_own : (i : ℕ) → found t a ≡ At i → newcomers t [] (a ∷ rest) ≡ newcomers (put t a change) [] rest
+    rest_own : (i : ℕ) → found t a ≡ Some i → newcomers t [] (a ∷ rest) ≡ newcomers (put t a change) [] rest
     unfolding among
     rest_own i e =
         newcomer_not t [] a rest (rw e)
@@ -160,5 +159,5 @@ module _ (t a : List ℕ) (rest : List (List ℕ)) (r : length (newcomers t [] (
         (λ i f. omega (arith, one_more e, ap length rest_new, put_free_new t a c p change k s o i e f))
         (λ f. let h : is_at (lowest_free t) ≡ true = some_free t (omega (arith, one_more e)) in absurd (no_place f h)))
       where
-        no_place : lowest_free t ≡ Nothing → is_at (lowest_free t) ≡ true → ⊥
+        no_place : lowest_free t ≡ None → is_at (lowest_free t) ≡ true → ⊥
         no_place f h = false≢true (rw f at h)

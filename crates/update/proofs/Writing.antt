@@ -36,8 +36,6 @@ use Rattle.heads.proofs.Goodness.{good_seen_by, good_with_direct}
 use Rattle.slots.proofs.Goodness.{good_entry}
 use Rattle.table.specs.Table.{slots, slot_at, with_slot, found, checked}
 use Rattle.table.specs.declared.Checked.TheVariants.{Sound}
-use Rattle.table.specs.declared.Found.{Found}
-use Rattle.table.specs.declared.Found.TheVariants.{At, Nothing}
 use Rattle.table.proofs.Slots.{slots_kept, slot_same, slot_octets, slot_long as part_long}
 use Rattle.table.proofs.Finding.{found_at}
 use Rattle.table.proofs.Replaced.{written_over, written_back}
@@ -138,14 +136,14 @@ module _ (t v : List ℕ) (i date : ℕ) (ev : v ≡ with_slot t i (slot_of (see
 pub ruleset setting = (within_still, sound_still, written_twice, rules)
 
 -- a slot written back
-pub entry_over : (t a : List ℕ) (i : ℕ) → found t a ≡ At i → checked t ≡ Sound → AllOctets t → with_slot t i (slot_of (entry_of (slot_at t i))) ≡ t
+pub entry_over : (t a : List ℕ) (i : ℕ) → found t a ≡ Some i → checked t ≡ Sound → AllOctets t → with_slot t i (slot_of (entry_of (slot_at t i))) ≡ t
 entry_over t a i e s o =
     let l : i < slots t = (found_at t a i e).0 in
     rw (slot_back (slot_at t i) (part_long t i l) (sound_parts (slot_at t i) (entry_sound t a s i e)) (slot_octets t i o)) (written_back t i l)
 
 -- as the code has it: f and u are what `place` answered and left
-module _ (t a u : List ℕ) (f : Found) (i : ℕ) (ef : f ≡ found (begun t a) a) (eu : u ≡ begun t a) (ei : f ≡ At i) where
-  here : found (begun t a) a ≡ At i
+module _ (t a u : List ℕ) (f : Option ℕ) (i : ℕ) (ef : f ≡ found (begun t a) a) (eu : u ≡ begun t a) (ei : f ≡ Some i) where
+  here : found (begun t a) a ≡ Some i
   here = sym ef ∙ ei
 
   pub within : i < slots u
@@ -195,7 +193,7 @@ module _ (t a u : List ℕ) (f : Found) (i : ℕ) (ef : f ≡ found (begun t a) 
         → v ≡ with_slot u i (slot_of (with_gossip (record { timestamp = date; key = key }) (entry_of (slot_at u i)))) → v ≡ put t a (heard date key)
     gossip_set e key v ev = written (heard date key) v (ev ∙ rw (heard_now date (entry_of (slot_at u i)) key (sym e ∙ h)))
 
-pub nowhere : (t a u : List ℕ) (f : Found) (change : Entry → Entry) → f ≡ found (begun t a) a → u ≡ begun t a → f ≡ Nothing → u ≡ put t a change
+pub nowhere : (t a u : List ℕ) (f : Option ℕ) (change : Entry → Entry) → f ≡ found (begun t a) a → u ≡ begun t a → f ≡ None → u ≡ put t a change
 nowhere t a u f change ef eu en = eu ∙ sym (put_nothing t a change (sym ef ∙ en))
 
 pub ruleset seeing = (within, sound_place, seen_raised, left_older, nowhere, rules)

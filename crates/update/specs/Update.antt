@@ -11,8 +11,6 @@ use Rattle.std.specs.Prelude.{Option, Some, None}
 use Rattle.heads.specs.Entry.{Direct, Gossip, Entry, newcomer, seen_by, with_direct, with_gossip}
 use Rattle.slots.specs.Entry.{entry_of, slot_of}
 use Rattle.table.specs.Table.{slot_at, with_slot, found, lowest_free}
-use Rattle.table.specs.declared.Found.{Found}
-use Rattle.table.specs.declared.Found.TheVariants.{At, Nothing}
 
 -- An order says whether a stored half stays, where something of a date comes in, with a half or without one.
 abbrev pub Order : Type 0 → Type 0
@@ -74,18 +72,18 @@ heard date key e = taking the_gossip (above the_gossip) date (Some (record { tim
 
 -- U4: an empty entry of the address in the slot that was found. Without one the table stays: a message for which there are not enough is refused
 -- before (R8)
-unfoldable pub begun_at : Found → List ℕ → List ℕ → List ℕ
-begun_at (At i) t a = with_slot t i (slot_of (newcomer a))
-begun_at Nothing t a = t
+unfoldable pub begun_at : Option ℕ → List ℕ → List ℕ → List ℕ
+begun_at (Some i) t a = with_slot t i (slot_of (newcomer a))
+begun_at None t a = t
 
 -- U4: an address that has no entry gets the free slot with the lowest index; one that has an entry keeps its slot
 unfoldable pub begun : List ℕ → List ℕ → List ℕ
-begun t a = elim (found t a) [ At i ↦ t | Nothing ↦ begun_at (lowest_free t) t a ]
+begun t a = elim (found t a) [ Some i ↦ t | None ↦ begun_at (lowest_free t) t a ]
 
 -- the table with the entry in a slot changed
-unfoldable pub changed_at : Found → List ℕ → (Entry → Entry) → List ℕ
-changed_at (At i) t change = with_slot t i (slot_of (change (entry_of (slot_at t i))))
-changed_at Nothing t change = t
+unfoldable pub changed_at : Option ℕ → List ℕ → (Entry → Entry) → List ℕ
+changed_at (Some i) t change = with_slot t i (slot_of (change (entry_of (slot_at t i))))
+changed_at None t change = t
 
 -- U4: the table with the entry of an address changed, in its own slot or in the lowest free one
 unfoldable pub put : List ℕ → List ℕ → (Entry → Entry) → List ℕ

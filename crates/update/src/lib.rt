@@ -15,24 +15,23 @@ ghost use Rattle.table.specs.Tagged.{Open};
 ghost use Rattle.update.specs.Update.{younger, updated, younger_gossip, heard, begun, put};
 
 use slots::Slot;
-use table::Found;
 
 // The slot of an address, begun in the lowest free one where it has none (U4).
 #[tactic(auto, using(crate::proofs::Placing::placing))]
-fn place(table: &mut [u8], tags: &mut [u32; Slot::MOST], address: &[u8]) -> Found
+fn place(table: &mut [u8], tags: &mut [u32; Slot::MOST], address: &[u8]) -> Option<usize>
     requires { Open table.old tags.old × (is_canonical address.now ≡ true) }
     ensures value { result ≡ found (begun table.old address.now) address.now }
     ensures table_after { table.new ≡ begun table.old address.now }
     ensures fact { Open table.new tags.new }
 {
     match lookup::find(table, tags, address) {
-        Found::At(i) => Found::At(i),
-        Found::Nothing => match table::lowest_free(table) {
-            Found::At(i) => {
+        Some(i) => Some(i),
+        None => match table::lowest_free(table) {
+            Some(i) => {
                 table::begin(table, tags, i, address);
-                Found::At(i)
+                Some(i)
             }
-            Found::Nothing => Found::Nothing,
+            None => None,
         },
     }
 }
@@ -62,7 +61,7 @@ pub fn update_keyless(table: &mut [u8], tags: &mut [u32; Slot::MOST], sender: &[
     ensures table_after { table.new ≡ put table.old sender.now (updated date None) }
     ensures fact { Open table.new tags.new }
 {
-    if let Found::At(i) = place(table, tags, sender)
+    if let Some(i) = place(table, tags, sender)
         && !has_younger(table, i, date)
     {
         table::raise_seen(table, i, date);
@@ -98,7 +97,7 @@ pub fn update_with_key(
         (updated date (Some (record { timestamp = date; key = key.now; «mutual» = «mutual» }))) }
     ensures fact { Open table.new tags.new }
 {
-    if let Found::At(i) = place(table, tags, sender)
+    if let Some(i) = place(table, tags, sender)
         && !has_younger(table, i, date)
     {
         set_field(table, i, date, key, mutual);
@@ -113,7 +112,7 @@ pub fn hear(table: &mut [u8], tags: &mut [u32; Slot::MOST], address: &[u8], date
     ensures table_after { table.new ≡ put table.old address.now (heard date key.now) }
     ensures fact { Open table.new tags.new }
 {
-    if let Found::At(i) = place(table, tags, address)
+    if let Some(i) = place(table, tags, address)
         && !has_younger_gossip(table, i, date)
     {
         table::set_gossip(table, i, date, key);

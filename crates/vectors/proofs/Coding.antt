@@ -2,6 +2,7 @@
 --     code_prefix .. code_points       those of a text, in lower case: as many as the coder takes
 --     text_prefix .. text_points       those that a code stands for: they may be written
 -- Assumes nothing.
+use Rattle.std.specs.Prelude.{Option, Some}
 use Prim.Native.Nat.{ℕ, ◌≤◌}
 use mathlib.Core.Path.{◌≡◌, sym}
 use mathlib.Core.Bool.{true}
@@ -19,8 +20,6 @@ use Rattle.punycode.specs.Punycode.{decode}
 use Rattle.punycode.proofs.Sound.{decode_scalars}
 use Rattle.coder.specs.Steps.{Points}
 use Rattle.decoder.specs.Steps.{Shown as Stands, Decodes}
-use Rattle.decoder.specs.declared.Decoded.{Decoded}
-use Rattle.decoder.specs.declared.Decoded.TheVariants.{Points as Shows}
 
 -- the code points p₀ as they came, and p as they are read from s
 module _ (s p₀ p : List ℕ) (o : Read) (n : ℕ) (a : o ≡ Are n) (q : Reads p₀ p (small_of (points s)) o) where
@@ -44,7 +43,7 @@ module _ (s p₀ p : List ℕ) (o : Read) (n : ℕ) (a : o ≡ Are n) (q : Reads
 pub ruleset reading_code = (code_prefix, code_count, code_points, rules)
 
 -- and as they are decoded from c
-module _ (c p₀ p : List ℕ) (o : Decoded) (n : ℕ) (a : o ≡ Shows n) (q : Decodes p₀ p (decode c) o) where
+module _ (c p₀ p : List ℕ) (o : Option ℕ) (n : ℕ) (a : o ≡ Some n) (q : Decodes p₀ p (decode c) o) where
   stands : Stands p₀ p (decode c) n
   stands = rw a at q
 

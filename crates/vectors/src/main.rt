@@ -17,9 +17,7 @@ ghost use Rattle.coder.specs.Steps.{Points};
 
 use codepoints::Read;
 use datewords::meaning;
-use datewords::meaning::{Meaning, Place};
-use decoder::Decoded;
-use octets::Laid;
+use datewords::meaning::Place;
 use std::io;
 
 // How many octets of cases are read.
@@ -44,8 +42,8 @@ fn print_octets(rt: &impl Print, s: &[u8]) -> io::Result<()> {
 fn run_decode(rt: &impl Print, text: &[u8]) -> io::Result<()> {
     let mut out = [0u8; MOST_KEY];
     match keydata::decode(text, &mut out) {
-        keydata::Decoded::Octets(n) => print_octets(rt, &out[..n]),
-        keydata::Decoded::Refused => rt.write_all(b"spoiled\n"),
+        Some(n) => print_octets(rt, &out[..n]),
+        None => rt.write_all(b"spoiled\n"),
     }
 }
 
@@ -62,17 +60,17 @@ fn print_number(rt: &impl Print, n: u64) -> io::Result<()> {
     println!(rt; "{n}")
 }
 
-fn print_place(rt: &impl Print, r: tokens::Reached) -> io::Result<()> {
+fn print_place(rt: &impl Print, r: Option<usize>) -> io::Result<()> {
     match r {
-        tokens::Reached::To(n) => print_number(rt, n as u64),
-        tokens::Reached::Unreadable => rt.write_all(b"unreadable\n"),
+        Some(n) => print_number(rt, n as u64),
+        None => rt.write_all(b"unreadable\n"),
     }
 }
 
 fn run_date(rt: &impl Print, text: &[u8]) -> io::Result<()> {
     match date::date(text) {
-        date::Dated::Available(n) => print_number(rt, n),
-        date::Dated::Unavailable => rt.write_all(b"unavailable\n"),
+        Some(n) => print_number(rt, n),
+        None => rt.write_all(b"unavailable\n"),
     }
 }
 
@@ -97,8 +95,8 @@ fn print_year(rt: &impl Print, year: u64) -> io::Result<()>
 #[tactic(auto, using(crate::proofs::Dating::dating))]
 fn run_year(rt: &impl Print, text: &[u8]) -> io::Result<()> {
     match meaning::meant(Place::Year, text) {
-        Meaning::Value(year) => print_year(rt, year),
-        Meaning::Nothing => rt.write_all(b"no year\n"),
+        Some(year) => print_year(rt, year),
+        None => rt.write_all(b"no year\n"),
     }
 }
 
@@ -112,8 +110,8 @@ fn print_code(rt: &impl Print, points: &[u32]) -> io::Result<()>
 {
     let mut out = [0u8; MOST_POINTS];
     match coder::encode(points, &mut out) {
-        Laid::At(n) => print_line(rt, &out[..n]),
-        Laid::NoRoom => rt.write_all(b"no room\n"),
+        Some(n) => print_line(rt, &out[..n]),
+        None => rt.write_all(b"no room\n"),
     }
 }
 
@@ -132,8 +130,8 @@ fn print_text(rt: &impl Print, points: &[u32]) -> io::Result<()>
 {
     let mut out = [0u8; MOST_OCTETS];
     match codepoints::write(points, &mut out, 0) {
-        Laid::At(n) => print_octets(rt, &out[..n]),
-        Laid::NoRoom => rt.write_all(b"no room\n"),
+        Some(n) => print_octets(rt, &out[..n]),
+        None => rt.write_all(b"no room\n"),
     }
 }
 
@@ -144,8 +142,8 @@ fn run_points(rt: &impl Print, text: &[u8]) -> io::Result<()> {
     }
     let mut points = [0u32; MOST_POINTS];
     match decoder::decode(text, &mut points) {
-        Decoded::Points(n) => print_text(rt, &points[..n]),
-        Decoded::Nothing => rt.write_all(b"nothing\n"),
+        Some(n) => print_text(rt, &points[..n]),
+        None => rt.write_all(b"nothing\n"),
     }
 }
 

@@ -4,6 +4,7 @@
 --     field_long, nothing_there         it has none
 --     the ruleset                       writing, for `write`
 -- Assumes nothing.
+use Rattle.std.specs.Prelude.{Option, Some, None}
 use Prim.Native.Nat.{ℕ, ◌<◌, ◌≤◌}
 use mathlib.Core.Path.{◌≡◌, sym, ap, ◌∙◌}
 use mathlib.Core.Bool.{Bool, true, false}
@@ -15,8 +16,6 @@ use lib.ListN.{length}
 use Rattle.octets.specs.Written.{onto}
 use Rattle.octets.specs.Tests.{one_to}
 use Rattle.address.specs.Answers.{written_of as fitted_of, onto_if_fits}
-use Rattle.address.specs.declared.Fitted.{Fitted}
-use Rattle.address.specs.declared.Fitted.TheVariants.{Length, NoRoom}
 use Rattle.address.proofs.Room.{written_length, written_no_room, onto_fits, onto_none}
 use Rattle.slots.specs.Slot.{key_limit}
 use borrow.Author.Rules.{rules}
@@ -35,8 +34,8 @@ key_good n b e f l =
     rw (le-leb 1 n (omega arith), le-leb n 2048 l)
 
 -- the answer of the lower writer
-module _ (field d : List ℕ) (k : Fitted) (e : k ≡ fitted_of field (length d)) where
-  module _ (m : ℕ) (q : k ≡ Length m) where
+module _ (field d : List ℕ) (k : Option ℕ) (e : k ≡ fitted_of field (length d)) where
+  module _ (m : ℕ) (q : k ≡ Some m) where
     pub field_fits : leb (length field) (length d) ≡ true
     field_fits = le-leb (length field) (length d) (written_length field (length d) m (sym q ∙ e)).1
 
@@ -46,7 +45,7 @@ module _ (field d : List ℕ) (k : Fitted) (e : k ≡ fitted_of field (length d)
     pub field_there : (out : List ℕ) → out ≡ onto_if_fits field d → out ≡ onto field d
     field_there out o = o ∙ onto_fits field d (written_length field (length d) m (sym q ∙ e)).1
 
-  module _ (q : k ≡ NoRoom) where
+  module _ (q : k ≡ None) where
     pub field_long : leb (length field) (length d) ≡ false
     field_long = lt-leb (length field) (length d) (written_no_room field (length d) (sym q ∙ e))
 

@@ -30,8 +30,8 @@ fn write(name: &[u8], address: &[u8], mutual: bool, key: &[u8], out: &mut [u8]) 
         return Written::Refused(Refusal::KeyLength);
     }
     match writer::write_field(name, address, mutual, key, out) {
-        address::Fitted::Length(n) => Written::Done(n),
-        address::Fitted::NoRoom => Written::Refused(Refusal::OutputLength),
+        Some(n) => Written::Done(n),
+        None => Written::Refused(Refusal::OutputLength),
     }
 }
 

@@ -9,7 +9,6 @@ ghost use Rattle.address.specs.Answers.{written_of, onto_if_fits};
 ghost use Rattle.writer.specs.Writing.{preference, field_text, written};
 ghost use Rattle.writer.specs.Steps.{opening, attributes};
 
-use address::Fitted;
 
 // What stands between the parts that a caller gives (W2).
 const ADDR: [u8; 7] = *b": addr=";
@@ -96,7 +95,7 @@ fn field_length(name: &[u8], address: &[u8], mutual: bool, key: &[u8]) -> usize
 
 // Writes a field to the front of `out`, where it fits; room for just the field is enough (W6).
 #[tactic(auto, using(crate::proofs::Fitting::fitting))]
-fn fit_field(name: &[u8], address: &[u8], mutual: bool, key: &[u8], out: &mut [u8]) -> Fitted
+fn fit_field(name: &[u8], address: &[u8], mutual: bool, key: &[u8], out: &mut [u8]) -> Option<usize>
     requires { (length name.now ≤ 256) × (length address.now ≤ 256) }
     ensures value { result ≡ written_of (field_text name.now address.now «mutual» key.now) (length out.old) }
     ensures out_after { out.new ≡ onto_if_fits
@@ -104,15 +103,15 @@ fn fit_field(name: &[u8], address: &[u8], mutual: bool, key: &[u8], out: &mut [u
 {
     let n = field_length(name, address, mutual, key);
     if out.len() < n {
-        return Fitted::NoRoom;
+        return None;
     }
     put_field(name, address, mutual, key, out);
-    Fitted::Length(n)
+    Some(n)
 }
 
 // Writes the field of an address, which it puts into canonical form (W5), to the front of `out`, where it fits (W6).
 #[tactic(auto, using(crate::proofs::Fitting::forming), unfolding(crate::specs::Writing::written))]
-pub fn write_field(name: &[u8], address: &[u8], mutual: bool, key: &[u8], out: &mut [u8]) -> Fitted
+pub fn write_field(name: &[u8], address: &[u8], mutual: bool, key: &[u8], out: &mut [u8]) -> Option<usize>
     requires { (length name.now ≤ 256) × (plain address.now ≡ true) }
     ensures value { result ≡ written_of (written name.now address.now «mutual» key.now) (length out.old) }
     ensures out_after { out.new ≡ onto_if_fits
@@ -120,7 +119,7 @@ pub fn write_field(name: &[u8], address: &[u8], mutual: bool, key: &[u8], out: &
 {
     let mut form = [0u8; 256];
     match address::canonical(address, &mut form) {
-        Fitted::Length(n) => fit_field(name, &form[..n], mutual, key, out),
-        Fitted::NoRoom => Fitted::NoRoom,
+        Some(n) => fit_field(name, &form[..n], mutual, key, out),
+        None => None,
     }
 }

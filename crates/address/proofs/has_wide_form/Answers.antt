@@ -1,8 +1,8 @@
 use Rattle.address.proofs.Making.{having_wide_form}
 use Rattle.address.proofs.has_wide_form.Goals as goal
 
-pub returns-in-At : goal.returns-in-At
-returns-in-At c = search having_wide_form
+pub returns-in-Some : goal.returns-in-Some
+returns-in-Some c = search having_wide_form
 
-pub returns-in-NoRoom : goal.returns-in-NoRoom
-returns-in-NoRoom c = search having_wide_form
+pub returns-in-None : goal.returns-in-None
+returns-in-None c = search having_wide_form

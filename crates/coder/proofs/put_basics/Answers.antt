@@ -1,5 +1,5 @@
 use Rattle.coder.proofs.Coding.{basics}
 use Rattle.coder.proofs.put_basics.Goals as goal
 
-pub returns-in-NoRoom : goal.returns-in-NoRoom
-returns-in-NoRoom c = search basics
+pub returns-in-None : goal.returns-in-None
+returns-in-None c = search basics

@@ -4,5 +4,5 @@ use Rattle.convert.proofs.bring_used.Goals as goal
 pub settle-requires : goal.settle-requires
 settle-requires c = search bringing_used
 
-pub returns-in-Length : goal.returns-in-Length
-returns-in-Length c = search bringing_used
+pub returns-in-Some : goal.returns-in-Some
+returns-in-Some c = search bringing_used

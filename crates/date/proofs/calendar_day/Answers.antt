@@ -2,10 +2,10 @@ use Rattle.date.specs.Date.{calendar_day}
 use Rattle.date.proofs.Parts.{parts}
 use Rattle.date.proofs.calendar_day.Goals as goal
 
-pub returns-in-Value : goal.returns-in-Value
+pub returns-in-Some : goal.returns-in-Some
 unfolding calendar_day
-returns-in-Value c = search (parts, c.in_ok-day.was, c.in_ok-month.was, c.in_ok-year.was)
+returns-in-Some c = search (parts, c.in_ok-day.was, c.in_ok-month.was, c.in_ok-year.was)
 
-pub returns-in-Nothing : goal.returns-in-Nothing
+pub returns-in-None : goal.returns-in-None
 unfolding calendar_day
-returns-in-Nothing c = search (parts, c.in_ok-day.was, c.in_ok-month.was, c.in_ok-year.was)
+returns-in-None c = search (parts, c.in_ok-day.was, c.in_ok-month.was, c.in_ok-year.was)

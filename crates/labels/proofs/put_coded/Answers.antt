@@ -1,5 +1,5 @@
 use Rattle.labels.proofs.Writing.{putting_coded}
 use Rattle.labels.proofs.put_coded.Goals as goal
 
-pub returns-in-NoRoom : goal.returns-in-NoRoom
-returns-in-NoRoom c = search putting_coded
+pub returns-in-None : goal.returns-in-None
+returns-in-None c = search putting_coded

@@ -1,8 +1,8 @@
 use Rattle.showing.proofs.Making.{having_form}
 use Rattle.showing.proofs.has_form.Goals as goal
 
-pub returns-in-At : goal.returns-in-At
-returns-in-At c = search having_form
+pub returns-in-Some : goal.returns-in-Some
+returns-in-Some c = search having_form
 
-pub returns-in-NoRoom : goal.returns-in-NoRoom
-returns-in-NoRoom c = search having_form
+pub returns-in-None : goal.returns-in-None
+returns-in-None c = search having_form

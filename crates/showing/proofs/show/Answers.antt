@@ -13,8 +13,8 @@ show_form-requires-clause-s_in_bounds c = search showing_address
 pub show_form-requires-clause-s_len_bound : goal.show_form-requires-clause-s_len_bound
 show_form-requires-clause-s_len_bound c = search showing_address
 
-pub returns-in-Length-clause-value : goal.returns-in-Length-clause-value
-returns-in-Length-clause-value c = search showing_address
+pub returns-in-Some-clause-value : goal.returns-in-Some-clause-value
+returns-in-Some-clause-value c = search showing_address
 
-pub returns-in-Length-clause-out_after : goal.returns-in-Length-clause-out_after
-returns-in-Length-clause-out_after c = search showing_address
+pub returns-in-Some-clause-out_after : goal.returns-in-Some-clause-out_after
+returns-in-Some-clause-out_after c = search showing_address

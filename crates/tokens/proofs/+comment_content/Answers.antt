@@ -17,11 +17,11 @@ content-loop-i-init t c = search commenting
 pub content-comment-requires : goal.content-comment-requires
 content-comment-requires t c = search commenting
 
-pub content-loop-i-preserved-in-To : goal.content-loop-i-preserved-in-To
-content-loop-i-preserved-in-To t c = search commenting
+pub content-loop-i-preserved-in-Some : goal.content-loop-i-preserved-in-Some
+content-loop-i-preserved-in-Some t c = search commenting
 
-pub content-returns-in-Unreadable : goal.content-returns-in-Unreadable
-content-returns-in-Unreadable t c = search commenting
+pub content-returns-in-None : goal.content-returns-in-None
+content-returns-in-None t c = search commenting
 
 pub content-loop-i-smaller : goal.content-loop-i-smaller
 content-loop-i-smaller t c = search commenting

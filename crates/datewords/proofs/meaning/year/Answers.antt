@@ -1,5 +1,5 @@
 use Rattle.datewords.proofs.Meant.{years}
 use Rattle.datewords.proofs.meaning.year.Goals as goal
 
-pub returns-in-Value : goal.returns-in-Value
-returns-in-Value c = search years
+pub returns-in-Some : goal.returns-in-Some
+returns-in-Some c = search years
