@@ -3,6 +3,7 @@
 --     of_not_written           a writer that refuses answers the length 0 (R34)
 --     set_take .. set_unset    the gossip setting: take, skip, and unset for every other number (G1)
 -- Assumes nothing.
+use Rattle.std.specs.Prelude.{Result, Err}
 use Prim.Native.Nat.{ℕ}
 use mathlib.Core.Path.{◌≡◌, ap, ◌∙◌}
 use mathlib.Core.Bool.{Bool}
@@ -14,8 +15,6 @@ use Rattle.settings.specs.declared.Gossip.TheVariants.{Take, Skip, Unset}
 use Rattle.recommend.specs.Recommending.{recommended_of, looked_up_of, quick_of}
 use Rattle.recommend.specs.declared.Quick.{Quick as Quickly}
 use Rattle.recommend.proofs.Range.{quick_whole}
-use Rattle.write.specs.declared.Written.{Written as Writing}
-use Rattle.write.specs.declared.Written.TheVariants.{Refused as NotWritten}
 use Rattle.cabi.specs.Numbers.{written_in_numbers, setting_of, quick_in_numbers}
 use Rattle.cabi.specs.declared.numbers.Quick.{Quick}
 use Rattle.cabi.specs.declared.numbers.Written.{Written}
@@ -28,7 +27,7 @@ quick_same t s m reply q r p e n = p ∙ ap quick_in_numbers (quick_whole t s m 
 
 -- R34: with a refusal there is no length
 pub of_not_written :
-    (a : Writing) (n : ℕ) (r : Refusal) → a ≡ NotWritten r → n ≡ number_of r → ◌≡◌ {A = Written} (record { number = n; length = 0 }) (written_in_numbers a)
+    (a : Result ℕ Refusal) (n : ℕ) (r : Refusal) → a ≡ Err r → n ≡ number_of r → ◌≡◌ {A = Written} (record { number = n; length = 0 }) (written_in_numbers a)
 unfolding written_in_numbers
 of_not_written a n r e q = rw (e, q)
 

@@ -6,22 +6,15 @@
 --     quick_in_numbers                    the advice and how many recipients were looked up
 --     part_in_numbers                     a part of the table
 --     linted_in_numbers                   how many faults there are, 0 where the call refuses
-use Rattle.std.specs.Prelude.{ℕ, true, false, eqb}
+use Rattle.std.specs.Prelude.{ℕ, true, false, eqb, Result, Ok, Err}
+use Rattle.refusals.specs.declared.Refusal.{Refusal}
 use Rattle.refusals.specs.Refusals.{number_of, index_of}
-use Rattle.refusals.specs.declared.Answer.{Answer as Refusing}
-use Rattle.refusals.specs.declared.Answer.TheVariants.{Done, Refused}
 use Rattle.advice.specs.declared.Advice.{Advice as Kind}
 use Rattle.advice.specs.declared.Advice.TheVariants.{Disable, Discourage, Available, Encrypt}
 use Rattle.advice.specs.declared.Part.{Part as Place}
 use Rattle.settings.specs.declared.Gossip.{Gossip}
 use Rattle.settings.specs.declared.Gossip.TheVariants.{Take, Skip, Unset}
 use Rattle.recommend.specs.declared.Quick.{Quick as Quickly}
-use Rattle.recommend.specs.declared.Recommended.{Recommended}
-use Rattle.recommend.specs.declared.Recommended.TheVariants.{Done as Advised, Refused as NotAdvised}
-use Rattle.write.specs.declared.Written.{Written as Writing}
-use Rattle.write.specs.declared.Written.TheVariants.{Done as Wrote, Refused as NotWritten}
-use Rattle.lint.specs.declared.Linted.{Linted as Linting}
-use Rattle.lint.specs.declared.Linted.TheVariants.{Done as Looked, Refused as NotLooked}
 use Rattle.cabi.specs.declared.numbers.Answer.{Answer}
 use Rattle.cabi.specs.declared.numbers.Advice.{Advice}
 use Rattle.cabi.specs.declared.numbers.Linted.{Linted}
@@ -30,14 +23,14 @@ use Rattle.cabi.specs.declared.numbers.Quick.{Quick}
 use Rattle.cabi.specs.declared.numbers.Written.{Written}
 
 -- R33: 0, or the number of the refusal; the index is 0 with all answers but 2
-unfoldable pub in_numbers : Refusing → Answer
-in_numbers Done = record { number = 0; index = 0 }
-in_numbers (Refused r) = record { number = number_of r; index = index_of r }
+unfoldable pub in_numbers : Result (Unit {0}) Refusal → Answer
+in_numbers (Ok tt) = record { number = 0; index = 0 }
+in_numbers (Err r) = record { number = number_of r; index = index_of r }
 
 -- R34: 0 and the length of the field, or the number of the refusal and the length 0
-unfoldable pub written_in_numbers : Writing → Written
-written_in_numbers (Wrote n) = record { number = 0; length = n }
-written_in_numbers (NotWritten r) = record { number = number_of r; length = 0 }
+unfoldable pub written_in_numbers : Result ℕ Refusal → Written
+written_in_numbers (Ok n) = record { number = 0; length = n }
+written_in_numbers (Err r) = record { number = number_of r; length = 0 }
 
 -- G1: 1 stands for take and 2 for skip, and every other number is unset
 unfoldable pub setting_of : ℕ → Gossip
@@ -51,9 +44,9 @@ advice_number Available = 3
 advice_number Encrypt = 4
 
 -- A1: 0 and the advice, or the number of the refusal, its index, and 0 for the advice
-unfoldable pub advice_in_numbers : Recommended → Advice
-advice_in_numbers (Advised a) = record { number = 0; index = 0; advice = advice_number a }
-advice_in_numbers (NotAdvised r) = record { number = number_of r; index = index_of r; advice = 0 }
+unfoldable pub advice_in_numbers : Result Advice Refusal → Advice
+advice_in_numbers (Ok a) = record { number = 0; index = 0; advice = advice_number a }
+advice_in_numbers (Err r) = record { number = number_of r; index = index_of r; advice = 0 }
 
 -- A12, A13: the numbers of the advice, and how many recipients were looked up
 unfoldable pub quick_in_numbers : Quickly → Quick
@@ -66,6 +59,6 @@ unfoldable pub part_in_numbers : Place → Part
 part_in_numbers p = record { start = p.start; length = p.length }
 
 -- O1: 0 and how many faults there are, or the number of the refusal and the count 0
-unfoldable pub linted_in_numbers : Linting → Linted
-linted_in_numbers (Looked n) = record { number = 0; count = n }
-linted_in_numbers (NotLooked r) = record { number = number_of r; count = 0 }
+unfoldable pub linted_in_numbers : Result ℕ Refusal → Linted
+linted_in_numbers (Ok n) = record { number = 0; count = n }
+linted_in_numbers (Err r) = record { number = number_of r; count = 0 }

@@ -56,17 +56,17 @@ pub struct Linted {
 }
 
 // R33: the number of a refusal and the index that it carries, 0 and 0 where there is none.
-impl From<autocrypt::Answer> for Answer {
+impl From<Result<(), autocrypt::Refusal>> for Answer {
     ghost from_gives = { λ answer numbers. numbers ≡ in_numbers answer };
 
     #[tactic(auto, unfolding(crate::specs::Numbers::in_numbers))]
-    fn from(answer: autocrypt::Answer) -> Self {
+    fn from(answer: Result<(), autocrypt::Refusal>) -> Self {
         match answer {
-            autocrypt::Answer::Done => Self {
+            Ok(()) => Self {
                 number: 0,
                 index: 0,
             },
-            autocrypt::Answer::Refused(r) => Self {
+            Err(r) => Self {
                 number: autocrypt::number(r),
                 index: autocrypt::index(r),
             },
@@ -75,17 +75,17 @@ impl From<autocrypt::Answer> for Answer {
 }
 
 // R34: the length of the field; with a refusal it is 0.
-impl From<autocrypt::Written> for Written {
+impl From<Result<usize, autocrypt::Refusal>> for Written {
     ghost from_gives = { λ answer numbers. numbers ≡ written_in_numbers answer };
 
     #[tactic(auto, unfolding(crate::specs::Numbers::written_in_numbers))]
-    fn from(answer: autocrypt::Written) -> Self {
+    fn from(answer: Result<usize, autocrypt::Refusal>) -> Self {
         match answer {
-            autocrypt::Written::Done(n) => Self {
+            Ok(n) => Self {
                 number: 0,
                 length: n as u64,
             },
-            autocrypt::Written::Refused(r) => Self {
+            Err(r) => Self {
                 number: u64::from(autocrypt::number(r)),
                 length: 0,
             },
@@ -106,18 +106,18 @@ fn advice_number(advice: autocrypt::Advice) -> u32
 }
 
 // A1: the advice; with a refusal it is 0.
-impl From<autocrypt::Recommended> for Advice {
+impl From<Result<autocrypt::Advice, autocrypt::Refusal>> for Advice {
     ghost from_gives = { λ answer numbers. numbers ≡ advice_in_numbers answer };
 
     #[tactic(auto, unfolding(crate::specs::Numbers::advice_in_numbers))]
-    fn from(answer: autocrypt::Recommended) -> Self {
+    fn from(answer: Result<autocrypt::Advice, autocrypt::Refusal>) -> Self {
         match answer {
-            autocrypt::Recommended::Done(advice) => Self {
+            Ok(advice) => Self {
                 number: 0,
                 index: 0,
                 advice: advice_number(advice),
             },
-            autocrypt::Recommended::Refused(r) => Self {
+            Err(r) => Self {
                 number: autocrypt::number(r),
                 index: autocrypt::index(r),
                 advice: 0,
@@ -160,16 +160,16 @@ impl From<autocrypt::Part> for Part {
 
 // O1: how many faults there are, which is a number of 32 bits by O11; with a refusal it is 0.
 #[tactic(auto, unfolding(crate::specs::Numbers::linted_in_numbers, lint::specs::Linting::FewFaults))]
-pub fn linted_in_numbers(answer: autocrypt::Linted) -> Linted
+pub fn linted_in_numbers(answer: Result<usize, autocrypt::Refusal>) -> Linted
     requires { FewFaults answer }
     ensures { result ≡ linted_in_numbers answer }
 {
     match answer {
-        autocrypt::Linted::Done(n) => Linted {
+        Ok(n) => Linted {
             number: 0,
             count: n as u32,
         },
-        autocrypt::Linted::Refused(r) => Linted {
+        Err(r) => Linted {
             number: autocrypt::number(r),
             count: 0,
         },

@@ -11,7 +11,7 @@
 use Prim.Native.Nat.{ℕ}
 use mathlib.Core.Path.{◌≡◌, sym, ◌∙◌}
 use mathlib.Core.List.{List}
-use Rattle.std.specs.Prelude.{Some, None}
+use Rattle.std.specs.Prelude.{Some, None, Result, Ok, Err}
 use borrow.Author.Rules.{rules}
 use mir.Syntax.{w8}
 use mir.Val.{Fits}
@@ -21,8 +21,6 @@ use Rattle.octets.proofs.Lists.{given_octets}
 use Rattle.refusals.specs.Rows.{first_of, answer_of}
 use Rattle.refusals.specs.declared.Refusal.{Refusal}
 use Rattle.refusals.specs.declared.Refusal.TheVariants.{BrokenSlot}
-use Rattle.refusals.specs.declared.Answer.{Answer}
-use Rattle.refusals.specs.declared.Answer.TheVariants.{Done, Refused}
 use Rattle.refusals.proofs.Rows.{refused_is, done_is, answer_refused, answer_done}
 use Rattle.slots.specs.declared.Spelling.TheVariants.{Canonical, Ascii}
 use Rattle.table.specs.Table.{slots, checked_by, checked}
@@ -47,24 +45,24 @@ module _ (t : List ℕ) where
   left_done e = done_is (λ (x : Refusal). t) (converted t) (refused_converting t) e
 
   -- as the code has it: r is what the check by the old rule answered
-  module _ (tags : List ℕ) (r : Answer) (h : OpensBy Ascii t tags r) where
+  module _ (tags : List ℕ) (r : Result (Unit {0}) Refusal) (h : OpensBy Ascii t tags r) where
     answered : r ≡ answer_of (refused_converting t)
     unfolding refused_converting converting_rows
     answered = h.answer
 
-    pub old_opens : r ≡ Done → OpenBy Ascii t tags
+    pub old_opens : r ≡ Ok tt → OpenBy Ascii t tags
     old_opens q = h.opens q
 
-    pub done_answer : r ≡ Done → Done ≡ answer_of (refused_converting t)
+    pub done_answer : r ≡ Ok tt → (Ok tt) ≡ answer_of (refused_converting t)
     done_answer q = sym q ∙ answered
 
-    pub done_left : r ≡ Done → (out : List ℕ) → out ≡ converted t → out ≡ left_by_converting t
+    pub done_left : r ≡ Ok tt → (out : List ℕ) → out ≡ converted t → out ≡ left_by_converting t
     done_left q out e = e ∙ sym (left_done (answer_done (refused_converting t) (sym answered ∙ q)))
 
-    pub refused_answer : (x : Refusal) → r ≡ Refused x → Refused x ≡ answer_of (refused_converting t)
+    pub refused_answer : (x : Refusal) → r ≡ Err x → Err x ≡ answer_of (refused_converting t)
     refused_answer x q = sym q ∙ answered
 
-    pub refused_left : (x : Refusal) → r ≡ Refused x → t ≡ left_by_converting t
+    pub refused_left : (x : Refusal) → r ≡ Err x → t ≡ left_by_converting t
     refused_left x q = sym (left_refused x (answer_refused (refused_converting t) x (sym answered ∙ q)))
 
   -- a table that is sound already
@@ -76,12 +74,12 @@ module _ (t : List ℕ) where
     pub sound_untouched : AllOctets t → left_by_converting t ≡ t
     sound_untouched o = left_done not_refused ∙ sound_stays t s o
 
-  module _ (r : Answer) (q : r ≡ Done) (h : r ≡ answer_of (first_of (table_rows t))) where
+  module _ (r : Result (Unit {0}) Refusal) (q : r ≡ Ok tt) (h : r ≡ answer_of (first_of (table_rows t))) where
     passed : checked t ≡ Sound
     passed = rows_sound Canonical t (answer_done (first_of (table_rows t)) (sym h ∙ q))
 
-    pub sound_done : Done ≡ answer_of (refused_converting t)
-    sound_done = sym (done_is Refused Done (refused_converting t) (not_refused passed))
+    pub sound_done : (Ok tt) ≡ answer_of (refused_converting t)
+    sound_done = sym (done_is Err (Ok tt) (refused_converting t) (not_refused passed))
 
     pub sound_left : ((j : ℕ) → Fits w8 (get_or t j 0)) → t ≡ left_by_converting t
     sound_left g = sym (sound_untouched passed (given_octets t g))
@@ -92,22 +90,22 @@ pub ruleset converting = (sound_done, sound_left, rules)
 
 -- what callers know of an answer
 module _ (t : List ℕ) where
-  pub refused_untouched : (r : Refusal) → answer_of (refused_converting t) ≡ Refused r → left_by_converting t ≡ t
+  pub refused_untouched : (r : Refusal) → answer_of (refused_converting t) ≡ Err r → left_by_converting t ≡ t
   refused_untouched r e = left_refused t r (answer_refused (refused_converting t) r e)
 
-  pub index_lowest : (i : ℕ) → answer_of (refused_converting t) ≡ Refused (BrokenSlot i) → BrokenBy Ascii t i
+  pub index_lowest : (i : ℕ) → answer_of (refused_converting t) ≡ Err (BrokenSlot i) → BrokenBy Ascii t i
   unfolding refused_converting converting_rows
   index_lowest i e = lowest_broken Ascii t i (answer_refused (first_of (table_rows_by Ascii t)) (BrokenSlot i) e)
 
-  pub lowest_index : (i : ℕ) → BrokenBy Ascii t i → answer_of (refused_converting t) ≡ Refused (BrokenSlot i)
+  pub lowest_index : (i : ℕ) → BrokenBy Ascii t i → answer_of (refused_converting t) ≡ Err (BrokenSlot i)
   unfolding refused_converting converting_rows
-  lowest_index i b = refused_is Refused Done (first_of (table_rows_by Ascii t)) (BrokenSlot i) (broken_refused Ascii t i b)
+  lowest_index i b = refused_is Err (Ok tt) (first_of (table_rows_by Ascii t)) (BrokenSlot i) (broken_refused Ascii t i b)
 
-  pub was_sound_done : checked_by Ascii t ≡ Sound → answer_of (refused_converting t) ≡ Done
+  pub was_sound_done : checked_by Ascii t ≡ Sound → answer_of (refused_converting t) ≡ Ok tt
   unfolding refused_converting converting_rows
-  was_sound_done s = done_is Refused Done (first_of (table_rows_by Ascii t)) (sound_rows Ascii t s)
+  was_sound_done s = done_is Err (Ok tt) (first_of (table_rows_by Ascii t)) (sound_rows Ascii t s)
 
-  module _ (e : answer_of (refused_converting t) ≡ Done) where
+  module _ (e : answer_of (refused_converting t) ≡ Ok tt) where
     pub done_was_sound : checked_by Ascii t ≡ Sound
     unfolding refused_converting converting_rows
     done_was_sound = rows_sound Ascii t (answer_done (first_of (table_rows_by Ascii t)) e)

@@ -11,7 +11,7 @@ ghost use Rattle.table.specs.Tagged.{OpenBy};
 ghost use Rattle.convert.specs.Converting.{converted, refused_converting, left_by_converting};
 ghost use Rattle.convert.specs.Steps.{brought_at, brought, Brings, Settles, Absorbs};
 
-use refusals::Answer;
+use refusals::Refusal;
 use slots::{Slot, Spelling};
 
 // Merges slot i into the lower slot j, and frees it (T17). Its octets are copied first, so that the one slot can be read
@@ -79,17 +79,17 @@ fn convert_slots(table: &mut [u8], tags: &mut [u32; Slot::MOST])
 
 // Refusals by the old rule, and the conversion.
 #[tactic(auto, using(crate::proofs::Outcomes::converting_old))]
-fn convert_old(table: &mut [u8]) -> Answer
+fn convert_old(table: &mut [u8]) -> Result<(), Refusal>
     ensures value { result ≡ answer_of (refused_converting table.old) }
     ensures table_after { table.new ≡ left_by_converting table.old }
 {
     let mut tags = [0u32; Slot::MOST];
     match inspect::open_by(table, &mut tags, Spelling::Ascii) {
-        Answer::Done => {
+        Ok(()) => {
             convert_slots(table, &mut tags);
-            Answer::Done
+            Ok(())
         }
-        Answer::Refused(refusal) => Answer::Refused(refusal),
+        Err(refusal) => Err(refusal),
     }
 }
 
@@ -101,12 +101,12 @@ fn convert_old(table: &mut [u8]) -> Answer
 // are, those of the lowest slot where they are equal (T18). No other slot changes. A sound table stays as it is (T19), and
 // costs no more than its check.
 #[tactic(auto, using(crate::proofs::Outcomes::converting))]
-pub fn convert(table: &mut [u8]) -> Answer
+pub fn convert(table: &mut [u8]) -> Result<(), Refusal>
     ensures value { result ≡ answer_of (refused_converting table.old) }
     ensures table_after { table.new ≡ left_by_converting table.old }
 {
     match inspect::check(table) {
-        Answer::Done => Answer::Done,
-        Answer::Refused(_) => convert_old(table),
+        Ok(()) => Ok(()),
+        Err(_) => convert_old(table),
     }
 }

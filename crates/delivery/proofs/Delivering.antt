@@ -5,6 +5,7 @@
 --     alone_full .. alone_left       whether there is room for a message with no gossip to look for, and the table afterwards
 --     the rulesets                   carrying and delivering, for `deliver`; putting, for `put_message`; alone, for `deliver_alone`
 -- Assumes nothing.
+use Rattle.std.specs.Prelude.{Ok, Err}
 use Prim.Native.Nat.{ℕ}
 use mathlib.Core.Path.{◌≡◌, refl, ◌∙◌}
 use mathlib.Core.Bool.{Bool, true, false}
@@ -14,7 +15,6 @@ use borrow.Author.Rules.{rules}
 use lib.ListN.{length}
 use Rattle.refusals.specs.Rows.{first_of, answer_of}
 use Rattle.refusals.specs.declared.Refusal.TheVariants.{NoFreeSlot}
-use Rattle.refusals.specs.declared.Answer.TheVariants.{Done, Refused}
 use Rattle.refusals.proofs.Rows.{denied_refuses, denied_passes, no_row}
 use Rattle.table.specs.Tagged.{Open}
 use Rattle.update.specs.Update.{updated, put}
@@ -67,13 +67,13 @@ module _ (t sender key : List ℕ) (b : Brought) where
       unfolding addresses_of mail_of
       told = e ∙ beside_message t mail
 
-      refused : c ≡ false → Refused NoFreeSlot ≡ answer_of (first_of (room_rows t mail))
+      refused : c ≡ false → Err NoFreeSlot ≡ answer_of (first_of (room_rows t mail))
       unfolding room_rows
-      refused q = denied_refuses Refused Done NoFreeSlot [] (Refused NoFreeSlot) (has_room t mail) c told q refl
+      refused q = denied_refuses Err (Ok tt) NoFreeSlot [] (Err NoFreeSlot) (has_room t mail) c told q refl
 
-      done : c ≡ true → Done ≡ answer_of (first_of (room_rows t mail))
+      done : c ≡ true → (Ok tt) ≡ answer_of (first_of (room_rows t mail))
       unfolding room_rows
-      done q = denied_passes Refused Done NoFreeSlot [] Done (has_room t mail) c told q (no_row Refused Done Done refl)
+      done q = denied_passes Err (Ok tt) NoFreeSlot [] (Ok tt) (has_room t mail) c told q (no_row Err (Ok tt) (Ok tt) refl)
 
       untouched : c ≡ false → t ≡ delivered t mail
       unfolding delivered
@@ -89,7 +89,7 @@ module _ (t sender key : List ℕ) (b : Brought) where
     put_all u v x y = (rw x at y) ∙ put_heard (gossip_of limit recipients payload)
 
     module _ (c : Bool) (e : c ≡ room_beside t [] (sender ∷ gossiped_in limit recipients payload)) where
-      pub full_answered : c ≡ false → Refused NoFreeSlot ≡ answer_of (first_of (room_rows t (mail_of sender key b (gossip_of limit recipients payload))))
+      pub full_answered : c ≡ false → Err NoFreeSlot ≡ answer_of (first_of (room_rows t (mail_of sender key b (gossip_of limit recipients payload))))
       unfolding gossiped_in
       full_answered = refused (gossip_of limit recipients payload) c e
 
@@ -97,7 +97,7 @@ module _ (t sender key : List ℕ) (b : Brought) where
       unfolding gossiped_in
       full_left = untouched (gossip_of limit recipients payload) c e
 
-      pub put_answered : c ≡ true → Done ≡ answer_of (first_of (room_rows t (mail_of sender key b (gossip_of limit recipients payload))))
+      pub put_answered : c ≡ true → (Ok tt) ≡ answer_of (first_of (room_rows t (mail_of sender key b (gossip_of limit recipients payload))))
       unfolding gossiped_in
       put_answered = done (gossip_of limit recipients payload) c e
 
@@ -108,7 +108,7 @@ module _ (t sender key : List ℕ) (b : Brought) where
 
   -- no gossip
   module _ (c : Bool) (e : c ≡ room_beside t [] (sender ∷ [])) where
-    pub alone_full : c ≡ false → Refused NoFreeSlot ≡ answer_of (first_of (room_rows t (mail_of sender key b [])))
+    pub alone_full : c ≡ false → Err NoFreeSlot ≡ answer_of (first_of (room_rows t (mail_of sender key b [])))
     unfolding gossip_addresses
     alone_full = refused [] c e
 
@@ -116,7 +116,7 @@ module _ (t sender key : List ℕ) (b : Brought) where
     unfolding gossip_addresses
     alone_untouched = untouched [] c e
 
-    pub alone_answered : c ≡ true → Done ≡ answer_of (first_of (room_rows t (mail_of sender key b [])))
+    pub alone_answered : c ≡ true → (Ok tt) ≡ answer_of (first_of (room_rows t (mail_of sender key b [])))
     unfolding gossip_addresses
     alone_answered = done [] c e
 

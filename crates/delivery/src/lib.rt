@@ -13,7 +13,7 @@ ghost use Rattle.delivery.specs.Delivery.{room_rows, delivered};
 ghost use Rattle.delivery.specs.Sending.{Listens, Sends, Carries};
 
 use message::Brought;
-use refusals::{Answer, Refusal};
+use refusals::Refusal;
 use slots::Slot;
 
 // Puts the accepted gossip of the payload into the table, field by field in order (G5, G9).
@@ -133,7 +133,7 @@ pub fn deliver(
     listed: &[u32],
     places: &[u16],
     text: &mut [u8],
-) -> Answer
+) -> Result<(), Refusal>
     requires { Carries table.old tags.old sender.now key.now brought payload.now limit recipients.now listed.now places.now text.old }
     ensures value { result ≡ answer_of (first_of (room_rows table.old
         (mail_of sender.now key.now brought (gossip_of limit recipients.now payload.now)))) }
@@ -144,12 +144,12 @@ pub fn deliver(
     if !room::has_room(
         table, tags, limit, sender, payload, recipients, listed, places, text,
     ) {
-        return Answer::Refused(Refusal::NoFreeSlot);
+        return Err(Refusal::NoFreeSlot);
     }
     put_message(
         table, tags, brought, sender, key, payload, limit, recipients, listed, places, text,
     );
-    Answer::Done
+    Ok(())
 }
 
 // Delivers a message in which no gossip is looked for, or refuses it with 8: nobody asks for its recipients.
@@ -159,14 +159,14 @@ pub fn deliver_alone(
     brought: Brought,
     sender: &[u8],
     key: &[u8],
-) -> Answer
+) -> Result<(), Refusal>
     requires { Sends table.old tags.old sender.now key.now brought }
     ensures value { result ≡ answer_of (first_of (room_rows table.old (mail_of sender.now key.now brought []))) }
     ensures table_after { table.new ≡ delivered table.old (mail_of sender.now key.now brought []) }
 {
     if !room::has_room_alone(table, tags, sender) {
-        return Answer::Refused(Refusal::NoFreeSlot);
+        return Err(Refusal::NoFreeSlot);
     }
     update_sender(table, tags, brought, sender, key);
-    Answer::Done
+    Ok(())
 }

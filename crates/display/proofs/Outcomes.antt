@@ -9,7 +9,7 @@ use Prim.Native.Nat.{ℕ, ◌≤◌}
 use mathlib.Core.Path.{◌≡◌, sym, ap, ◌∙◌}
 use mathlib.Core.Bool.{true}
 use mathlib.Core.List.{List}
-use Rattle.std.specs.Prelude.{Option, Some, None}
+use Rattle.std.specs.Prelude.{Option, Some, None, Ok, Err}
 use native.Mathlib.Omega.{arith}
 use borrow.Author.Tests.{leb-true, leb-false, not-true, not-false}
 use lib.Dec.{leb}
@@ -24,16 +24,15 @@ use Rattle.refusals.proofs.Rows.{exactly, none_here, none_rest, refused_is, done
 use Rattle.address.specs.Address.{plain, canonical}
 use Rattle.showing.specs.Showing.{displayed}
 use Rattle.showing.proofs.Typing.{canonical_displayed, displayed_most}
-use Rattle.write.specs.declared.Written.TheVariants.{Done, Refused}
 use Rattle.write.proofs.Outcomes.{answer_refused, answer_done}
 use Rattle.display.specs.Displaying.{display_room, displaying_rows, refused_displaying, displayed_of, left_by_displaying}
 
 module _ (address : List ℕ) (room : ℕ) where
-  pub refused_row : (r : Refusal) → displayed_of address room ≡ Refused r → refused_displaying address room ≡ Some r
+  pub refused_row : (r : Refusal) → displayed_of address room ≡ Err r → refused_displaying address room ≡ Some r
   unfolding displayed_of
   refused_row r e = answer_refused (length (displayed address)) (refused_displaying address room) r e
 
-  pub done_row : (n : ℕ) → displayed_of address room ≡ Done n → (refused_displaying address room ≡ None) × (length (displayed address) ≡ n)
+  pub done_row : (n : ℕ) → displayed_of address room ≡ Ok n → (refused_displaying address room ≡ None) × (length (displayed address) ≡ n)
   unfolding displayed_of
   done_row n e = answer_done (length (displayed address)) (refused_displaying address room) n e
 
@@ -59,12 +58,12 @@ module _ (address out : List ℕ) where
   abbrev refused : Option Refusal
   refused = refused_displaying address (length out)
 
-  pub refused_untouched : (r : Refusal) → displayed_of address (length out) ≡ Refused r → left_by_displaying address out ≡ out
+  pub refused_untouched : (r : Refusal) → displayed_of address (length out) ≡ Err r → left_by_displaying address out ≡ out
   unfolding left_by_displaying
   refused_untouched r e =
       refused_is (λ (q : Refusal). out) (onto (displayed address) out) refused r (refused_row address (length out) r e)
 
-  module _ (n : ℕ) (e : displayed_of address (length out) ≡ Done n) where
+  module _ (n : ℕ) (e : displayed_of address (length out) ≡ Ok n) where
     pub done_shows : Shows address out n
     unfolding left_by_displaying
     done_shows =
@@ -98,7 +97,7 @@ module _ (address : List ℕ) (room : ℕ) (l : display_room ≤ room) where
       )
   too_long (behind p (behind s (nothing q))) = omega arith
 
-  pub display_roomy : displayed_of address room ≡ Refused OutputLength → ⊥
+  pub display_roomy : displayed_of address room ≡ Err OutputLength → ⊥
   unfolding refused_displaying
   display_roomy e =
       too_long ((exactly (displaying_rows address room) 12).0 (refused_is number_of 0 _ OutputLength (refused_row address room OutputLength e)))

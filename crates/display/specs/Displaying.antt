@@ -2,7 +2,7 @@
 --     display_room                         room for every address shown
 --     displaying_rows, refused_displaying  rows 9 and 12
 --     displayed_of, left_by_displaying     the answer, and what the output holds afterwards
-use Rattle.std.specs.Prelude.{ℕ, List, [], ◌∷◌, leb, length}
+use Rattle.std.specs.Prelude.{ℕ, List, [], ◌∷◌, leb, length, Result, Ok, Err}
 use Rattle.std.specs.Prelude.{Option}
 use Rattle.octets.specs.Written.{onto}
 use Rattle.refusals.specs.Rows.{Row, ◌unless◌, first_of, answered_by, unless_refused}
@@ -10,8 +10,6 @@ use Rattle.refusals.specs.declared.Refusal.{Refusal}
 use Rattle.refusals.specs.declared.Refusal.TheVariants.{OwnAddress, OutputLength}
 use Rattle.address.specs.Address.{plain}
 use Rattle.showing.specs.Showing.{displayed}
-use Rattle.write.specs.declared.Written.{Written}
-use Rattle.write.specs.declared.Written.TheVariants.{Done, Refused}
 
 -- W11: an output of 1,024 octets is always enough, as the C header promises
 abbrev pub display_room : ℕ
@@ -27,8 +25,8 @@ unfoldable pub refused_displaying : List ℕ → ℕ → Option Refusal
 refused_displaying address room = first_of (displaying_rows address room)
 
 -- W11, R34: the length of the address shown; a refusal has none
-unfoldable pub displayed_of : List ℕ → ℕ → Written
-displayed_of address room = answered_by (refused_displaying address room) Refused (Done (length (displayed address)))
+unfoldable pub displayed_of : List ℕ → ℕ → Result ℕ Refusal
+displayed_of address room = answered_by (refused_displaying address room) Err (Ok (length (displayed address)))
 
 -- W11, R32: the address shown at the front of the output, and behind it what was there; with a refusal the output stays as it was
 unfoldable pub left_by_displaying : List ℕ → List ℕ → List ℕ

@@ -8,7 +8,7 @@ use Prim.Native.Nat.{ℕ, zero, suc, ◌+◌, ◌*◌, ◌<◌}
 use mathlib.Core.Path.{◌≡◌, refl, sym, ◌∙◌}
 use mathlib.Core.Bool.{true, ◌&&◌, false≢true, or-true}
 use mathlib.Core.List.{List, [], ◌∷◌, ◌++◌}
-use Rattle.std.specs.Prelude.{Option, Some, None}
+use Rattle.std.specs.Prelude.{Option, Some, None, Ok, Err}
 use native.Mathlib.Omega.{arith}
 use borrow.Author.Tests.{eqb-true, eq-eqb}
 use lib.Dec.{eqb}
@@ -20,7 +20,6 @@ use Rattle.refusals.specs.declared.Refusal.{Refusal}
 use Rattle.faults.specs.Faults.{Fault, numbers_of}
 use Rattle.faults.specs.Found.{same_fault, is_in}
 use Rattle.lint.specs.Linting.{mail_faults, refused_linting, linted_of, left_by_linting}
-use Rattle.lint.specs.declared.Linted.TheVariants.{Done, Refused}
 use Rattle.findings.specs.Findings.{Listed, AnswerLists}
 use Rattle.findings.proofs.Findings.{each_listed}
 
@@ -70,7 +69,7 @@ module _ (x : Fault) where
       (sym (three_more f (numbers_of l ++ rest) (3 * suc i + 2) (3 * i + 2) (omega arith)) ∙ k))
       (or-true (same_fault x f))
 
-done_none : (o : Option Refusal) (d n : ℕ) → Done n ≡ answered_by o Refused (Done d) → (o ≡ None) × (d ≡ n)
+done_none : (o : Option Refusal) (d n : ℕ) → Ok n ≡ answered_by o Err (Ok d) → (o ≡ None) × (d ≡ n)
 unfolding answered_by
 done_none None d n e = (refl, cc)
 done_none (Some r) d n e = (cc, cc)

@@ -3,6 +3,7 @@
 --     own_left, gossip_left      what the two calls left
 --     own_stands, gossip_stand   where it stands
 --     clean                      no fault is counted
+use Rattle.std.specs.Prelude.{Ok}
 use mathlib.Core.Path.{◌≡◌, refl}
 use mathlib.Core.Bool.{true, false}
 use mathlib.Core.List.{List, [], ◌∷◌, ◌++◌}
@@ -39,7 +40,6 @@ use Rattle.names.specs.Names.{autocrypt as autocrypt_name, gossip as gossip_name
 use Rattle.writer.specs.Writing as writer
 use Rattle.write.specs.Writing.{writing_rows, refused_writing, written_of, left_by_writing}
 use Rattle.lint.specs.Linting.{linted_of}
-use Rattle.lint.specs.declared.Linted.TheVariants.{Done as Found}
 use Rattle.trip.specs.RoundTrip.{none as no_lines, one, behind, others}
 use Rattle.trip.proofs.WorkedTrip.{tested}
 use Rattle.findings.specs.Clean.{Left}
@@ -97,6 +97,6 @@ gossip_stand : GossipStand (outer.recipients_in (fields.fields_in mail)) inner
 unfolding octets.lower octets.lowered octets.same_name octets.same_octets octets.starts_with octets.blank tokens.past tokens.kind_of tokens.control runs.belongs runs.run tokens.after_quote base64.decode base64.follow base64.before base64.at_end base64.grouped base64.closed base64.sign_of tests.without header.fields_of header.fields header.fields_within in_front header.unfolded header.over header.of_ending header.opens_field header.raw_length header.closes tests.every pieces.on_first pieces.pieces pieces.before pieces.behind ascii·address.atom ascii·address.local_part ascii·address.free_ends labels.label_octet labels.label_form labels.fits labels.label labels.labelled address.domain address.domain_form address.address_form address.plain address.canonical pieces.from lowering.lower_text lowering.lower_points lowering.lower_point utf8.points utf8.tails utf8.lead_of utf8.encoded utf8.encoded_one list.opening_of holds list.run_token list.quoted_token list.token_at list.first_token grammar.after_address grammar.after list.listed_by list.listed list.addresses list.among is_some only_one or_else attributes.trimmed_front attributes.trimmed_back attributes.trimmed attributes.name_of attributes.attribute attributes.attribute_of steps.with_address steps.with_preference steps.step keyfield.said_with keyfield.if_last keyfield.said_from keyfield.said_of keyfield.limited keyfield.key_of keyfield.with_key keyfield.field_by keyfield.field_of keyfield.naming keyfield.valid_for fields.fields_in fields.is_kind fields.values_of outer.canonical_of outer.sender_by outer.sender_in outer.addresses_in outer.recipients_in pieces.following pieces.joined writer.written writer.field_text writer.preference base64.encode base64.letter lines.lines lines.laid is_raw written_of left_by_writing refused_writing writing_rows first_of answered_by onto
 gossip_stand = next [] [] no_lines refl (ascii "c@d") told gossip_left refl [] refl (last [] refl)
 
-pub clean : linted_of mail inner 0 ≡ Found 0
+pub clean : linted_of mail inner 0 ≡ Ok 0
 unfolding octets.lower octets.lowered octets.same_name octets.same_octets octets.starts_with octets.blank tokens.past tokens.kind_of tokens.control runs.belongs runs.run tokens.after_quote base64.decode base64.follow base64.before base64.at_end base64.grouped base64.closed base64.sign_of tests.without header.fields_of header.fields header.fields_within in_front header.unfolded header.over header.of_ending header.opens_field header.raw_length header.closes tests.every pieces.on_first pieces.pieces pieces.before pieces.behind ascii·address.atom ascii·address.local_part ascii·address.free_ends labels.label_octet labels.label_form labels.fits labels.label labels.labelled address.domain address.domain_form address.address_form address.plain address.canonical pieces.from lowering.lower_text lowering.lower_points lowering.lower_point utf8.points utf8.tails utf8.lead_of utf8.encoded utf8.encoded_one list.opening_of holds list.run_token list.quoted_token list.token_at list.first_token grammar.after_address grammar.after list.listed_by list.listed list.addresses list.among is_some only_one or_else attributes.trimmed_front attributes.trimmed_back attributes.trimmed attributes.name_of attributes.attribute attributes.attribute_of steps.with_address steps.with_preference steps.step keyfield.said_with keyfield.if_last keyfield.said_from keyfield.said_of keyfield.limited keyfield.key_of keyfield.with_key keyfield.field_by keyfield.field_of keyfield.naming keyfield.valid_for fields.fields_in fields.is_kind fields.values_of outer.canonical_of outer.sender_by outer.sender_in outer.addresses_in outer.recipients_in pieces.following pieces.joined writer.written writer.field_text writer.preference base64.encode base64.letter lines.lines lines.laid is_raw written_of left_by_writing refused_writing writing_rows first_of answered_by onto
 clean = blocks_clean mail inner (ascii "bob@b.example") 0 refl refl refl own_stands gossip_stand

@@ -6,7 +6,7 @@
 --     Ours               the fields of both blocks are such
 --     WrittenClean       then nothing is wrong
 --     AnsweredClean      and the answer for such a mail is that it has no fault
-use Rattle.std.specs.Prelude.{ℕ, ◌≡◌, Bool, true, false, List, [], ◌∷◌, length, take}
+use Rattle.std.specs.Prelude.{ℕ, ◌≡◌, Bool, true, false, List, [], ◌∷◌, length, take, Ok}
 use Rattle.std.specs.Prelude.{Some}
 use Rattle.octets.specs.Octets.{AllOctets}
 use Rattle.octets.specs.Options.{Each}
@@ -18,10 +18,8 @@ use Rattle.fields.specs.Fields.{fields_in, values_of}
 use Rattle.fields.specs.declared.Kind.TheVariants.{Autocrypt, AutocryptGossip}
 use Rattle.outer.specs.Outer.{sender_in, recipients_in}
 use Rattle.write.specs.Writing.{written_of, left_by_writing}
-use Rattle.write.specs.declared.Written.TheVariants.{Done}
 use Rattle.lookover.specs.Looking.{faults_of}
 use Rattle.lint.specs.Linting.{linted_of}
-use Rattle.lint.specs.declared.Linted.TheVariants.{Done as Found}
 
 -- W1, W6: a writer answered how long its field is, and these octets are what it left in front of the output
 pub record Left (name address : List ℕ) (m : Bool) (octets : List ℕ) : Type 0 where
@@ -29,7 +27,7 @@ pub record Left (name address : List ℕ) (m : Bool) (octets : List ℕ) : Type 
   pub key_octets : AllOctets key
   pub out : List ℕ
   pub long : ℕ
-  pub done : Done long ≡ written_of name address m key (length out)
+  pub done : Ok long ≡ written_of name address m key (length out)
   pub is : octets ≡ take long (left_by_writing name address m key out)
 
 -- what a writer left is read as one field with this value
@@ -70,4 +68,4 @@ abbrev pub AnsweredClean : Type 0
 AnsweredClean =
     (outer payload sender : List ℕ) (room : ℕ) → readable outer ≡ true → readable payload ≡ true → sender_in (fields_in outer) ≡ Some sender
     → Ours sender (recipients_in (fields_in outer)) (fields_in outer) (fields_in payload)
-    → linted_of outer payload room ≡ Found 0
+    → linted_of outer payload room ≡ Ok 0

@@ -7,7 +7,7 @@
 --     InOrder         it is in the order of O4
 --     NothingTwice    and so nothing stands twice
 --     Counts          without a fault of the kinds 1 and 2 one Autocrypt field counts
-use Rattle.std.specs.Prelude.{ℕ, ◌+◌, ◌*◌, ◌<◌, ◌≡◌, ◌↔◌, true, false, List, [], ◌∷◌, ◌++◌, length, get_or}
+use Rattle.std.specs.Prelude.{ℕ, ◌+◌, ◌*◌, ◌<◌, ◌≡◌, ◌↔◌, true, false, List, [], ◌∷◌, ◌++◌, length, get_or, Ok}
 use Rattle.std.specs.Prelude.{Some}
 use Rattle.octets.specs.Options.{is_some}
 use Rattle.header.specs.Header.{FieldText}
@@ -19,7 +19,6 @@ use Rattle.faults.specs.Faults.{Fault, no_valid, more_valid}
 use Rattle.faults.specs.Found.{is_in, rising}
 use Rattle.lookover.specs.Looking.{faults_of}
 use Rattle.lint.specs.Linting.{mail_faults, linted_of, left_by_linting}
-use Rattle.lint.specs.declared.Linted.TheVariants.{Done}
 use Rattle.findings.specs.Wrong.{fault, Wrong}
 
 -- C22: a block, a place and a kind are found exactly when O3 says that fault
@@ -45,7 +44,7 @@ pub record Listed (list : List ℕ) (n : ℕ) (x : Fault) : Type 0 where
 -- C22: what `lint` lists, where it answers how many faults there are
 abbrev pub AnswerLists : Type 0
 AnswerLists =
-    (outer payload list sender : List ℕ) (n : ℕ) (x : Fault) → Done n ≡ linted_of outer payload (length list) → sender_in (fields_in outer) ≡ Some sender
+    (outer payload list sender : List ℕ) (n : ℕ) (x : Fault) → Ok n ≡ linted_of outer payload (length list) → sender_in (fields_in outer) ≡ Some sender
     → Listed (left_by_linting outer payload list) n x ↔ Wrong sender (recipients_in (fields_in outer)) (fields_in outer) (fields_in payload) x
 
 -- C22: the list is empty exactly when there is no fault

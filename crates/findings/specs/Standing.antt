@@ -2,7 +2,7 @@
 --     OwnStands         the outer block has an Autocrypt field that was written for the sender, and no other, nor gossip
 --     GossipStand       the payload has gossip fields that were written for recipients, and no others
 --     BlocksClean       then the answer is that there is no fault
-use Rattle.std.specs.Prelude.{ℕ, ◌≡◌, Bool, true, false, List, [], ◌++◌, get_or}
+use Rattle.std.specs.Prelude.{ℕ, ◌≡◌, Bool, true, false, List, [], ◌++◌, get_or, Ok}
 use Rattle.std.specs.Prelude.{Some}
 use Rattle.octets.specs.Options.{or_else}
 use Rattle.runs.specs.Runs.{belongs}
@@ -15,7 +15,6 @@ use Rattle.fields.specs.Fields.{fields_in, values_of}
 use Rattle.fields.specs.declared.Kind.TheVariants.{Autocrypt, AutocryptGossip}
 use Rattle.outer.specs.Outer.{sender_in, recipients_in}
 use Rattle.lint.specs.Linting.{linted_of}
-use Rattle.lint.specs.declared.Linted.TheVariants.{Done as Found}
 use Rattle.trip.specs.RoundTrip.{Lines, Holding, others}
 use Rattle.findings.specs.Clean.{Left}
 
@@ -43,4 +42,4 @@ abbrev pub BlocksClean : Type 0
 BlocksClean =
     (outer payload sender : List ℕ) (room : ℕ) → readable outer ≡ true → readable payload ≡ true → sender_in (fields_in outer) ≡ Some sender
     → OwnStands sender outer → GossipStand (recipients_in (fields_in outer)) payload
-    → linted_of outer payload room ≡ Found 0
+    → linted_of outer payload room ≡ Ok 0

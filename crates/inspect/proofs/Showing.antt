@@ -9,7 +9,7 @@ use Prim.Native.Nat.{ℕ, ◌<◌, ◌≤◌}
 use mathlib.Core.Path.{◌≡◌, refl}
 use mathlib.Core.Bool.{true, false}
 use mathlib.Core.List.{List, [], ◌∷◌}
-use Rattle.std.specs.Prelude.{Option}
+use Rattle.std.specs.Prelude.{Option, Ok, Err}
 use borrow.Author.Tests.{le-leb, lt-leb}
 use lib.Dec.{leb}
 use lib.ListN.{length}
@@ -17,7 +17,6 @@ use Rattle.octets.specs.Written.{onto}
 use Rattle.refusals.specs.Rows.{◌unless◌, answer_of, some_holds}
 use Rattle.refusals.specs.declared.Refusal.{Refusal}
 use Rattle.refusals.specs.declared.Refusal.TheVariants.{BrokenSlot, OutputLength}
-use Rattle.refusals.specs.declared.Answer.TheVariants.{Done, Refused}
 use Rattle.refusals.proofs.Rows.{front_only, refused_is, done_is, answer_refused, answer_done, rows}
 use Rattle.slots.specs.declared.Spelling.TheVariants.{Canonical}
 use Rattle.table.specs.Slotwise.{Broken}
@@ -39,15 +38,15 @@ module _ (t : List ℕ) (i : ℕ) (d : List ℕ) where
   abbrev refusal : Option Refusal
   refusal = refused_showing t (length d)
 
-  pub refused_untouched : (r : Refusal) → answer_of refusal ≡ Refused r → left_by_showing t i d ≡ d
+  pub refused_untouched : (r : Refusal) → answer_of refusal ≡ Err r → left_by_showing t i d ≡ d
   unfolding left_by_showing
   refused_untouched r a = refused_is (λ (x : Refusal). d) (onto (shown_at t i) d) refusal r (answer_refused refusal r a)
 
-  pub done_there : answer_of refusal ≡ Done → left_by_showing t i d ≡ onto (shown_at t i) d
+  pub done_there : answer_of refusal ≡ Ok tt → left_by_showing t i d ≡ onto (shown_at t i) d
   unfolding left_by_showing
   done_there a = done_is (λ (x : Refusal). d) (onto (shown_at t i) d) refusal (answer_done refusal a)
 
-  pub index_lowest : (j : ℕ) → answer_of refusal ≡ Refused (BrokenSlot j) → Broken t j
+  pub index_lowest : (j : ℕ) → answer_of refusal ≡ Err (BrokenSlot j) → Broken t j
   unfolding refused_showing showing_rows some_holds
   index_lowest j a =
       lowest_broken Canonical t j (front_only (table_rows t) ((OutputLength unless leb shown_count (length d)) ∷ []) (BrokenSlot j) refl (answer_refused refusal (BrokenSlot j) a))

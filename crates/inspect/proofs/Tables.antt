@@ -10,7 +10,7 @@ use Prim.Native.Nat.{ℕ, ◌%◌}
 use mathlib.Core.Path.{◌≡◌, sym, ap, ◌∙◌}
 use mathlib.Core.Bool.{true, false, ◌&&◌}
 use mathlib.Core.List.{List}
-use Rattle.std.specs.Prelude.{Some, None}
+use Rattle.std.specs.Prelude.{Some, None, Ok, Err}
 use native.Mathlib.Omega.{arith}
 use borrow.Author.Rules.{rules}
 use borrow.Author.Tests.{leb-true}
@@ -21,7 +21,6 @@ use mir.Val.{Fits}
 use Rattle.octets.proofs.Tests.{and_right, by_test}
 use Rattle.refusals.specs.Rows.{first_of, answered_by, answer_of}
 use Rattle.refusals.specs.declared.Refusal.TheVariants.{TableLength, BrokenSlot}
-use Rattle.refusals.specs.declared.Answer.TheVariants.{Done, Refused}
 use Rattle.slots.specs.declared.Spelling.{Spelling}
 use Rattle.table.specs.Table.{slots, whole, checked_by}
 use Rattle.table.specs.Slotwise.{BrokenBy}
@@ -87,27 +86,27 @@ module _ (how : Spelling) (t : List ℕ) where
         let b : BrokenBy how t i = checked_broken how t i (sym e ∙ q) in
         omega (arith, b.within, leb-true (slots t) 256 (and_right (eqb (length t % 4392) 0 && leb 1 (slots t)) (leb (slots t) 256) b.whole_slots))
 
-    as_sound : r ≡ Sound → Done ≡ answer_of (first_of (table_rows_by how t))
+    as_sound : r ≡ Sound → (Ok tt) ≡ answer_of (first_of (table_rows_by how t))
     unfolding answered_by
     as_sound q = rw (sound_rows (sym e ∙ q))
 
-    as_length : r ≡ Length → Refused TableLength ≡ answer_of (first_of (table_rows_by how t))
+    as_length : r ≡ Length → Err TableLength ≡ answer_of (first_of (table_rows_by how t))
     unfolding answered_by
     as_length q = rw (length_rows (sym e ∙ q))
 
-    as_slot : (i : ℕ) → r ≡ Slot i → Refused (BrokenSlot i) ≡ answer_of (first_of (table_rows_by how t))
+    as_slot : (i : ℕ) → r ≡ Slot i → Err (BrokenSlot i) ≡ answer_of (first_of (table_rows_by how t))
     unfolding answered_by
     as_slot i q = rw (slot_rows i (sym e ∙ q))
 
     -- the code hands out the tags that came with the answer
     module _ (tags : List ℕ) (h : Checks how t tags r) where
-      pub opens_sound : r ≡ Sound → OpensBy how t tags Done
+      pub opens_sound : r ≡ Sound → OpensBy how t tags (Ok tt)
       opens_sound q = record { answer = as_sound q; opens = λ _. h.opens q }
 
-      pub opens_length : r ≡ Length → OpensBy how t tags (Refused TableLength)
+      pub opens_length : r ≡ Length → OpensBy how t tags (Err TableLength)
       opens_length q = record { answer = as_length q; opens = λ z. let n : ◌≡◌ {A = ℕ} 0 1 = cc in absurd (omega arith) }
 
-      pub opens_slot : (i : ℕ) → r ≡ Slot i → OpensBy how t tags (Refused (BrokenSlot i))
+      pub opens_slot : (i : ℕ) → r ≡ Slot i → OpensBy how t tags (Err (BrokenSlot i))
       opens_slot i q = record { answer = as_slot i q; opens = λ z. let n : ◌≡◌ {A = ℕ} 0 1 = cc in absurd (omega arith) }
 
 pub ruleset opening = (slot_fits, opens_sound, opens_length, opens_slot, rules)

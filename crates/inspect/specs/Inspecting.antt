@@ -4,14 +4,12 @@
 --     OpensBy, Opens                  the answer on them, with the tags of the table where neither holds
 --     showing_rows, refused_showing   one entry by its slot: rows 1, 2 and 12
 --     left_by_showing                 what the lent numbers hold afterwards. What they say is said by the crate `entry`
-use Rattle.std.specs.Prelude.{ℕ, ◌≡◌, Bool, true, false, List, [], ◌∷◌, ◌++◌, leb, length}
+use Rattle.std.specs.Prelude.{ℕ, ◌≡◌, Bool, true, false, List, [], ◌∷◌, ◌++◌, leb, length, Result, Ok}
 use Rattle.std.specs.Prelude.{Option}
 use Rattle.octets.specs.Written.{onto}
 use Rattle.refusals.specs.Rows.{Row, ◌unless◌, first_of, answer_of, unless_refused}
 use Rattle.refusals.specs.declared.Refusal.{Refusal}
 use Rattle.refusals.specs.declared.Refusal.TheVariants.{TableLength, BrokenSlot, OutputLength}
-use Rattle.refusals.specs.declared.Answer.{Answer}
-use Rattle.refusals.specs.declared.Answer.TheVariants.{Done}
 use Rattle.slots.specs.declared.Spelling.{Spelling}
 use Rattle.slots.specs.declared.Spelling.TheVariants.{Canonical}
 use Rattle.table.specs.Table.{whole, checked_by}
@@ -40,11 +38,11 @@ abbrev pub table_rows : List ℕ → List Row
 table_rows t = table_rows_by Canonical t
 
 -- the tags are handed out where there is nothing to refuse
-pub record OpensBy (how : Spelling) (t tags : List ℕ) (r : Answer) : Type 0 where
+pub record OpensBy (how : Spelling) (t tags : List ℕ) (r : Result (Unit {0}) Refusal) : Type 0 where
   pub answer : r ≡ answer_of (first_of (table_rows_by how t))
-  pub opens : r ≡ Done → OpenBy how t tags
+  pub opens : r ≡ Ok tt → OpenBy how t tags
 
-abbrev pub Opens : List ℕ → List ℕ → Answer → Type 0
+abbrev pub Opens : List ℕ → List ℕ → Result (Unit {0}) Refusal → Type 0
 Opens t tags r = OpensBy Canonical t tags r
 
 -- T14, R12: behind rows 1 and 2, 12 where fewer than eleven numbers are lent

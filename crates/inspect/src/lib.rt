@@ -7,11 +7,11 @@ ghost use Rattle.refusals.specs.Rows.{first_of, answer_of};
 ghost use Rattle.table.specs.Table.{most_slots};
 ghost use Rattle.inspect.specs.Inspecting.{table_rows, OpensBy, Opens, refused_showing, left_by_showing};
 
-use refusals::{Answer, Refusal};
+use refusals::Refusal;
 use slots::{Slot, Spelling};
 
 // Is this a table that the calls take? The tags of its slots come with the answer, for the calls that look for addresses.
-pub fn open_table(table: &[u8], tags: &mut [u32; Slot::MOST]) -> Answer
+pub fn open_table(table: &[u8], tags: &mut [u32; Slot::MOST]) -> Result<(), Refusal>
     requires { length tags.old ≡ most_slots }
     ensures { Opens table.now tags.new result }
 {
@@ -20,21 +20,21 @@ pub fn open_table(table: &[u8], tags: &mut [u32; Slot::MOST]) -> Answer
 
 // The same, for addresses in the one spelling or the other (T16).
 #[tactic(auto, using(crate::proofs::Tables::opening))]
-pub fn open_by(table: &[u8], tags: &mut [u32; Slot::MOST], how: Spelling) -> Answer
+pub fn open_by(table: &[u8], tags: &mut [u32; Slot::MOST], how: Spelling) -> Result<(), Refusal>
     requires { length tags.old ≡ most_slots }
     ensures { OpensBy how table.now tags.new result }
 {
     match lookup::check(table, tags, how) {
-        table::Checked::Sound => Answer::Done,
-        table::Checked::Length => Answer::Refused(Refusal::TableLength),
-        table::Checked::Slot(i) => Answer::Refused(Refusal::BrokenSlot(i as u32)),
+        table::Checked::Sound => Ok(()),
+        table::Checked::Length => Err(Refusal::TableLength),
+        table::Checked::Slot(i) => Err(Refusal::BrokenSlot(i as u32)),
     }
 }
 
 // Is this a table that the other calls take (T13)? It is refused with 1 where its length is not that of 1 to 256 whole
 // slots of 4,392 octets (R1), and with 2 where some slot is neither free nor sound (R2). The refusal then carries the
 // lowest index of such a slot, which `index` gives. A table of zeros is sound, and has no entry.
-pub fn check(table: &[u8]) -> Answer
+pub fn check(table: &[u8]) -> Result<(), Refusal>
     ensures { result ≡ answer_of (first_of (table_rows table.now)) }
 {
     let mut tags = [0u32; Slot::MOST];
@@ -54,18 +54,18 @@ pub fn check(table: &[u8]) -> Answer
 // they were (R32); what stands behind the eleventh always does. The starts and lengths are parts of the table until the
 // next call that writes it.
 #[tactic(auto, using(crate::proofs::Showing::showing), unfolding(crate::specs::Inspecting::refused_showing, crate::specs::Inspecting::showing_rows, crate::specs::Inspecting::left_by_showing))]
-pub fn entry(table: &[u8], slot: usize, numbers: &mut [u64]) -> Answer
+pub fn entry(table: &[u8], slot: usize, numbers: &mut [u64]) -> Result<(), Refusal>
     ensures value { result ≡ answer_of (refused_showing table.now (length numbers.old)) }
     ensures numbers_after { numbers.new ≡ left_by_showing table.now slot numbers.old }
 {
     match check(table) {
-        Answer::Done => {
+        Ok(()) => {
             if numbers.len() < entry::SHOWN {
-                return Answer::Refused(Refusal::OutputLength);
+                return Err(Refusal::OutputLength);
             }
             entry::tell(table, slot, numbers);
-            Answer::Done
+            Ok(())
         }
-        Answer::Refused(refusal) => Answer::Refused(refusal),
+        Err(refusal) => Err(refusal),
     }
 }

@@ -13,7 +13,7 @@ use Prim.Native.Nat.{ℕ, ◌≤◌}
 use mathlib.Core.Path.{◌≡◌, refl, sym, ◌∙◌}
 use mathlib.Core.Bool.{Bool, true, false}
 use mathlib.Core.List.{List}
-use Rattle.std.specs.Prelude.{Some, None, Option}
+use Rattle.std.specs.Prelude.{Some, None, Option, Result, Ok, Err}
 use native.Mathlib.Nat.{sub-zero}
 use native.Mathlib.Omega.{arith}
 use borrow.Author.Rules.{rules}
@@ -41,8 +41,6 @@ use Rattle.faults.specs.Faults.{numbers_of}
 use Rattle.lint.specs.Linting.{mail_faults, list_rows, linting_rows, refused_linting, linted_of, left_by_linting}
 use Rattle.lint.specs.Stages.{faults_with, listed_of, left_by_listing, Roomy, Walked, Sent, Readied}
 use Rattle.lint.specs.declared.Mail.{Mail}
-use Rattle.lint.specs.declared.Linted.{Linted}
-use Rattle.lint.specs.declared.Linted.TheVariants.{Done, Refused}
 
 -- R31: the rows in order
 module _ (outer payload : List ℕ) (room : ℕ) where
@@ -66,9 +64,9 @@ module _ (outer payload : List ℕ) (room : ℕ) where
 
 -- a refusal answers itself, and leaves the list
 module _ (outer payload list : List ℕ) (r : Refusal) (e : refused_linting outer payload (length list) ≡ Some r) where
-  answered : Refused r ≡ linted_of outer payload (length list)
+  answered : Err r ≡ linted_of outer payload (length list)
   unfolding linted_of
-  answered = sym (refused_is Refused (Done (length (mail_faults outer payload))) (refused_linting outer payload (length list)) r e)
+  answered = sym (refused_is Err (Ok (length (mail_faults outer payload))) (refused_linting outer payload (length list)) r e)
 
   left : list ≡ left_by_linting outer payload list
   unfolding left_by_linting
@@ -81,7 +79,7 @@ short s h = clear_fits s true (sym h) refl
 -- `lint_with`
 module _ (outer payload : List ℕ) (k : Option Survey) (h : SurveyedAs outer k) where
   module _ (list : List ℕ) (q : k ≡ None) where
-    pub outer_answered : Refused OuterBlock ≡ linted_of outer payload (length list)
+    pub outer_answered : Err OuterBlock ≡ linted_of outer payload (length list)
     unfolding SurveyedAs
     outer_answered = answered outer payload list OuterBlock (first_outer outer payload (length list) (rw q at h))
 
@@ -112,7 +110,7 @@ module _ (outer : List ℕ) (survey : Survey) (payload text₀ : List ℕ) (h : 
       no_sender : sender_in (fields_in outer) ≡ None
       no_sender = answer_none (sender_in (fields_in outer)) (sym q ∙ t)
 
-      pub sender_answered : Refused Sender ≡ linted_of outer payload (length list)
+      pub sender_answered : Err Sender ≡ linted_of outer payload (length list)
       sender_answered = answered outer payload list Sender (first_sender outer payload (length list) outer_readable no_sender)
 
       pub sender_left : list ≡ left_by_linting outer payload list
@@ -126,7 +124,7 @@ module _ (outer : List ℕ) (survey : Survey) (payload text₀ : List ℕ) (h : 
       is_sender = (left_is (sender_in (fields_in outer)) r t out d l n q)
 
       module _ (b : Bool) (p : b ≡ readable payload) where
-        pub payload_answered : (list : List ℕ) → b ≡ false → Refused PayloadBlock ≡ linted_of outer payload (length list)
+        pub payload_answered : (list : List ℕ) → b ≡ false → Err PayloadBlock ≡ linted_of outer payload (length list)
         payload_answered list f = answered outer payload list PayloadBlock (first_payload outer payload (length list) outer_readable _ is_sender (sym p ∙ f))
 
         pub payload_left : (list : List ℕ) → b ≡ false → list ≡ left_by_linting outer payload list
@@ -170,7 +168,7 @@ module _ (outer : List ℕ) (survey : Survey) (payload sender text₀ : List ℕ
     rows_are : refused_linting outer payload (length list) ≡ first_of (list_rows (mail_faults outer payload) (length list))
     rows_are = first_list outer payload (length list) (survey_readable outer survey h.surveyed) sender h.sent h.readably
 
-    pub sent_answered : (a : Linted) → a ≡ listed_of (faults_with m) (length list) → a ≡ linted_of outer payload (length list)
+    pub sent_answered : (a : Result ℕ Refusal) → a ≡ listed_of (faults_with m) (length list) → a ≡ linted_of outer payload (length list)
     unfolding linted_of listed_of
     sent_answered a e = e ∙ rw (faults_are, rows_are)
 

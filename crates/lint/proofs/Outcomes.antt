@@ -9,7 +9,7 @@ use Prim.Native.Nat.{ℕ, ◌*◌, ◌≤◌}
 use mathlib.Core.Path.{◌≡◌, refl, sym, ap}
 use mathlib.Core.Bool.{true}
 use mathlib.Core.List.{List, []}
-use Rattle.std.specs.Prelude.{Option, Some, None}
+use Rattle.std.specs.Prelude.{Option, Some, None, Result, Ok, Err}
 use native.Mathlib.Omega.{arith}
 use borrow.Author.Tests.{leb-true, leb-false, not-true, not-false}
 use lib.Dec.{leb}
@@ -27,16 +27,14 @@ use Rattle.outer.specs.Outer.{sender_in, recipients_in}
 use Rattle.faults.specs.Faults.{numbers_of}
 use Rattle.lookover.proofs.Few.{few_faults}
 use Rattle.lint.specs.Linting.{fault_room, mail_faults, list_rows, linting_rows, refused_linting, linted_of, left_by_linting, FewFaults}
-use Rattle.lint.specs.declared.Linted.{Linted}
-use Rattle.lint.specs.declared.Linted.TheVariants.{Done, Refused}
 
 module _ (d : ℕ) where
-  answer_refused : (o : Option Refusal) (r : Refusal) → answered_by o Refused (Done d) ≡ Refused r → o ≡ Some r
+  answer_refused : (o : Option Refusal) (r : Refusal) → answered_by o Err (Ok d) ≡ Err r → o ≡ Some r
   unfolding answered_by
   answer_refused (Some q) r e = ap Some cc
   answer_refused None r e = cc
 
-  answer_done : (o : Option Refusal) (n : ℕ) → answered_by o Refused (Done d) ≡ Done n → (o ≡ None) × (d ≡ n)
+  answer_done : (o : Option Refusal) (n : ℕ) → answered_by o Err (Ok d) ≡ Ok n → (o ≡ None) × (d ≡ n)
   unfolding answered_by
   answer_done (Some q) n e = (cc, cc)
   answer_done None n e = (refl, cc)
@@ -47,11 +45,11 @@ unfolding mail_faults
 mail_few outer payload o p = few_faults (or_else [] (sender_in (fields_in outer))) (recipients_in (fields_in outer)) outer payload o p
 
 module _ (outer payload : List ℕ) (room : ℕ) where
-  pub refused_row : (r : Refusal) → linted_of outer payload room ≡ Refused r → refused_linting outer payload room ≡ Some r
+  pub refused_row : (r : Refusal) → linted_of outer payload room ≡ Err r → refused_linting outer payload room ≡ Some r
   unfolding linted_of
   refused_row r e = answer_refused (length (mail_faults outer payload)) (refused_linting outer payload room) r e
 
-  pub done_row : (n : ℕ) → linted_of outer payload room ≡ Done n → (refused_linting outer payload room ≡ None) × (length (mail_faults outer payload) ≡ n)
+  pub done_row : (n : ℕ) → linted_of outer payload room ≡ Ok n → (refused_linting outer payload room ≡ None) × (length (mail_faults outer payload) ≡ n)
   unfolding linted_of
   done_row n e = answer_done (length (mail_faults outer payload)) (refused_linting outer payload room) n e
 
@@ -76,14 +74,14 @@ module _ (outer payload : List ℕ) (room : ℕ) where
         (not-false (leb (3 * length (mail_faults outer payload)) room)
         (none_here OutputLength _ _ (none_rest PayloadBlock _ _ (none_rest Sender _ _ (none_rest OuterBlock _ _ e)))))
 
-  few : (r : Linted) → linted_of outer payload room ≡ r → FewFaults r
+  few : (r : Result ℕ Refusal) → linted_of outer payload room ≡ r → FewFaults r
   unfolding FewFaults
-  few (Done n) e =
+  few (Ok n) e =
       let d = done_row n e in
       omega (arith, d.1, mail_few outer payload (row_outer d.0) (row_payload d.0))
-  few (Refused r) e = tt
+  few (Err r) e = tt
 
-  pub linted_few : (r : Linted) → r ≡ linted_of outer payload room → FewFaults r
+  pub linted_few : (r : Result ℕ Refusal) → r ≡ linted_of outer payload room → FewFaults r
   linted_few r e = few r (sym e)
 
 pub record Lists (outer payload list : List ℕ) (n : ℕ) : Type 0 where
@@ -98,12 +96,12 @@ module _ (outer payload list : List ℕ) where
   abbrev refused : Option Refusal
   refused = refused_linting outer payload (length list)
 
-  pub refused_untouched : (r : Refusal) → linted_of outer payload (length list) ≡ Refused r → left_by_linting outer payload list ≡ list
+  pub refused_untouched : (r : Refusal) → linted_of outer payload (length list) ≡ Err r → left_by_linting outer payload list ≡ list
   unfolding left_by_linting
   refused_untouched r e =
       refused_is (λ (q : Refusal). list) (onto (numbers_of (mail_faults outer payload)) list) refused r (refused_row outer payload (length list) r e)
 
-  pub done_lists : (n : ℕ) → linted_of outer payload (length list) ≡ Done n → Lists outer payload list n
+  pub done_lists : (n : ℕ) → linted_of outer payload (length list) ≡ Ok n → Lists outer payload list n
   unfolding left_by_linting
   done_lists n e =
       let none_holds : refused ≡ None = (done_row outer payload (length list) n e).0 in
@@ -131,7 +129,7 @@ module _ (outer payload : List ℕ) (room : ℕ) (l : 3 * fault_room ≤ room) w
       )
   too_many (behind p (behind s (behind t (behind u (nothing q))))) = omega arith
 
-  pub lint_roomy : linted_of outer payload room ≡ Refused OutputLength → ⊥
+  pub lint_roomy : linted_of outer payload room ≡ Err OutputLength → ⊥
   unfolding refused_linting
   lint_roomy e =
       too_many ((exactly (linting_rows outer payload room) 12).0 (refused_is number_of 0 _ OutputLength (refused_row outer payload room OutputLength e)))

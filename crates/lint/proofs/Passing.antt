@@ -11,7 +11,7 @@ use Prim.Native.Nat.{ℕ, ◌+◌, ◌*◌, ◌/◌, ◌<◌, ◌≤◌}
 use mathlib.Core.Path.{◌≡◌, refl, sym, ap, ◌∙◌}
 use mathlib.Core.Bool.{Bool, true, false, not}
 use mathlib.Core.List.{List, [], ◌∷◌, ◌++◌}
-use Rattle.std.specs.Prelude.{None}
+use Rattle.std.specs.Prelude.{None, Ok, Err}
 use native.Mathlib.Omega.{arith}
 use borrow.Author.Rules.{rules}
 use borrow.Author.Tests.{le-leb, lt-leb}
@@ -33,7 +33,6 @@ use Rattle.lookover.proofs.Few.{block_few}
 use Rattle.lint.specs.Linting.{list_rows}
 use Rattle.lint.specs.Stages.{faults_by, faults_with, listed_of, left_by_listing, Readied, PassedAs}
 use Rattle.lint.specs.declared.Mail.{Mail}
-use Rattle.lint.specs.declared.Linted.TheVariants.{Done, Refused}
 
 -- O3: what is written of the missing field are its numbers
 pub missing_numbers : (valid : Bool) → numbers_if (not valid) 0 0 1 ≡ numbers_of (missing valid)
@@ -158,7 +157,7 @@ module _ (m : Mail) where
             length-append (missing c.valid) both,
           )
 
-      pub room_short : (list : List ℕ) → length list < n → Refused OutputLength ≡ listed_of mail (length list)
+      pub room_short : (list : List ℕ) → length list < n → Err OutputLength ≡ listed_of mail (length list)
       unfolding listed_of list_rows first_of answered_by
       room_short list l = rw (lt-leb (3 * length mail) (length list) (omega (arith, needed_is)))
 
@@ -171,7 +170,7 @@ module _ (m : Mail) where
         unfolding list_rows first_of
         roomy = rw (le-leb (3 * length mail) (length list) (omega (arith, needed_is)))
 
-        listed : (k : ℕ) → k ≡ length mail → Done k ≡ listed_of mail (length list)
+        listed : (k : ℕ) → k ≡ length mail → Ok k ≡ listed_of mail (length list)
         unfolding listed_of answered_by
         listed k q = rw (roomy, q)
 
@@ -183,7 +182,7 @@ module _ (m : Mail) where
           empty : mail ≡ []
           empty = no_length mail (omega (arith, needed_is))
 
-          pub none_listed : Done 0 ≡ listed_of mail (length list)
+          pub none_listed : Ok 0 ≡ listed_of mail (length list)
           none_listed = listed 0 (omega (arith, needed_is))
 
           pub none_left : list ≡ left_by_listing mail list
@@ -191,7 +190,7 @@ module _ (m : Mail) where
           none_left = left list (rw empty)
 
         module _ (w : Looked) (out₁ : List ℕ) (q : PassedAs m c.valid list out₁ w) where
-          pub all_listed : Done (w.end / 3) ≡ listed_of mail (length list)
+          pub all_listed : Ok (w.end / 3) ≡ listed_of mail (length list)
           all_listed =
               listed (w.end / 3)
               (omega (arith, q.ended, numbers_long mail, ap (λ (fs : List Fault). length (numbers_of fs)) mail_is))

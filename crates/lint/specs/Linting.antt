@@ -5,7 +5,7 @@
 --     linting_rows, refused_linting   all rows
 --     linted_of, left_by_linting      the answer, and what the list holds afterwards
 --     FewFaults                       an answer has no more faults than that room is for
-use Rattle.std.specs.Prelude.{ℕ, ◌*◌, ◌≤◌, List, [], ◌∷◌, leb, length}
+use Rattle.std.specs.Prelude.{ℕ, ◌*◌, ◌≤◌, List, [], ◌∷◌, leb, length, Result, Ok, Err}
 use Rattle.std.specs.Prelude.{Option}
 use Rattle.octets.specs.Options.{is_some, or_else}
 use Rattle.octets.specs.Written.{onto}
@@ -17,8 +17,6 @@ use Rattle.fields.specs.Fields.{fields_in}
 use Rattle.outer.specs.Outer.{sender_in, recipients_in}
 use Rattle.faults.specs.Faults.{Fault, numbers_of}
 use Rattle.lookover.specs.Looking.{faults_of}
-use Rattle.lint.specs.declared.Linted.{Linted}
-use Rattle.lint.specs.declared.Linted.TheVariants.{Done, Refused}
 
 -- O11: no two blocks have more faults, as the C header promises
 abbrev pub fault_room : ℕ
@@ -47,8 +45,8 @@ unfoldable pub refused_linting : List ℕ → List ℕ → ℕ → Option Refusa
 refused_linting outer payload room = first_of (linting_rows outer payload room)
 
 -- O1: how many faults there are; a refusal has none
-unfoldable pub linted_of : List ℕ → List ℕ → ℕ → Linted
-linted_of outer payload room = answered_by (refused_linting outer payload room) Refused (Done (length (mail_faults outer payload)))
+unfoldable pub linted_of : List ℕ → List ℕ → ℕ → Result ℕ Refusal
+linted_of outer payload room = answered_by (refused_linting outer payload room) Err (Ok (length (mail_faults outer payload)))
 
 -- O1, R32: three numbers for each fault at the front of the list, and behind them what was there; with a refusal the list stays as it was
 unfoldable pub left_by_linting : List ℕ → List ℕ → List ℕ → List ℕ
@@ -56,6 +54,6 @@ left_by_linting outer payload list =
     unless_refused (refused_linting outer payload (length list)) list (onto (numbers_of (mail_faults outer payload)) list)
 
 -- O11: an answer with no more faults than there ever are
-unfoldable pub FewFaults : Linted → Type 0
-FewFaults (Done n) = n ≤ fault_room
-FewFaults (Refused r) = Unit
+unfoldable pub FewFaults : Result ℕ Refusal → Type 0
+FewFaults (Ok n) = n ≤ fault_room
+FewFaults (Err r) = Unit

@@ -6,8 +6,9 @@
 --     Sent                          the sender is known, and the payload is readable
 --     Readied                       the recipients are known
 --     PassedAs                      what a pass over both blocks answers and leaves
-use Rattle.std.specs.Prelude.{ℕ, ◌≤◌, min, ◌≡◌, Bool, true, List, ◌++◌, length}
+use Rattle.std.specs.Prelude.{ℕ, ◌≤◌, min, ◌≡◌, Bool, true, List, ◌++◌, length, Result, Ok, Err}
 use Rattle.std.specs.Prelude.{Some}
+use Rattle.refusals.specs.declared.Refusal.{Refusal}
 use Rattle.octets.specs.Written.{onto}
 use Rattle.refusals.specs.Rows.{first_of, answered_by, unless_refused}
 use Rattle.header.specs.Header.{limit, readable}
@@ -25,8 +26,6 @@ use Rattle.lookover.specs.declared.Looked.{Looked}
 use Rattle.lookover.specs.declared.Side.TheVariants.{Outer, Payload}
 use Rattle.lint.specs.Linting.{list_rows}
 use Rattle.lint.specs.declared.Mail.{Mail}
-use Rattle.lint.specs.declared.Linted.{Linted}
-use Rattle.lint.specs.declared.Linted.TheVariants.{Done, Refused}
 
 -- the faults of both blocks, with that of a mail without a valid field where `valid` says so
 unfoldable pub faults_by : Bool → Mail → List Fault
@@ -42,8 +41,8 @@ unfoldable pub faults_with : Mail → List Fault
 faults_with m = faults_of m.sender.now (unrolled m.recipients.now) (fields_in m.outer.now) (fields_in m.payload.now)
 
 -- R12: how many faults there are, where the list has room for them
-unfoldable pub listed_of : List Fault → ℕ → Linted
-listed_of faults room = answered_by (first_of (list_rows faults room)) Refused (Done (length faults))
+unfoldable pub listed_of : List Fault → ℕ → Result ℕ Refusal
+listed_of faults room = answered_by (first_of (list_rows faults room)) Err (Ok (length faults))
 
 -- R12, R32: the faults at the front of the list, where it has room for them
 unfoldable pub left_by_listing : List Fault → List ℕ → List ℕ

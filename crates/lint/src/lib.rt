@@ -15,12 +15,6 @@ use lookover::{Looked, Side};
 use refusals::Refusal;
 use slots::Slot;
 
-// How many faults there are; or the call was refused.
-#[derive(Clone, Copy)]
-pub enum Linted {
-    Done(usize),
-    Refused(Refusal),
-}
 
 // Room for the values of most mails. Room has to be cleared before it is lent.
 const SHORT: usize = 8192;
@@ -87,7 +81,7 @@ fn with_missing(numbers: usize, valid: bool) -> usize
 }
 
 // Lists the faults where there is room for them (R12). They are counted by a pass over a list that has none.
-fn list_faults(mail: Mail, text: &mut [u8], list: &mut [u32]) -> Linted
+fn list_faults(mail: Mail, text: &mut [u8], list: &mut [u32]) -> Result<usize, Refusal>
     requires { Readied mail text.old }
     ensures value { result ≡ listed_of (faults_with mail.entry) (length list.old) }
     ensures list_after { list.new ≡ left_by_listing (faults_with mail.entry) list.old }
@@ -96,13 +90,13 @@ fn list_faults(mail: Mail, text: &mut [u8], list: &mut [u32]) -> Linted
     let counted = pass(mail, text, true, &mut nowhere);
     let needed = with_missing(counted.end, counted.valid);
     if list.len() < needed {
-        return Linted::Refused(Refusal::OutputLength);
+        return Err(Refusal::OutputLength);
     }
     if needed == 0 {
-        return Linted::Done(0);
+        return Ok(0);
     }
     let written = pass(mail, text, counted.valid, list);
-    Linted::Done(written.end / 3)
+    Ok(written.end / 3)
 }
 
 // Refusal 12, with the blocks readable and the sender known: the recipients are gathered first.
@@ -114,7 +108,7 @@ fn lint_sent(
     sender: &[u8],
     text: &mut [u8],
     list: &mut [u32],
-) -> Linted
+) -> Result<usize, Refusal>
     requires { Sent outer.now survey payload.now sender.now text.old }
     ensures value { result ≡ linted_of outer.now payload.now (length list.old) }
     ensures list_after { list.new ≡ left_by_linting outer.now payload.now list.old }
@@ -142,7 +136,7 @@ fn lint_walked(
     payload: &[u8],
     text: &mut [u8],
     list: &mut [u32],
-) -> Linted
+) -> Result<usize, Refusal>
     requires { Walked outer.now survey payload.now text.old }
     ensures value { result ≡ linted_of outer.now payload.now (length list.old) }
     ensures list_after { list.new ≡ left_by_linting outer.now payload.now list.old }
@@ -151,17 +145,17 @@ fn lint_walked(
     match outer::sender_of(outer, survey, text, &mut sender) {
         Some(n) => {
             if !header::readable(payload) {
-                return Linted::Refused(Refusal::PayloadBlock);
+                return Err(Refusal::PayloadBlock);
             }
             lint_sent(outer, survey, payload, &sender[..n], text, list)
         }
-        None => Linted::Refused(Refusal::Sender),
+        None => Err(Refusal::Sender),
     }
 }
 
 // All refusals, with room for `N` octets of a value.
 #[tactic(auto, using(crate::proofs::Calling::opening))]
-fn lint_with<const N: usize>(outer: &[u8], payload: &[u8], list: &mut [u32]) -> Linted
+fn lint_with<const N: usize>(outer: &[u8], payload: &[u8], list: &mut [u32]) -> Result<usize, Refusal>
     requires { Roomy outer.now payload.now N }
     ensures value { result ≡ linted_of outer.now payload.now (length list.old) }
     ensures list_after { list.new ≡ left_by_linting outer.now payload.now list.old }
@@ -169,7 +163,7 @@ fn lint_with<const N: usize>(outer: &[u8], payload: &[u8], list: &mut [u32]) -> 
     let mut text = [0u8; N];
     match fields::walk(outer) {
         Some(survey) => lint_walked(outer, survey, payload, &mut text, list),
-        None => Linted::Refused(Refusal::OuterBlock),
+        None => Err(Refusal::OuterBlock),
     }
 }
 
@@ -186,7 +180,7 @@ fn lint_with<const N: usize>(outer: &[u8], payload: &[u8], list: &mut [u32]) -> 
 //     12     `list` has fewer than three numbers for each fault (R12)
 // Then `list` stays as it was (R32). One of 98,304 numbers is always long enough (O11). A report is not refused.
 #[tactic(auto, using(crate::proofs::Calling::roomy))]
-pub fn lint(outer: &[u8], payload: &[u8], list: &mut [u32]) -> Linted
+pub fn lint(outer: &[u8], payload: &[u8], list: &mut [u32]) -> Result<usize, Refusal>
     ensures value { result ≡ linted_of outer.now payload.now (length list.old) }
     ensures list_after { list.new ≡ left_by_linting outer.now payload.now list.old }
 {

@@ -9,9 +9,8 @@ use mathlib.Core.Logic.{⊎_elim}
 use mathlib.Core.Bool.{true}
 use mathlib.Core.List.Permᴰ
 use mathlib.Core.List.{List, [], ◌∷◌, map, Memᴰ, Permᴰ}
-use Rattle.std.specs.Prelude.{Some}
+use Rattle.std.specs.Prelude.{Some, Err}
 use Rattle.refusals.specs.declared.Refusal.TheVariants.{NoFreeSlot}
-use Rattle.refusals.specs.declared.Answer.TheVariants.{Refused}
 use Rattle.update.specs.Message.{Message}
 use Rattle.order.specs.Fetching.{Form, after, fetched_in, fits, all_fit_in, Agree, Agreeing}
 use Rattle.order.specs.Calls.{Call, OctetCall, Calling, left_by_all, answers_of}
@@ -21,7 +20,7 @@ use Rattle.order.proofs.FetchOrder.{Alike, fetched_one, fetch_alike}
 
 pub record Delivers {T : Type 0} (form : Form T) (calling : Calling T) : Type 0 where
   pub leaves : (t : T) → form.IsSound t → (c : Call) → calling.left t c ≡ after form t (calling.brings c)
-  pub fitting : (t : T) → form.IsSound t → (c : Call) → (Refused NoFreeSlot ≡ calling.answer t c → ⊥) → fits form t (calling.brings c) ≡ true
+  pub fitting : (t : T) → form.IsSound t → (c : Call) → (Err NoFreeSlot ≡ calling.answer t c → ⊥) → fits form t (calling.brings c) ≡ true
   pub good : (c : Call) → OctetCall c → (m : Message) → calling.brings c ≡ Some m → form.IsGood m
 
 -- what stands in a list of changed elements was made of an element
@@ -36,7 +35,7 @@ map_stands f (a ∷ rest) y i =
 module _ {T : Type 0} (form : Form T) (law : Lawful form) (calling : Calling T) (d : Delivers form calling) where
   -- where none is refused for room
   calls_run : (cs : List Call) (t : T) → form.IsSound t → ((c : Call) → Memᴰ c cs → OctetCall c)
-      → (Memᴰ (Refused NoFreeSlot) (answers_of calling t cs) → ⊥)
+      → (Memᴰ (Err NoFreeSlot) (answers_of calling t cs) → ⊥)
       → (left_by_all calling t cs ≡ fetched_in form t (map calling.brings cs)) × (all_fit_in form t (map calling.brings cs) ≡ true)
   unfolding left_by_all answers_of fetched_in all_fit_in
   calls_run [] t s octets n = (refl, refl)
@@ -44,13 +43,13 @@ module _ {T : Type 0} (form : Form T) (law : Lawful form) (calling : Calling T) 
       let fit : fits form t (calling.brings c) ≡ true = d.fitting t s c (λ q. n (mathlib.Core.List.Memᴰ.head q)) in
       let one = fetched_one form law t (calling.brings c) s (d.good c (octets c (mathlib.Core.List.Memᴰ.head refl))) fit in
       let e : calling.left t c ≡ after form t (calling.brings c) = d.leaves t s c in
-      let more : Memᴰ (Refused NoFreeSlot) (answers_of calling (after form t (calling.brings c)) rest) → ⊥ =
+      let more : Memᴰ (Err NoFreeSlot) (answers_of calling (after form t (calling.brings c)) rest) → ⊥ =
       λ i. n (mathlib.Core.List.Memᴰ.tail (rw e i)) in
       let others = calls_run rest (after form t (calling.brings c)) one.sound (λ x i. octets x (mathlib.Core.List.Memᴰ.tail i)) more in
       (ap (λ (u : T). left_by_all calling u rest) e ∙ others.0, rw fit others.1)
 
   pub calls_alike : (t : T) (cs ds : List Call) → form.IsSound t → ((c : Call) → Memᴰ c cs → OctetCall c) → Permᴰ cs ds
-      → (Memᴰ (Refused NoFreeSlot) (answers_of calling t cs) → ⊥) → (Memᴰ (Refused NoFreeSlot) (answers_of calling t ds) → ⊥)
+      → (Memᴰ (Err NoFreeSlot) (answers_of calling t cs) → ⊥) → (Memᴰ (Err NoFreeSlot) (answers_of calling t ds) → ⊥)
       → ((c d : Call) → Memᴰ c cs → Memᴰ d cs → (m n : Message) → calling.brings c ≡ Some m → calling.brings d ≡ Some n → Agree m n)
       → Alike form (left_by_all calling t cs) (left_by_all calling t ds)
   unfolding Agreeing

@@ -8,14 +8,13 @@ use Prim.Native.Nat.{ℕ}
 use mathlib.Core.Path.{◌≡◌, refl, sym, ap, ◌∙◌}
 use mathlib.Core.Bool.{true, false}
 use mathlib.Core.List.{List, [], ◌∷◌, Memᴰ, Permᴰ}
-use Rattle.std.specs.Prelude.{Option, Some, None}
+use Rattle.std.specs.Prelude.{Option, Some, None, Ok, Err}
 use native.Mathlib.Omega.{arith}
 use Rattle.octets.specs.Octets.{AllOctets}
 use Rattle.octets.proofs.Tests.{by_test}
 use Rattle.refusals.specs.Rows.{first_of}
 use Rattle.refusals.specs.declared.Refusal.{Refusal}
 use Rattle.refusals.specs.declared.Refusal.TheVariants.{NoFreeSlot}
-use Rattle.refusals.specs.declared.Answer.TheVariants.{Done, Refused}
 use Rattle.refusals.proofs.Rows.{by_refusal, refused_is, done_is}
 use Rattle.slots.specs.declared.Spelling.TheVariants.{Canonical}
 use Rattle.table.specs.Table.{checked}
@@ -89,12 +88,12 @@ module _ (c : Call) where
         (λ e h q. rw (brings_message e, delivered, h) (stays NoFreeSlot q))
         (λ e h q. rw (brings_message e, delivered, h) (done_left t c.receipt c.outer c.payload c.setting q))
 
-    answer_fits : (Refused NoFreeSlot ≡ answer_to t c → ⊥) → fits slot_form t (message_in c) ≡ true
+    answer_fits : (Err NoFreeSlot ≡ answer_to t c → ⊥) → fits slot_form t (message_in c) ≡ true
     unfolding fits answer_to
     answer_fits n =
         by_way
         (λ r e q. rw (brings_none r e))
-        (λ e h q. absurd (n (sym (refused_is Refused Done refusal NoFreeSlot q))))
+        (λ e h q. absurd (n (sym (refused_is Err (Ok tt) refusal NoFreeSlot q))))
         (λ e h q. rw (brings_message e) h)
 
 process_delivers : Delivers slot_form slot_calling
@@ -104,7 +103,7 @@ process_delivers = record { leaves = λ t h c. left_after c t h.sound; fitting =
 -- something at the same date bring it the same, the tables that they end with say the same.
 pub calls_in_any_order : (t : List ℕ) (cs ds : List Call) → AllOctets t → checked t ≡ Sound → ((c : Call) → Memᴰ c cs → OctetCall c)
     → Permᴰ cs ds
-    → (Memᴰ (Refused NoFreeSlot) (answers t cs) → ⊥) → (Memᴰ (Refused NoFreeSlot) (answers t ds) → ⊥)
+    → (Memᴰ (Err NoFreeSlot) (answers t cs) → ⊥) → (Memᴰ (Err NoFreeSlot) (answers t ds) → ⊥)
     → ((c d : Call) → Memᴰ c cs → Memᴰ d cs → (m n : Message) → message_in c ≡ Some m → message_in d ≡ Some n → Agree m n)
     → SayTheSame (table_after t cs) (table_after t ds)
 calls_in_any_order t cs ds o s octets p n₁ n₂ agree =

@@ -14,7 +14,8 @@ use mathlib.Core.Bool.{true, false}
 use mathlib.Core.List.Memᴰ
 use mathlib.Core.List.Permᴰ
 use mathlib.Core.List.{List, [], ◌∷◌, ◌++◌, Memᴰ}
-use Rattle.std.specs.Prelude.{Option, Some, None}
+use Rattle.std.specs.Prelude.{Option, Some, None, Result, Ok, Err}
+use Rattle.refusals.specs.declared.Refusal.{Refusal}
 use native.Mathlib.Omega.{arith}
 use borrow.Author.Tests.{le-leb}
 use lib.Dec.{leb}
@@ -60,8 +61,6 @@ use Rattle.message.specs.Message as message
 use Rattle.message.specs.Message.{message_rows, message_of}
 use Rattle.refusals.specs.Rows.{first_of}
 use Rattle.refusals.specs.declared.Refusal.TheVariants.{NoFreeSlot}
-use Rattle.refusals.specs.declared.Answer.{Answer}
-use Rattle.refusals.specs.declared.Answer.TheVariants.{Done, Refused}
 use Rattle.refusals.proofs.Rows.{done_is}
 use Rattle.octets.specs.Tests as tests
 use Rattle.runs.specs.Runs as runs
@@ -143,9 +142,9 @@ module _ (c : Call) (m : Message) (e : Reads c m) where
     none_holds : refused_processing t c.receipt c.outer c.payload c.setting ≡ None
     none_holds = message_fits t c.receipt c.outer c.payload c.setting s e.in_order (rw e.brings r)
 
-    done : answer_to t c ≡ Done
+    done : answer_to t c ≡ Ok tt
     unfolding answer_to
-    done = done_is Refused Done _ none_holds
+    done = done_is Err (Ok tt) _ none_holds
 
     leaves : left_by t c ≡ applied t m
     unfolding left_by
@@ -159,7 +158,7 @@ module _ (c : Call) (o : OctetCall c) (key : String) (at : ℕ) (e : Reads c (br
   good : GoodMessage (bringing key at)
   good = call_good c o (bringing key at) (brings_it c (bringing key at) e)
 
-  first_done : answer_to free c ≡ Done
+  first_done : answer_to free c ≡ Ok tt
   first_done = done c (bringing key at) e free free_sound (free_room key at)
 
   first_left : left_by free c ≡ first
@@ -180,7 +179,7 @@ module _ (c : Call) (o : OctetCall c) (key : String) (at : ℕ) (e : Reads c (br
     next_room : has_room first (bringing next then) ≡ true
     next_room = known_room next then first (stands_present first ann ∙ ap is_some first_entry ∙ leaves_ann key at None)
 
-    next_done : answer_to first d ≡ Done
+    next_done : answer_to first d ≡ Ok tt
     next_done = done d (bringing next then) f first first_sound next_room
 
     next_left : left_by first d ≡ applied first (bringing next then)
@@ -189,7 +188,7 @@ module _ (c : Call) (o : OctetCall c) (key : String) (at : ℕ) (e : Reads c (br
     next_good : GoodMessage (bringing next then)
     next_good = call_good d p (bringing next then) (brings_it d (bringing next then) f)
 
-    both_done : answers free (c ∷ d ∷ []) ≡ Done ∷ Done ∷ []
+    both_done : answers free (c ∷ d ∷ []) ≡ Ok tt ∷ (Ok tt) ∷ []
     unfolding answers_of
     both_done = rw (first_done, first_left, next_done)
 
@@ -215,16 +214,16 @@ younger_octets : OctetCall younger
 unfolding tests.every
 younger_octets = record { outer = tested younger.outer refl; payload = tested [] refl }
 
-older_first : answers free (older ∷ younger ∷ []) ≡ Done ∷ Done ∷ []
+older_first : answers free (older ∷ younger ∷ []) ≡ Ok tt ∷ (Ok tt) ∷ []
 older_first = both_done older older_octets "foo" 1000 reads.0 younger younger_octets "bar" 2000 reads.1
 
-younger_first : answers free (younger ∷ older ∷ []) ≡ Done ∷ Done ∷ []
+younger_first : answers free (younger ∷ older ∷ []) ≡ Ok tt ∷ (Ok tt) ∷ []
 younger_first = both_done younger younger_octets "bar" 2000 reads.1 older older_octets "foo" 1000 reads.0
 
-no_eight : (list : List Answer) → list ≡ Done ∷ Done ∷ [] → Memᴰ (Refused NoFreeSlot) list → ⊥
+no_eight : (list : List (Result (Unit {0}) Refusal)) → list ≡ Ok tt ∷ (Ok tt) ∷ [] → Memᴰ (Err NoFreeSlot) list → ⊥
 no_eight list e i = ⊎_elim not_done (λ j. ⊎_elim not_done Memᴰ.not-nil (Memᴰ.cases_cons j)) (Memᴰ.cases_cons (rw e at i))
   where
-    not_done : Refused NoFreeSlot ≡ Done → ⊥
+    not_done : Err NoFreeSlot ≡ Ok tt → ⊥
     not_done q = let z : ◌≡◌ {A = ℕ} 0 1 = cc in omega arith
 
 -- a mail agrees with itself, and with any of another date

@@ -7,11 +7,11 @@
 --     message_in               what a call brings: none where it is refused by 3 to 7
 --     slot_calling             `process` on a table of slots
 --     table_after, answers     its calls one after the other
-use Rattle.std.specs.Prelude.{ℕ, List, [], ◌∷◌}
+use Rattle.std.specs.Prelude.{ℕ, List, [], ◌∷◌, Result}
 use Rattle.std.specs.Prelude.{Option, Some, None}
+use Rattle.refusals.specs.declared.Refusal.{Refusal}
 use Rattle.octets.specs.Octets.{AllOctets}
 use Rattle.refusals.specs.Rows.{first_of, answer_of, unless_refused}
-use Rattle.refusals.specs.declared.Answer.{Answer}
 use Rattle.update.specs.Message.{Message}
 use Rattle.slots.specs.Slot.{key_limit}
 use Rattle.message.specs.Message.{message_rows, message_of}
@@ -32,7 +32,7 @@ pub record OctetCall (c : Call) : Type 0 where
 
 -- a form of calls: what one answers, the table that it leaves, and what it brings
 pub record Calling (T : Type 0) : Type 0 where
-  pub answer : T → Call → Answer
+  pub answer : T → Call → Result (Unit {0}) Refusal
   pub left : T → Call → T
   pub brings : Call → Option Message
 
@@ -42,12 +42,12 @@ left_by_all calling t [] = t
 left_by_all calling t (c ∷ rest) = left_by_all calling (calling.left t c) rest
 
 -- what they answer, each on the table that the one before it leaves
-unfoldable pub answers_of : {T : Type 0} → Calling T → T → List Call → List Answer
+unfoldable pub answers_of : {T : Type 0} → Calling T → T → List Call → List (Result (Unit {0}) Refusal)
 answers_of calling t [] = []
 answers_of calling t (c ∷ rest) = calling.answer t c ∷ answers_of calling (calling.left t c) rest
 
 -- U2: what `process` answers to a call
-unfoldable pub answer_to : List ℕ → Call → Answer
+unfoldable pub answer_to : List ℕ → Call → Result (Unit {0}) Refusal
 answer_to t c = answer_of (refused_processing t c.receipt c.outer c.payload c.setting)
 
 -- U2: the table that `process` leaves
@@ -69,5 +69,5 @@ abbrev pub table_after : List ℕ → List Call → List ℕ
 table_after t cs = left_by_all slot_calling t cs
 
 -- what they answer
-abbrev pub answers : List ℕ → List Call → List Answer
+abbrev pub answers : List ℕ → List Call → List (Result (Unit {0}) Refusal)
 answers t cs = answers_of slot_calling t cs

@@ -5,6 +5,8 @@
 --     convert_refusal, process_refusal, entry_refusal, write_autocrypt_refusal, write_gossip_refusal, display_refusal, lint_refusal    what a refusal leaves
 -- That each number is given exactly when its row holds and no row before it (C3) is `exactly` of refusals/proofs/Rows, for the rows of every call.
 -- Assumes nothing.
+use Rattle.std.specs.Prelude.{Result, Err}
+use Rattle.advice.specs.declared.Advice.{Advice}
 use Prim.Native.Nat.{ℕ}
 use mathlib.Core.Path.{◌≡◌, sym, ◌∙◌}
 use mathlib.Core.Bool.{Bool, false}
@@ -12,22 +14,15 @@ use mathlib.Core.List.{List}
 use borrow.Fn.Claims.{AllOf}
 use Rattle.advice.specs.declared.Part.{Part}
 use Rattle.refusals.specs.declared.Refusal.{Refusal}
-use Rattle.refusals.specs.declared.Answer.{Answer}
-use Rattle.refusals.specs.declared.Answer.TheVariants.{Refused}
 use Rattle.inspect.proofs.Showing.{refused_untouched as unshown}
 use Rattle.convert.proofs.Outcomes.{refused_untouched as unconverted}
 use Rattle.settings.specs.declared.Gossip.{Gossip}
 use Rattle.process.proofs.Outcomes.{refused_untouched as unprocessed}
 use Rattle.recommend.specs.declared.Quick.{Quick}
-use Rattle.recommend.specs.declared.Recommended.{Recommended}
 use Rattle.recommend.proofs.Range.{quick_whole}
 use Rattle.names.specs.Names.{autocrypt as autocrypt_name, gossip as gossip_name}
-use Rattle.write.specs.declared.Written.{Written}
-use Rattle.write.specs.declared.Written.TheVariants.{Refused as NotWritten}
 use Rattle.write.proofs.Outcomes.{refused_untouched as unwritten}
 use Rattle.display.proofs.Outcomes.{refused_untouched as undisplayed}
-use Rattle.lint.specs.declared.Linted.{Linted}
-use Rattle.lint.specs.declared.Linted.TheVariants.{Refused as NotLinted}
 use Rattle.lint.proofs.Outcomes.{refused_untouched as unlinted}
 use Rattle.cabi.specs.declared.numbers.Answer.{Answer as AnswerInC}
 use Rattle.cabi.specs.declared.numbers.Advice.{Advice}
@@ -52,22 +47,22 @@ number_unique refusal r q = one_answer _ r q
 pub index_unique : (refusal : Refusal) (r q : ℕ) → AllOf (Index refusal r) → AllOf (Index refusal q) → r ≡ q
 index_unique refusal r q = one_answer _ r q
 
-pub check_unique : (table : List ℕ) (r q : Answer) → AllOf (Check table r) → AllOf (Check table q) → r ≡ q
+pub check_unique : (table : List ℕ) (r q : Result (Unit {0}) Refusal) → AllOf (Check table r) → AllOf (Check table q) → r ≡ q
 check_unique table r q = one_answer _ r q
 
-pub convert_unique : (table : List ℕ) (r q : Answer) (left other : List ℕ)
+pub convert_unique : (table : List ℕ) (r q : Result (Unit {0}) Refusal) (left other : List ℕ)
     → AllOf (Convert table r left) → AllOf (Convert table q other) → (r ≡ q) × (left ≡ other)
 convert_unique table r q left other = one_outcome _ _ r q left other
 
-pub process_unique : (table : List ℕ) (receipt : ℕ) (outer payload : List ℕ) (gossip : Gossip) (r q : Answer) (left other : List ℕ)
+pub process_unique : (table : List ℕ) (receipt : ℕ) (outer payload : List ℕ) (gossip : Gossip) (r q : Result (Unit {0}) Refusal) (left other : List ℕ)
     → AllOf (Process table receipt outer payload gossip r left) → AllOf (Process table receipt outer payload gossip q other) → (r ≡ q) × (left ≡ other)
 process_unique table receipt outer payload gossip r q left other = one_outcome _ _ r q left other
 
-pub entry_unique : (table : List ℕ) (slot : ℕ) (numbers : List ℕ) (r q : Answer) (left other : List ℕ)
+pub entry_unique : (table : List ℕ) (slot : ℕ) (numbers : List ℕ) (r q : Result (Unit {0}) Refusal) (left other : List ℕ)
     → AllOf (Entry table slot numbers r left) → AllOf (Entry table slot numbers q other) → (r ≡ q) × (left ≡ other)
 entry_unique table slot numbers r q left other = one_outcome _ _ r q left other
 
-pub recommend_unique : (table recipients : List ℕ) (is_mutual reply : Bool) (r q : Recommended)
+pub recommend_unique : (table recipients : List ℕ) (is_mutual reply : Bool) (r q : Result Advice Refusal)
     → AllOf (Recommend table recipients is_mutual reply r) → AllOf (Recommend table recipients is_mutual reply q) → r ≡ q
 recommend_unique table recipients is_mutual reply r q = one_answer _ r q
 
@@ -84,19 +79,19 @@ pub target_key_unique : (table recipients : List ℕ) (is_mutual reply : Bool) (
     → AllOf (TargetKey table recipients is_mutual reply place r) → AllOf (TargetKey table recipients is_mutual reply place q) → r ≡ q
 target_key_unique table recipients is_mutual reply place r q h k = one_answer _ r q h.0 k.0
 
-pub write_autocrypt_unique : (address key : List ℕ) (is_mutual : Bool) (out : List ℕ) (r q : Written) (left other : List ℕ)
+pub write_autocrypt_unique : (address key : List ℕ) (is_mutual : Bool) (out : List ℕ) (r q : Result ℕ Refusal) (left other : List ℕ)
     → AllOf (WriteAutocrypt address key is_mutual out r left) → AllOf (WriteAutocrypt address key is_mutual out q other) → (r ≡ q) × (left ≡ other)
 write_autocrypt_unique address key is_mutual out r q left other = one_outcome _ _ r q left other
 
-pub write_gossip_unique : (address key out : List ℕ) (r q : Written) (left other : List ℕ)
+pub write_gossip_unique : (address key out : List ℕ) (r q : Result ℕ Refusal) (left other : List ℕ)
     → AllOf (WriteGossip address key out r left) → AllOf (WriteGossip address key out q other) → (r ≡ q) × (left ≡ other)
 write_gossip_unique address key out r q left other = one_outcome _ _ r q left other
 
-pub display_unique : (address out : List ℕ) (r q : Written) (left other : List ℕ)
+pub display_unique : (address out : List ℕ) (r q : Result ℕ Refusal) (left other : List ℕ)
     → AllOf (Display address out r left) → AllOf (Display address out q other) → (r ≡ q) × (left ≡ other)
 display_unique address out r q left other = one_outcome _ _ r q left other
 
-pub lint_unique : (outer payload list : List ℕ) (r q : Linted) (left other : List ℕ)
+pub lint_unique : (outer payload list : List ℕ) (r q : Result ℕ Refusal) (left other : List ℕ)
     → AllOf (Lint outer payload list r left) → AllOf (Lint outer payload list q other) → (r ≡ q) × (left ≡ other)
 lint_unique outer payload list r q left other = one_outcome _ _ r q left other
 
@@ -147,32 +142,32 @@ pub vienghulac_lint_unique : (outer payload list : List ℕ) (r q : LintedInC) (
 vienghulac_lint_unique outer payload list r q left other = one_outcome _ _ r q left other
 
 -- R32: a refused call writes nothing
-pub convert_refusal : (table : List ℕ) (refusal : Refusal) (left : List ℕ) → AllOf (Convert table (Refused refusal) left) → left ≡ table
+pub convert_refusal : (table : List ℕ) (refusal : Refusal) (left : List ℕ) → AllOf (Convert table (Err refusal) left) → left ≡ table
 convert_refusal table refusal left h = h.1 ∙ unconverted table refusal (sym h.0)
 
 pub process_refusal : (table : List ℕ) (receipt : ℕ) (outer payload : List ℕ) (gossip : Gossip) (refusal : Refusal) (left : List ℕ)
-    → AllOf (Process table receipt outer payload gossip (Refused refusal) left) → left ≡ table
+    → AllOf (Process table receipt outer payload gossip (Err refusal) left) → left ≡ table
 process_refusal table receipt outer payload gossip refusal left h =
     h.1 ∙ unprocessed table receipt outer payload gossip refusal (sym h.0)
 
 pub entry_refusal : (table : List ℕ) (slot : ℕ) (numbers : List ℕ) (refusal : Refusal) (left : List ℕ)
-    → AllOf (Entry table slot numbers (Refused refusal) left) → left ≡ numbers
+    → AllOf (Entry table slot numbers (Err refusal) left) → left ≡ numbers
 entry_refusal table slot numbers refusal left h = h.1 ∙ unshown table slot numbers refusal (sym h.0)
 
 pub write_autocrypt_refusal : (address key : List ℕ) (is_mutual : Bool) (out : List ℕ) (refusal : Refusal) (left : List ℕ)
-    → AllOf (WriteAutocrypt address key is_mutual out (NotWritten refusal) left) → left ≡ out
+    → AllOf (WriteAutocrypt address key is_mutual out (Err refusal) left) → left ≡ out
 write_autocrypt_refusal address key is_mutual out refusal left h =
     h.1 ∙ unwritten autocrypt_name address is_mutual key out refusal (sym h.0)
 
 pub write_gossip_refusal : (address key out : List ℕ) (refusal : Refusal) (left : List ℕ)
-    → AllOf (WriteGossip address key out (NotWritten refusal) left) → left ≡ out
+    → AllOf (WriteGossip address key out (Err refusal) left) → left ≡ out
 write_gossip_refusal address key out refusal left h =
     h.1 ∙ unwritten gossip_name address false key out refusal (sym h.0)
 
 pub display_refusal : (address out : List ℕ) (refusal : Refusal) (left : List ℕ)
-    → AllOf (Display address out (NotWritten refusal) left) → left ≡ out
+    → AllOf (Display address out (Err refusal) left) → left ≡ out
 display_refusal address out refusal left h = h.1 ∙ undisplayed address out refusal (sym h.0)
 
 pub lint_refusal : (outer payload list : List ℕ) (refusal : Refusal) (left : List ℕ)
-    → AllOf (Lint outer payload list (NotLinted refusal) left) → left ≡ list
+    → AllOf (Lint outer payload list (Err refusal) left) → left ≡ list
 lint_refusal outer payload list refusal left h = h.1 ∙ unlinted outer payload list refusal (sym h.0)

@@ -12,7 +12,7 @@ use Prim.Native.Nat.{ℕ}
 use mathlib.Core.Path.{◌≡◌, refl, sym, ap, subst, ◌∙◌}
 use mathlib.Core.Bool.{true, false}
 use mathlib.Core.List.{List, [], ◌++◌}
-use Rattle.std.specs.Prelude.{Option, Some, None}
+use Rattle.std.specs.Prelude.{Option, Some, None, Ok, Err}
 use native.Mathlib.Omega.{arith}
 use borrow.Author.Tests.{not-false}
 use Rattle.octets.specs.Octets.{AllOctets}
@@ -20,7 +20,6 @@ use Rattle.octets.proofs.Tests.{by_test}
 use Rattle.refusals.specs.Rows.{first_of, answer_of, some_holds}
 use Rattle.refusals.specs.declared.Refusal.{Refusal}
 use Rattle.refusals.specs.declared.Refusal.TheVariants.{BrokenSlot, NoFreeSlot}
-use Rattle.refusals.specs.declared.Answer.TheVariants.{Done, Refused}
 use Rattle.refusals.proofs.Rows.{by_refusal, first_front, first_rest, none_here, none_front, none_behind, front_only, refused_is, done_is, answer_refused, answer_done}
 use Rattle.slots.specs.declared.Spelling.TheVariants.{Canonical}
 use Rattle.table.specs.Table.{checked}
@@ -101,11 +100,11 @@ module _ (t : List ℕ) (receipt : ℕ) (outer payload : List ℕ) (g : Gossip) 
     unfolding room_rows
     done_room = not-false (has_room t message) (none_here NoFreeSlot _ [] (none_behind (message_rows receipt outer payload g) (room_rows t message) behind_table))
 
-  pub refused_untouched : (r : Refusal) → answer_of refusal ≡ Refused r → left_by_processing t receipt outer payload g ≡ t
+  pub refused_untouched : (r : Refusal) → answer_of refusal ≡ Err r → left_by_processing t receipt outer payload g ≡ t
   refused_untouched r a = refused_left r (answer_refused refusal r a)
 
   -- 2 is given by the rows of the table alone
-  pub index_lowest : (i : ℕ) → answer_of refusal ≡ Refused (BrokenSlot i) → Broken t i
+  pub index_lowest : (i : ℕ) → answer_of refusal ≡ Err (BrokenSlot i) → Broken t i
   unfolding refused_processing processing_rows message_rows room_rows some_holds
   index_lowest i a = lowest_broken Canonical t i (front_only (table_rows t) (message_rows receipt outer payload g ++ room_rows t message) (BrokenSlot i) refl (answer_refused refusal (BrokenSlot i) a))
 
@@ -125,7 +124,7 @@ module _ (t : List ℕ) (receipt : ℕ) (outer payload : List ℕ) (g : Gossip) 
       pub processed_octets : AllOctets (left_by_processing t receipt outer payload g)
       processed_octets = after AllOctets o (λ good. applied_octets t message good s o)
 
-    pub done_entry : answer_of refusal ≡ Done → (b : List ℕ)
+    pub done_entry : answer_of refusal ≡ Ok tt → (b : List ℕ)
         → entry_in (left_by_processing t receipt outer payload g) b ≡ entry_after message b (entry_in t b)
     done_entry a b =
         let e : refusal ≡ None = answer_done refusal a in

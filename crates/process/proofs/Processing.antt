@@ -11,7 +11,7 @@ use Prim.Native.Nat.{ℕ, ◌≤◌}
 use mathlib.Core.Path.{◌≡◌, refl, sym, ap, ◌∙◌}
 use mathlib.Core.Bool.{Bool, true, not, ◌||◌}
 use mathlib.Core.List.{List, []}
-use Rattle.std.specs.Prelude.{Option, Some, None}
+use Rattle.std.specs.Prelude.{Option, Some, None, Result, Ok, Err}
 use native.Mathlib.Omega.{arith}
 use native.Mathlib.Nat.{sub-zero}
 use borrow.Author.Rules.{rules}
@@ -21,8 +21,6 @@ use lib.ListN.{length, take}
 use Rattle.octets.proofs.Tests.{and_left, and_right}
 use Rattle.refusals.specs.Rows.{first_of, answer_of}
 use Rattle.refusals.specs.declared.Refusal.{Refusal}
-use Rattle.refusals.specs.declared.Answer.{Answer}
-use Rattle.refusals.specs.declared.Answer.TheVariants.{Done, Refused}
 use Rattle.refusals.proofs.Rows.{refused_is, front_refuses}
 use Rattle.settings.specs.Settings.{taken}
 use Rattle.settings.specs.declared.Gossip.{Gossip}
@@ -68,7 +66,7 @@ module _ (outer roll listed places : List ℕ) (r : Rolled) (h : GatheredAs oute
       let recipients = rw sub-zero at (gathered outer roll listed places r h) in
       rw recipients
 
-  pub carried_answered : (a : Answer)
+  pub carried_answered : (a : Result (Unit {0}) Refusal)
       → a ≡ answer_of (first_of (room_rows t (mail_of sender key b (gossip_of 2048 (take r.end roll) payload))))
       → a ≡ answer_of (first_of (room_rows t (mail_of sender key b (heard_in 2048 outer payload))))
   carried_answered a e = e ∙ ap (λ (gs : List Gossiped). answer_of (first_of (room_rows t (mail_of sender key b gs)))) heard_is
@@ -106,8 +104,8 @@ module _ (t tags : List ℕ) (receipt : ℕ) (outer payload : List ℕ) (g : Gos
     unfolding ReadAs
     first = message_refused t receipt outer payload g y.opened.sound x (rw q at h)
 
-    pub refused_answered : Refused x ≡ answer_of (refused_processing t receipt outer payload g)
-    refused_answered = sym (refused_is Refused Done (refused_processing t receipt outer payload g) x first)
+    pub refused_answered : Err x ≡ answer_of (refused_processing t receipt outer payload g)
+    refused_answered = sym (refused_is Err (Ok tt) (refused_processing t receipt outer payload g) x first)
 
     pub refused_done : t ≡ left_by_processing t receipt outer payload g
     refused_done = sym (refused_left t receipt outer payload g x first)
@@ -115,7 +113,7 @@ module _ (t tags : List ℕ) (receipt : ℕ) (outer payload : List ℕ) (g : Gos
   -- what it brings is the message of both blocks
   module _ (b : Brought) (gs : List Gossiped) (m : Brings sender key b gs (message_of 2048 receipt outer payload g))
       (e : first_of (message_rows receipt outer payload g) ≡ None) where
-    answered : (a : Answer) → a ≡ answer_of (first_of (room_rows t (mail_of (take b.sender sender) key b gs)))
+    answered : (a : Result (Unit {0}) Refusal) → a ≡ answer_of (first_of (room_rows t (mail_of (take b.sender sender) key b gs)))
         → a ≡ answer_of (refused_processing t receipt outer payload g)
     answered a w =
         (rw m.is at w) ∙ ap (λ (o : Option Refusal). answer_of o) (sym (room_first t receipt outer payload g y.opened.sound e))
@@ -133,7 +131,7 @@ module _ (t tags : List ℕ) (receipt : ℕ) (outer payload : List ℕ) (g : Gos
     pub alone_sends : Sends t tags (take b.sender sender) key b
     alone_sends = sends b [] brought.brings brought.in_order
 
-    pub alone_answered : (a : Answer) → a ≡ answer_of (first_of (room_rows t (mail_of (take b.sender sender) key b [])))
+    pub alone_answered : (a : Result (Unit {0}) Refusal) → a ≡ answer_of (first_of (room_rows t (mail_of (take b.sender sender) key b [])))
         → a ≡ answer_of (refused_processing t receipt outer payload g)
     alone_answered = answered b [] brought.brings brought.in_order
 
@@ -155,7 +153,7 @@ module _ (t tags : List ℕ) (receipt : ℕ) (outer payload : List ℕ) (g : Gos
           outer_fits = omega (arith, y.outer_fits, block_short outer (survey_readable outer v carried_so.surveyed), l);
         }
 
-    pub carrying_answered : (a : Answer) → a ≡ answer_of (first_of (room_rows t (mail_of (take b.sender sender) key b (heard_in 2048 outer payload))))
+    pub carrying_answered : (a : Result (Unit {0}) Refusal) → a ≡ answer_of (first_of (room_rows t (mail_of (take b.sender sender) key b (heard_in 2048 outer payload))))
         → a ≡ answer_of (refused_processing t receipt outer payload g)
     carrying_answered = answered b (heard_in 2048 outer payload) carried_so.brings carried_so.in_order
 
@@ -198,14 +196,14 @@ module _ (t tags outer payload : List ℕ) (g : Gossip) (s : Open t tags) where
   roomy_long = record { opened = s; most = omega arith; outer_fits = omega arith; payload_fits = λ k. omega arith }
 
 -- `process`
-module _ (t tags : List ℕ) (k : Answer) (h : Opens t tags k) where
-  pub opened : k ≡ Done → Open t tags
+module _ (t tags : List ℕ) (k : Result (Unit {0}) Refusal) (h : Opens t tags k) where
+  pub opened : k ≡ Ok tt → Open t tags
   opened = h.opens
 
-  module _ (receipt : ℕ) (outer payload : List ℕ) (g : Gossip) (r : Refusal) (q : k ≡ Refused r) where
-    pub table_answered : Refused r ≡ answer_of (refused_processing t receipt outer payload g)
+  module _ (receipt : ℕ) (outer payload : List ℕ) (g : Gossip) (r : Refusal) (q : k ≡ Err r) where
+    pub table_answered : Err r ≡ answer_of (refused_processing t receipt outer payload g)
     unfolding refused_processing processing_rows
-    table_answered = front_refuses Refused Done (table_rows t) _ k h.answer (Refused r) r q refl
+    table_answered = front_refuses Err (Ok tt) (table_rows t) _ k h.answer (Err r) r q refl
 
     pub table_left : t ≡ left_by_processing t receipt outer payload g
     unfolding left_by_processing refused_processing processing_rows

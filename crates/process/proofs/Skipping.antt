@@ -2,13 +2,13 @@
 --     skipped_refusal, skipped_left    the outcome is that of the call without a payload
 --     no_seven                         the refusal is another than 7, or there is none
 -- Assumes nothing.
+use Rattle.std.specs.Prelude.{Err}
 use Prim.Native.Nat.{ℕ}
 use mathlib.Core.Path.{◌≡◌}
 use mathlib.Core.Bool.{false}
 use mathlib.Core.List.{List, []}
 use Rattle.refusals.specs.Rows.{answer_of, some_holds}
 use Rattle.refusals.specs.declared.Refusal.TheVariants.{PayloadBlock}
-use Rattle.refusals.specs.declared.Answer.TheVariants.{Refused}
 use Rattle.refusals.proofs.Rows.{never_given, answer_refused}
 use Rattle.settings.specs.Settings.{taken}
 use Rattle.settings.specs.declared.Gossip.{Gossip}
@@ -31,7 +31,7 @@ module _ (t : List ℕ) (receipt : ℕ) (outer payload : List ℕ) (g : Gossip) 
   unfolding left_by_processing
   skipped_left = rw (skipped_refusal, same_message)
 
-  pub no_seven : answer_of (refused_processing t receipt outer payload g) ≡ Refused PayloadBlock → ⊥
+  pub no_seven : answer_of (refused_processing t receipt outer payload g) ≡ Err PayloadBlock → ⊥
   unfolding refused_processing processing_rows table_rows_by message_rows room_rows some_holds
   no_seven a =
       never_given (processing_rows t receipt outer payload g) PayloadBlock (rw skips)

@@ -11,9 +11,9 @@ ghost use Rattle.delivery.specs.Delivery.{room_rows, delivered};
 ghost use Rattle.process.specs.Processing.{refused_processing, left_by_processing};
 ghost use Rattle.process.specs.Stages.{is_short, Roomy, Readied};
 
+use refusals::Refusal;
 use fields::Survey;
 use message::{Brought, Reading};
-use refusals::Answer;
 use settings::{Gossip, Settings};
 use slots::Slot;
 
@@ -39,7 +39,7 @@ fn deliver_carrying(
     survey: Survey,
     payload: &[u8],
     text: &mut [u8],
-) -> Answer
+) -> Result<(), Refusal>
     requires { Readied table.old tags.old brought sender.now key.now outer.now survey payload.now text.old }
     ensures value { result ≡ answer_of (first_of (room_rows table.old
         (mail_of sender.now key.now brought (heard_in key_limit outer.now payload.now)))) }
@@ -75,7 +75,7 @@ fn process_with<const N: usize>(
     outer: &[u8],
     payload: &[u8],
     gossip: Gossip,
-) -> Answer
+) -> Result<(), Refusal>
     requires { Roomy table.old tags.old outer.now payload.now gossip N }
     ensures value { result ≡ answer_of (refused_processing table.old receipt outer.now payload.now gossip) }
     ensures table_after { table.new ≡ left_by_processing table.old receipt outer.now payload.now gossip }
@@ -110,7 +110,7 @@ fn process_with<const N: usize>(
             payload,
             &mut text,
         ),
-        Reading::Refused(refusal) => Answer::Refused(refusal),
+        Reading::Refused(refusal) => Err(refusal),
     }
 }
 
@@ -131,7 +131,7 @@ fn process_open(
     outer: &[u8],
     payload: &[u8],
     gossip: Gossip,
-) -> Answer
+) -> Result<(), Refusal>
     requires { Open table.old tags.old }
     ensures value { result ≡ answer_of (refused_processing table.old receipt outer.now payload.now gossip) }
     ensures table_after { table.new ≡ left_by_processing table.old receipt outer.now payload.now gossip }
@@ -172,13 +172,13 @@ pub fn process(
     outer: &[u8],
     payload: &[u8],
     gossip: Gossip,
-) -> Answer
+) -> Result<(), Refusal>
     ensures value { result ≡ answer_of (refused_processing table.old receipt outer.now payload.now gossip) }
     ensures table_after { table.new ≡ left_by_processing table.old receipt outer.now payload.now gossip }
 {
     let mut tags = [0u32; Slot::MOST];
     match inspect::open_table(table, &mut tags) {
-        Answer::Done => process_open(table, &mut tags, receipt, outer, payload, gossip),
-        Answer::Refused(refusal) => Answer::Refused(refusal),
+        Ok(()) => process_open(table, &mut tags, receipt, outer, payload, gossip),
+        Err(refusal) => Err(refusal),
     }
 }

@@ -8,7 +8,7 @@ use Prim.Native.Nat.{ℕ, ◌≤◌, zero-le}
 use mathlib.Core.Path.{◌≡◌, sym, ap, ◌∙◌}
 use mathlib.Core.Bool.{Bool, true, false, false≢true}
 use mathlib.Core.List.{List, []}
-use Rattle.std.specs.Prelude.{Option, Some, None}
+use Rattle.std.specs.Prelude.{Option, Some, None, Result, Ok}
 use native.Mathlib.Omega.{arith}
 use borrow.Author.Tests.{leb-true}
 use lib.Dec.{leb}
@@ -24,8 +24,6 @@ use Rattle.advice.specs.declared.Advice.TheVariants.{Disable}
 use Rattle.advice.proofs.First.{first_least, first_most, place_of_first, place_of_none}
 use Rattle.recommend.specs.Recommending.{most_recipients, recipient_list, refused_recommending, recommended_of, looked_up_of, quick_of}
 use Rattle.recommend.specs.declared.Quick.{Quick}
-use Rattle.recommend.specs.declared.Recommended.{Recommended}
-use Rattle.recommend.specs.declared.Recommended.TheVariants.{Done}
 use Rattle.recommend.proofs.Recommending.{admitted_recipients, done_advised, done_admitted}
 
 in_range : (o : Option (List (List ℕ))) → recipient_list o ≡ true → (1 ≤ length (or_else [] o)) × (length (or_else [] o) ≤ most_recipients)
@@ -51,7 +49,7 @@ module _ (t s : List ℕ) (m reply : Bool) where
       (first_least all (rw long Some.0), omega (arith, first_most all, long, Some.1))
 
   -- A13: with an advice
-  pub count_in_range : (a : Advice) → recommended_of t s m reply ≡ Done a → (1 ≤ looked_up_of t s m reply) × (looked_up_of t s m reply ≤ most_recipients)
+  pub count_in_range : (a : Advice) → recommended_of t s m reply ≡ Ok a → (1 ≤ looked_up_of t s m reply) × (looked_up_of t s m reply ≤ most_recipients)
   count_in_range a e = admitted_range (done_admitted t s m reply a e)
 
   pub looked_up_most : looked_up_of t s m reply ≤ most_recipients
@@ -62,12 +60,12 @@ module _ (t s : List ℕ) (m reply : Bool) where
       (λ o. (admitted_range o).1)
 
   -- C21: a list that gets disable
-  pub counted_place : recommended_of t s m reply ≡ Done Disable → DisableAt all (looked_up_of t s m reply)
+  pub counted_place : recommended_of t s m reply ≡ Ok Disable → DisableAt all (looked_up_of t s m reply)
   counted_place e =
       rw (counted (done_admitted t s m reply Disable e)) (place_of_first all (sym (done_advised t s m reply Disable e)))
 
   -- C21: a list that gets another advice
-  pub counted_all : (a : Advice) → recommended_of t s m reply ≡ Done a → (a ≡ Disable → ⊥)
+  pub counted_all : (a : Advice) → recommended_of t s m reply ≡ Ok a → (a ≡ Disable → ⊥)
       → (looked_up_of t s m reply ≡ length (or_else [] (addresses s))) × (any_disable all ≡ false)
   unfolding advised
   counted_all a e d =
@@ -78,5 +76,5 @@ module _ (t s : List ℕ) (m reply : Bool) where
   pub quick_whole : (r : Quick) → r.answer ≡ recommended_of t s m reply → r.looked_up ≡ looked_up_of t s m reply → r ≡ quick_of t s m reply
   unfolding quick_of
   quick_whole r e n =
-      ap (λ (a : Recommended). record { answer = a; looked_up = r.looked_up }) e
+      ap (λ (a : Result Advice Refusal). record { answer = a; looked_up = r.looked_up }) e
       ∙ ap (λ (k : ℕ). record { answer = recommended_of t s m reply; looked_up = k }) n

@@ -14,7 +14,7 @@ use Prim.Native.Nat.{ℕ, ◌+◌, ◌-◌, ◌^◌, ◌<◌, ◌≤◌, zero-le
 use mathlib.Core.Path.{◌≡◌, refl, sym, ap, ◌∙◌}
 use mathlib.Core.Bool.{Bool, true, false, ◌&&◌}
 use mathlib.Core.List.{List, [], ◌∷◌}
-use Rattle.std.specs.Prelude.{Option, Some, None}
+use Rattle.std.specs.Prelude.{Option, Some, None, Result, Ok, Err}
 use native.Mathlib.Omega.{arith}
 use borrow.Author.Rules.{rules}
 use borrow.Author.Tests.{not-false, le-leb, lt-leb}
@@ -27,8 +27,6 @@ use Rattle.octets.proofs.Tests.{by_test}
 use Rattle.refusals.specs.Rows.{Row, ◌unless◌, answered_by, answer_of, some_holds}
 use Rattle.refusals.specs.declared.Refusal.{Refusal}
 use Rattle.refusals.specs.declared.Refusal.TheVariants.{BrokenSlot, Recipients}
-use Rattle.refusals.specs.declared.Answer.{Answer}
-use Rattle.refusals.specs.declared.Answer.TheVariants.{Done as Admitted, Refused as NotAdmitted}
 use Rattle.refusals.proofs.Rows.{by_refusal, none_here, none_front, none_behind, front_only, refused_is, done_is, answer_refused, answer_done, unless_refuses, unless_passes, front_refuses, front_passes, no_row, rows}
 use Rattle.addresslist.specs.List.{addresses}
 use Rattle.addresslist.specs.Answers.{counted_of}
@@ -47,8 +45,6 @@ use Rattle.advice.specs.declared.Part.{Part}
 use Rattle.advice.proofs.Keys.{place_within, place_octets}
 use Rattle.recommend.specs.Recommending.{recipient_list, recommending_rows, refused_recommending, Admits, survey_of, recommended_of, looked_up_of, target_part_of, target_key_of}
 use Rattle.recommend.specs.declared.Surveyed.{Surveyed}
-use Rattle.recommend.specs.declared.Recommended.{Recommended}
-use Rattle.recommend.specs.declared.Recommended.TheVariants.{Done, Refused}
 
 -- 1 to 100 addresses
 list_of : (o : Option (List (List ℕ))) (list : List (List ℕ)) (n : ℕ) → o ≡ Some list → n ≡ length list → (leb 1 n && leb n 100) ≡ recipient_list o
@@ -74,10 +70,10 @@ pub ruleset counting = (list_none, list_some, list_empty, rules)
 
 -- what `admit` answers: k is the answer on the table
 module _ (t tags s : List ℕ) where
-  pub admits_not : (r : Refusal) → NotAdmitted r ≡ answer_of (refused_recommending t s) → Admits t tags s (NotAdmitted r)
+  pub admits_not : (r : Refusal) → Err r ≡ answer_of (refused_recommending t s) → Admits t tags s (Err r)
   admits_not r e = record { answer = e; opens = λ z. let n : ◌≡◌ {A = ℕ} 0 1 = cc in absurd (omega arith) }
 
-  pub admits_both : (k : Answer) → k ≡ Admitted → Opens t tags k → Admitted ≡ answer_of (refused_recommending t s) → Admits t tags s Admitted
+  pub admits_both : (k : Result (Unit {0}) Refusal) → k ≡ Ok tt → Opens t tags k → (Ok tt) ≡ answer_of (refused_recommending t s) → Admits t tags s (Ok tt)
   admits_both k q h e = record { answer = e; opens = λ _. h.opens q }
 
 pub ruleset admitting = (admits_not, admits_both, rows)
@@ -104,11 +100,11 @@ module _ (t s : List ℕ) (e : refused_recommending t s ≡ None) where
   admitted_list = list_readable (addresses s) admitted_recipients
 
 -- by what `admit` answers
-pub table_taken : (t tags s : List ℕ) (k : Answer) → k ≡ Admitted → Admits t tags s k → Open t tags
+pub table_taken : (t tags s : List ℕ) (k : Result (Unit {0}) Refusal) → k ≡ Ok tt → Admits t tags s k → Open t tags
 table_taken t tags s k q h = h.opens q
 
-module _ (t s : List ℕ) (k : Answer) (e : k ≡ answer_of (refused_recommending t s)) where
-  module _ (r : Refusal) (q : k ≡ NotAdmitted r) where
+module _ (t s : List ℕ) (k : Result (Unit {0}) Refusal) (e : k ≡ answer_of (refused_recommending t s)) where
+  module _ (r : Refusal) (q : k ≡ Err r) where
     out : refused_recommending t s ≡ Some r
     out = answer_refused (refused_recommending t s) r (sym e ∙ q)
 
@@ -116,7 +112,7 @@ module _ (t s : List ℕ) (k : Answer) (e : k ≡ answer_of (refused_recommendin
     unfolding target_part_of
     refused_part place = sym (refused_is (λ (x : Refusal). no_part) _ (refused_recommending t s) r out)
 
-  module _ (q : k ≡ Admitted) where
+  module _ (q : k ≡ Ok tt) where
     in_order : refused_recommending t s ≡ None
     in_order = answer_done (refused_recommending t s) (sym e ∙ q)
 
@@ -149,49 +145,49 @@ module _ (t s : List ℕ) (m reply : Bool) where
         (λ y. let w : Some f ≡ Some (record { advice = overall all; looked_up = first_disable all }) = sym q ∙ e ∙ rw (survey_of, y) in (y, cc))
         (λ y. let w : Some f ≡ None = sym q ∙ e ∙ rw (survey_of, y) in absurd (let n : ◌≡◌ {A = ℕ} 0 1 = cc in omega arith))
 
-  module _ (tags : List ℕ) (k : Answer) (h : Opens t tags k) where
+  module _ (tags : List ℕ) (k : Result (Unit {0}) Refusal) (h : Opens t tags k) where
     module _ {A : Type 0} (f : Refusal → A) (d : A) where
       abbrev answered : A
       answered = answered_by (refused_recommending t s) f d
 
-      at_table : (r : Refusal) → k ≡ NotAdmitted r → f r ≡ answered
+      at_table : (r : Refusal) → k ≡ Err r → f r ≡ answered
       unfolding refused_recommending recommending_rows
       at_table r q = front_refuses f d (table_rows t) _ k h.answer (f r) r q refl
 
-      at_list : k ≡ Admitted → recipient_list (addresses s) ≡ false → f Recipients ≡ answered
+      at_list : k ≡ Ok tt → recipient_list (addresses s) ≡ false → f Recipients ≡ answered
       unfolding refused_recommending recommending_rows
       at_list q e = front_passes f d (table_rows t) _ k h.answer (f Recipients) q (unless_refuses f d Recipients [] (f Recipients) _ e refl)
 
-      at_end : k ≡ Admitted → recipient_list (addresses s) ≡ true → d ≡ answered
+      at_end : k ≡ Ok tt → recipient_list (addresses s) ≡ true → d ≡ answered
       unfolding refused_recommending recommending_rows
       at_end q e = front_passes f d (table_rows t) _ k h.answer d q (unless_passes f d Recipients [] d _ e (no_row f d d refl))
 
-    pub table_open : k ≡ Admitted → Open t tags
+    pub table_open : k ≡ Ok tt → Open t tags
     table_open q = h.opens q
 
-    module _ (r : Refusal) (q : k ≡ NotAdmitted r) where
-      pub table_refused : (x : Recommended) → x ≡ Refused r → x ≡ recommended_of t s m reply
+    module _ (r : Refusal) (q : k ≡ Err r) where
+      pub table_refused : (x : Result Advice Refusal) → x ≡ Err r → x ≡ recommended_of t s m reply
       unfolding recommended_of
-      table_refused x w = w ∙ at_table Refused (Done (overall all)) r q
+      table_refused x w = w ∙ at_table Err (Ok (overall all)) r q
 
       pub table_uncounted : (n : ℕ) → n ≡ 0 → n ≡ looked_up_of t s m reply
       unfolding looked_up_of
       table_uncounted n w = w ∙ at_table (λ (x : Refusal). 0) (first_disable all) r q
 
-    module _ (q : k ≡ Admitted) (z : Option Surveyed) (e : z ≡ survey_of t m reply (addresses s)) where
+    module _ (q : k ≡ Ok tt) (z : Option Surveyed) (e : z ≡ survey_of t m reply (addresses s)) where
       module _ (u : z ≡ None) where
-        pub list_refused : (x : Recommended) → x ≡ Refused Recipients → x ≡ recommended_of t s m reply
+        pub list_refused : (x : Result Advice Refusal) → x ≡ Err Recipients → x ≡ recommended_of t s m reply
         unfolding recommended_of
-        list_refused x w = w ∙ at_list Refused (Done (overall all)) q (unfit_list z e u)
+        list_refused x w = w ∙ at_list Err (Ok (overall all)) q (unfit_list z e u)
 
         pub list_uncounted : (n : ℕ) → n ≡ 0 → n ≡ looked_up_of t s m reply
         unfolding looked_up_of
         list_uncounted n w = w ∙ at_list (λ (x : Refusal). 0) (first_disable all) q (unfit_list z e u)
 
       module _ (f : Surveyed) (u : z ≡ Some f) where
-        pub list_advised : Done f.advice ≡ recommended_of t s m reply
+        pub list_advised : Ok f.advice ≡ recommended_of t s m reply
         unfolding recommended_of
-        list_advised = let w = fit_list z e f u in ap (λ (x : Surveyed). Done x.advice) w.1 ∙ at_end Refused (Done (overall all)) q w.0
+        list_advised = let w = fit_list z e f u in ap (λ (x : Surveyed). Ok x.advice) w.1 ∙ at_end Err (Ok (overall all)) q w.0
 
         pub list_counted_up : f.looked_up ≡ looked_up_of t s m reply
         unfolding looked_up_of
@@ -245,24 +241,24 @@ module _ (t s : List ℕ) (m reply : Bool) where
   abbrev advice : Advice
   advice = overall (advised t m reply (or_else [] (addresses s)))
 
-  by_answer : (o : Option Refusal) (a : Recommended) → answered_by o Refused (Done advice) ≡ a → {P : Type 0}
-      → ((r : Refusal) → o ≡ Some r → a ≡ Refused r → P) → (o ≡ None → a ≡ Done advice → P) → P
+  by_answer : (o : Option Refusal) (a : Result Advice Refusal) → answered_by o Err (Ok advice) ≡ a → {P : Type 0}
+      → ((r : Refusal) → o ≡ Some r → a ≡ Err r → P) → (o ≡ None → a ≡ Ok advice → P) → P
   unfolding answered_by
   by_answer (Some r) a e refused done = refused r refl (sym e)
   by_answer None a e refused done = done refl (sym e)
 
-  pub done_advised : (a : Advice) → recommended_of t s m reply ≡ Done a → a ≡ advice
+  pub done_advised : (a : Advice) → recommended_of t s m reply ≡ Ok a → a ≡ advice
   unfolding recommended_of
-  done_advised a e = by_answer (refused_recommending t s) (Done a) e (λ r q z. cc) (λ q z. cc)
+  done_advised a e = by_answer (refused_recommending t s) (Ok a) e (λ r q z. cc) (λ q z. cc)
 
-  pub done_admitted : (a : Advice) → recommended_of t s m reply ≡ Done a → refused_recommending t s ≡ None
+  pub done_admitted : (a : Advice) → recommended_of t s m reply ≡ Ok a → refused_recommending t s ≡ None
   unfolding recommended_of
-  done_admitted a e = by_answer (refused_recommending t s) (Done a) e (λ r q z. let n : ◌≡◌ {A = ℕ} 0 1 = cc in absurd (omega arith)) (λ q z. q)
+  done_admitted a e = by_answer (refused_recommending t s) (Ok a) e (λ r q z. let n : ◌≡◌ {A = ℕ} 0 1 = cc in absurd (omega arith)) (λ q z. q)
 
-  pub index_lowest : (i : ℕ) → recommended_of t s m reply ≡ Refused (BrokenSlot i) → Broken t i
+  pub index_lowest : (i : ℕ) → recommended_of t s m reply ≡ Err (BrokenSlot i) → Broken t i
   unfolding recommended_of refused_recommending recommending_rows some_holds
   index_lowest i e =
-      by_answer (refused_recommending t s) (Refused (BrokenSlot i)) e
+      by_answer (refused_recommending t s) (Err (BrokenSlot i)) e
       (λ r q z.
       let same : BrokenSlot i ≡ r = cc in
       lowest_broken Canonical t i (front_only (table_rows t) ((Recipients unless recipient_list (addresses s)) ∷ []) (BrokenSlot i) refl (q ∙ ap Some (sym same))))

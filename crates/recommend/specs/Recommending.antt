@@ -7,15 +7,14 @@
 --     recommended_of                            the answer
 --     looked_up_of, quick_of                    how many recipients `recommend_quick` looks up, and what it answers
 --     target_part_of, target_key_of             the part of the table that is handed back, and the key that it is
-use Rattle.std.specs.Prelude.{ℕ, ◌≡◌, Bool, true, false, List, [], ◌∷◌, ◌++◌, length, get_or}
+use Rattle.std.specs.Prelude.{ℕ, ◌≡◌, Bool, true, false, List, [], ◌∷◌, ◌++◌, length, get_or, Result, Ok, Err}
 use Rattle.std.specs.Prelude.{Option, Some, None}
+use Rattle.advice.specs.declared.Advice.{Advice}
 use Rattle.octets.specs.Tests.{one_to}
 use Rattle.octets.specs.Options.{or_else}
 use Rattle.refusals.specs.Rows.{Row, ◌unless◌, first_of, answered_by, answer_of, unless_refused}
 use Rattle.refusals.specs.declared.Refusal.{Refusal}
 use Rattle.refusals.specs.declared.Refusal.TheVariants.{Recipients}
-use Rattle.refusals.specs.declared.Answer.{Answer}
-use Rattle.refusals.specs.declared.Answer.TheVariants.{Done as Admitted}
 use Rattle.addresslist.specs.List.{addresses}
 use Rattle.table.specs.Tagged.{Open}
 use Rattle.inspect.specs.Inspecting.{table_rows}
@@ -24,8 +23,6 @@ use Rattle.advice.specs.Places.{no_part, target_at}
 use Rattle.advice.specs.declared.Part.{Part}
 use Rattle.recommend.specs.declared.Quick.{Quick}
 use Rattle.recommend.specs.declared.Surveyed.{Surveyed}
-use Rattle.recommend.specs.declared.Recommended.{Recommended}
-use Rattle.recommend.specs.declared.Recommended.TheVariants.{Done, Refused}
 
 -- R10: at most 100 addresses
 abbrev pub most_recipients : ℕ
@@ -45,9 +42,9 @@ unfoldable pub refused_recommending : List ℕ → List ℕ → Option Refusal
 refused_recommending table recipients = first_of (recommending_rows table recipients)
 
 -- the answer on these rows; the tags are handed on where there is nothing to refuse
-pub record Admits (table tags recipients : List ℕ) (r : Answer) : Type 0 where
+pub record Admits (table tags recipients : List ℕ) (r : Result (Unit {0}) Refusal) : Type 0 where
   pub answer : r ≡ answer_of (refused_recommending table recipients)
-  pub opens : r ≡ Admitted → Open table tags
+  pub opens : r ≡ Ok tt → Open table tags
 
 -- R10, A5, A13: what a walk over the list finds: the advice for all, and how many recipients are looked up; or that it is no such list
 unfoldable pub survey_of : List ℕ → Bool → Bool → Option (List (List ℕ)) → Option Surveyed
@@ -56,9 +53,9 @@ survey_of table is_mutual reply list =
     elim (recipient_list list) [ true ↦ Some (record { advice = overall all; looked_up = first_disable all }) | false ↦ None ]
 
 -- A1, A5: what `recommend` answers: a refusal, or the advice for the whole list
-unfoldable pub recommended_of : List ℕ → List ℕ → Bool → Bool → Recommended
+unfoldable pub recommended_of : List ℕ → List ℕ → Bool → Bool → Result Advice Refusal
 recommended_of table recipients is_mutual reply =
-    answered_by (refused_recommending table recipients) Refused (Done (overall (advised table is_mutual reply (or_else [] (addresses recipients)))))
+    answered_by (refused_recommending table recipients) Err (Ok (overall (advised table is_mutual reply (or_else [] (addresses recipients)))))
 
 -- A13, A14: how many recipients `recommend_quick` looks up; 0 where `recommend` refuses
 unfoldable pub looked_up_of : List ℕ → List ℕ → Bool → Bool → ℕ

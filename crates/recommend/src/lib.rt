@@ -2,30 +2,23 @@
 // which is a part of the table that was lent.
 #![tactic(auto)]
 
-ghost use Rattle.std.specs.Prelude.{◌≡◌, length};
+ghost use Rattle.std.specs.Prelude.{◌≡◌, length, Err};
 ghost use Rattle.addresslist.specs.List.{addresses};
 ghost use Rattle.advice.specs.Places.{octets_at};
 ghost use Rattle.table.specs.Table.{most_slots};
 ghost use Rattle.table.specs.Tagged.{Open};
 ghost use Rattle.recommend.specs.Recommending.{recipient_list, Admits, survey_of, recommended_of, looked_up_of, target_part_of, target_key_of};
-ghost use Rattle.recommend.specs.declared.Recommended.TheVariants.{Refused};
 
 use addresslist::NextAddress;
 use advice::{Advice, Part};
-use refusals::{Answer, Refusal};
+use refusals::Refusal;
 use slots::Slot;
 
-// What is advised for all recipients of a mail; or the call is refused (A1).
-#[derive(Clone, Copy)]
-pub enum Recommended {
-    Done(Advice),
-    Refused(Refusal),
-}
 
 // That answer, and how many recipients were looked up for it, 0 with a refusal (A12, A13).
 #[derive(Clone, Copy)]
 pub struct Quick {
-    pub answer: Recommended,
+    pub answer: Result<Advice, Refusal>,
     pub looked_up: usize,
 }
 
@@ -53,18 +46,18 @@ fn is_recipient_list(list: &[u8]) -> bool
 // Refusals 1, 2 and 10: are the table and the list such that a target key can be looked for? The tags of the table come
 // with the answer.
 #[tactic(auto, using(crate::proofs::Recommending::admitting), unfolding(crate::specs::Recommending::refused_recommending, crate::specs::Recommending::recommending_rows))]
-fn admit(table: &[u8], tags: &mut [u32; Slot::MOST], recipients: &[u8]) -> Answer
+fn admit(table: &[u8], tags: &mut [u32; Slot::MOST], recipients: &[u8]) -> Result<(), Refusal>
     requires { length tags.old ≡ most_slots }
     ensures { Admits table.now tags.new recipients.now result }
 {
     match inspect::open_table(table, tags) {
-        Answer::Done => {
+        Ok(()) => {
             if !is_recipient_list(recipients) {
-                return Answer::Refused(Refusal::Recipients);
+                return Err(Refusal::Recipients);
             }
-            Answer::Done
+            Ok(())
         }
-        Answer::Refused(refusal) => Answer::Refused(refusal),
+        Err(refusal) => Err(refusal),
     }
 }
 
@@ -116,11 +109,11 @@ fn survey(
 
 // A refusal has the count 0 (A13).
 fn uncounted(refusal: Refusal) -> Quick
-    ensures answer_value { result.answer ≡ Refused refusal }
+    ensures answer_value { result.answer ≡ Err refusal }
     ensures looked_up_value { result.looked_up ≡ 0 }
 {
     Quick {
-        answer: Recommended::Refused(refusal),
+        answer: Err(refusal),
         looked_up: 0,
     }
 }
@@ -130,7 +123,7 @@ fn uncounted(refusal: Refusal) -> Quick
 // true for a reply to an encrypted mail. For the whole list the lowest advice of its recipients is answered (A5), from low
 // to high: disable, discourage, available, encrypt. The refusals, in the order of testing: 1 and 2 for the table, as in
 // `check`, and 10 where the list is unreadable, or gives no address or more than 100 (R10). The table is not written.
-pub fn recommend(table: &[u8], recipients: &[u8], mutual: bool, reply: bool) -> Recommended
+pub fn recommend(table: &[u8], recipients: &[u8], mutual: bool, reply: bool) -> Result<Advice, Refusal>
     ensures { result ≡ recommended_of table.now recipients.now «mutual» reply }
 {
     let quick = recommend_quick(table, recipients, mutual, reply);
@@ -147,14 +140,14 @@ pub fn recommend_quick(table: &[u8], recipients: &[u8], mutual: bool, reply: boo
 {
     let mut tags = [0u32; Slot::MOST];
     match inspect::open_table(table, &mut tags) {
-        Answer::Done => match survey(table, &tags, recipients, mutual, reply) {
+        Ok(()) => match survey(table, &tags, recipients, mutual, reply) {
             Some(found) => Quick {
-                answer: Recommended::Done(found.advice),
+                answer: Ok(found.advice),
                 looked_up: found.looked_up,
             },
             None => uncounted(Refusal::Recipients),
         },
-        Answer::Refused(refusal) => uncounted(refusal),
+        Err(refusal) => uncounted(refusal),
     }
 }
 
@@ -169,8 +162,8 @@ pub fn target_part(table: &[u8], recipients: &[u8], mutual: bool, reply: bool, p
 {
     let mut tags = [0u32; Slot::MOST];
     match admit(table, &mut tags, recipients) {
-        Answer::Done => advice::target_at(table, &tags, recipients, place),
-        Answer::Refused(_) => Part::EMPTY,
+        Ok(()) => advice::target_at(table, &tags, recipients, place),
+        Err(_) => Part::EMPTY,
     }
 }
 

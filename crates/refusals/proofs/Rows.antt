@@ -20,7 +20,7 @@ use mathlib.Core.Path.{◌≡◌, refl, sym, ap, ◌∙◌}
 use mathlib.Core.Logic.{◌↔◌}
 use mathlib.Core.Bool.{Bool, true, false, not, ◌&&◌, ◌||◌, false≢true}
 use mathlib.Core.List.{List, [], ◌∷◌, ◌++◌}
-use Rattle.std.specs.Prelude.{Option, Some, None}
+use Rattle.std.specs.Prelude.{Option, Some, None, Result, Ok, Err}
 use native.Mathlib.Omega.{arith}
 use borrow.Author.Rules.{rules}
 use borrow.Author.Tests.{eq-eqb}
@@ -28,8 +28,6 @@ use lib.Dec.{eqb}
 use Rattle.refusals.specs.Refusals.{number_of}
 use Rattle.refusals.specs.Rows.{Row, ◌when◌, ◌unless◌, first_of, answered_by, answer_of, number_in, Gives, nothing, here, behind, some_holds}
 use Rattle.refusals.specs.declared.Refusal.{Refusal}
-use Rattle.refusals.specs.declared.Answer.{Answer}
-use Rattle.refusals.specs.declared.Answer.TheVariants.{Done, Refused}
 
 pub by_refusal : {P : Type 0} (o : Option Refusal) → ((r : Refusal) → o ≡ Some r → P) → (o ≡ None → P) → P
 by_refusal (Some r) a b = a r refl
@@ -126,12 +124,12 @@ module _ {A : Type 0} (f : Refusal → A) (d : A) where
   unfolding answered_by
   done_is o e = rw e
 
-pub answer_refused : (o : Option Refusal) (r : Refusal) → answer_of o ≡ Refused r → o ≡ Some r
+pub answer_refused : (o : Option Refusal) (r : Refusal) → answer_of o ≡ Err r → o ≡ Some r
 unfolding answered_by
 answer_refused (Some q) r e = ap Some cc
 answer_refused None r e = cc
 
-pub answer_done : (o : Option Refusal) → answer_of o ≡ Done → o ≡ None
+pub answer_done : (o : Option Refusal) → answer_of o ≡ Ok tt → o ≡ None
 unfolding answered_by
 answer_done (Some q) e = cc
 answer_done None e = refl
@@ -172,12 +170,12 @@ pub not_denied : (b c : Bool) → c ≡ b → c ≡ true → b ≡ true
 not_denied b c e t = sym e ∙ t
 
 -- rows that were answered as a whole, in front of others
-module _ {A : Type 0} (f : Refusal → A) (d : A) (rows rest : List Row) (k : Answer) (e : k ≡ answer_of (first_of rows)) (x : A) where
-  pub front_refuses : (r : Refusal) → k ≡ Refused r → x ≡ f r → x ≡ answered_by (first_of (rows ++ rest)) f d
+module _ {A : Type 0} (f : Refusal → A) (d : A) (rows rest : List Row) (k : Result (Unit {0}) Refusal) (e : k ≡ answer_of (first_of rows)) (x : A) where
+  pub front_refuses : (r : Refusal) → k ≡ Err r → x ≡ f r → x ≡ answered_by (first_of (rows ++ rest)) f d
   front_refuses r q h =
       h ∙ sym (refused_is f d (first_of (rows ++ rest)) r (first_front rows rest r (answer_refused (first_of rows) r (sym e ∙ q))))
 
-  pub front_passes : k ≡ Done → x ≡ answered_by (first_of rest) f d → x ≡ answered_by (first_of (rows ++ rest)) f d
+  pub front_passes : k ≡ Ok tt → x ≡ answered_by (first_of rest) f d → x ≡ answered_by (first_of (rows ++ rest)) f d
   front_passes q h =
       h ∙ ap (λ (o : Option Refusal). answered_by o f d) (sym (first_rest rows rest (answer_done (first_of rows) (sym e ∙ q))))
 

@@ -7,12 +7,10 @@
 --     number_in                  the number of a refusal, or 0 where there is none
 --     Gives                      the row of a number holds and none before it; for 0, no row holds
 --     some_holds                 is there a row with this number that holds?
-use Rattle.std.specs.Prelude.{ℕ, ◌≡◌, Bool, true, false, not, ◌&&◌, ◌||◌, List, [], ◌∷◌, eqb}
+use Rattle.std.specs.Prelude.{ℕ, ◌≡◌, Bool, true, false, not, ◌&&◌, ◌||◌, List, [], ◌∷◌, eqb, Result, Ok, Err}
 use Rattle.std.specs.Prelude.{Option, Some, None}
 use Rattle.refusals.specs.Refusals.{number_of}
 use Rattle.refusals.specs.declared.Refusal.{Refusal}
-use Rattle.refusals.specs.declared.Answer.{Answer}
-use Rattle.refusals.specs.declared.Answer.TheVariants.{Done, Refused}
 
 -- R31: a row of a call's order of testing
 pub data Row : Type 0 where
@@ -32,8 +30,8 @@ unfoldable pub answered_by : {A : Type 0} → Option Refusal → (Refusal → A)
 answered_by (Some r) refused done = refused r
 answered_by None refused done = done
 
-abbrev pub answer_of : Option Refusal → Answer
-answer_of o = answered_by o Refused Done
+abbrev pub answer_of : Option Refusal → Result (Unit {0}) Refusal
+answer_of o = answered_by o Err (Ok tt)
 
 -- R32: a refused call leaves all as it was before
 abbrev pub unless_refused : {A : Type 0} → Option Refusal → A → A → A

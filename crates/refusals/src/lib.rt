@@ -22,12 +22,6 @@ pub enum Refusal {
     OutputLength,
 }
 
-// The call did what it is for; or it did nothing, and why.
-#[derive(Clone, Copy)]
-pub enum Answer {
-    Done,
-    Refused(Refusal),
-}
 
 // A refusal has the number of its rule, R1 to R12.
 impl From<Refusal> for u32 {

@@ -7,7 +7,7 @@ use Prim.Native.Nat.{ℕ}
 use mathlib.Core.Path.{◌≡◌, sym, ap, ◌∙◌}
 use mathlib.Core.Bool.{Bool, true, false, not}
 use mathlib.Core.List.{List, [], ◌∷◌}
-use Rattle.std.specs.Prelude.{Option, Some, None}
+use Rattle.std.specs.Prelude.{Option, Some, None, Ok}
 use Rattle.octets.specs.Octets.{AllOctets}
 use Rattle.octets.specs.Options.{or_else}
 use Rattle.address.specs.Address.{plain, canonical}
@@ -29,7 +29,6 @@ use Rattle.keys.specs.Keys.{gossip_in}
 use Rattle.refusals.specs.Rows.{◌unless◌, first_of, answer_of}
 use Rattle.refusals.specs.declared.Refusal.{Refusal}
 use Rattle.refusals.specs.declared.Refusal.TheVariants.{Recipients}
-use Rattle.refusals.specs.declared.Answer.TheVariants.{Done}
 use Rattle.refusals.proofs.Rows.{first_behind, first_rest, done_is}
 use Rattle.inspect.specs.Inspecting.{table_rows}
 use Rattle.inspect.proofs.Tables.{sound_rows}
@@ -56,7 +55,7 @@ module _ (t a : List ℕ) (s : checked t ≡ Sound) (p : plain a ≡ true) where
   alone_taken = done_is (λ (r : Refusal). []) _ (refused_recommending t a) not_refused ∙ rw (plain_alone a p)
 
 module _ (t : List ℕ) (receipt : ℕ) (outer payload : List ℕ) (setting : Gossip) (table_octets : AllOctets t) (outer_octets : AllOctets outer)
-    (payload_octets : AllOctets payload) (done : answer_of (refused_processing t receipt outer payload setting) ≡ Done) where
+    (payload_octets : AllOctets payload) (done : answer_of (refused_processing t receipt outer payload setting) ≡ Ok tt) where
   pub key_handed_out : (a k : List ℕ) (m : Bool) → Writable a k → (h : Holding outer (autocrypt_field a m k))
       → sender_in (fields_in outer) ≡ Some (canonical a) → valid_fields key_limit (canonical a) (values_of Autocrypt (others h)) ≡ []
       → younger (date_in (fields_in outer) receipt) (direct_half (entry_in t (canonical a))) ≡ false

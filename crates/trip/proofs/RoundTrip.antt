@@ -9,7 +9,7 @@ use Prim.Native.Nat.{ℕ, zero, suc, ◌<◌}
 use mathlib.Core.Path.{◌≡◌, refl, sym, ap, ◌∙◌}
 use mathlib.Core.Bool.{Bool, true, false, not, false≢true}
 use mathlib.Core.List.{List, [], ◌∷◌, ◌++◌, append_assoc, append-nil}
-use Rattle.std.specs.Prelude.{Some}
+use Rattle.std.specs.Prelude.{Some, Ok}
 use native.Mathlib.Omega.{arith}
 use borrow.Author.Tests.{leb-true, eqb-false, ne_eqb, not-true}
 use lib.Dec.{leb, eqb}
@@ -44,7 +44,6 @@ use Rattle.writer.specs.Writing.{preference, field_text, written}
 use Rattle.trip.proofs.Folded.{folded_raw, folded_value}
 use Rattle.names.specs.Names.{autocrypt as autocrypt_name, gossip as gossip_name}
 use Rattle.write.specs.Writing.{written_of, left_by_writing}
-use Rattle.write.specs.declared.Written.TheVariants.{Done}
 use Rattle.write.proofs.Outcomes.{Wrote, done_wrote}
 use Rattle.trip.specs.RoundTrip.{none as no_lines, in_front_all, ReadsBack, Writable}
 use Rattle.trip.proofs.Among.{opens_plain, fields_among}
@@ -151,7 +150,7 @@ module _ (address key : List ℕ) (m : Bool) (w : Writable address key) where
         }
 
 -- a call that answers 0: its address and key are such, and the field opens the output
-module _ (name address key out : List ℕ) (m : Bool) (octets : AllOctets key) (n : ℕ) (done : Done n ≡ written_of name address m key (length out)) where
+module _ (name address key out : List ℕ) (m : Bool) (octets : AllOctets key) (n : ℕ) (done : Ok n ≡ written_of name address m key (length out)) where
   wrote : Wrote name address m key out n
   wrote = done_wrote name address m key out n (sym done)
 
@@ -170,12 +169,12 @@ module _ (name address key out : List ℕ) (m : Bool) (octets : AllOctets key) (
   output_reads_back named some_name = rw output_opens (written_reads_back address key m done_writable name named some_name)
 
 module _ (address key out : List ℕ) (octets : AllOctets key) (n : ℕ) where
-  pub autocrypt_reads_back : (m : Bool) → Done n ≡ written_of autocrypt_name address m key (length out)
+  pub autocrypt_reads_back : (m : Bool) → Ok n ≡ written_of autocrypt_name address m key (length out)
       → ReadsBack autocrypt_name address key m (take n (left_by_writing autocrypt_name address m key out))
   unfolding run belongs blank
   autocrypt_reads_back m done = output_reads_back autocrypt_name address key out m octets n done refl (omega arith)
 
-  pub gossip_reads_back : Done n ≡ written_of gossip_name address false key (length out)
+  pub gossip_reads_back : Ok n ≡ written_of gossip_name address false key (length out)
       → ReadsBack gossip_name address key false (take n (left_by_writing gossip_name address false key out))
   unfolding run belongs blank
   gossip_reads_back done = output_reads_back gossip_name address key out false octets n done refl (omega arith)

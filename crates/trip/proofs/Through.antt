@@ -6,13 +6,12 @@ use Prim.Native.Nat.{ℕ}
 use mathlib.Core.Path.{◌≡◌, subst}
 use mathlib.Core.Bool.{Bool, true, false, not, ◌&&◌}
 use mathlib.Core.List.{List, []}
-use Rattle.std.specs.Prelude.{Some, None}
+use Rattle.std.specs.Prelude.{Some, None, Ok}
 use borrow.Author.Tests.{not-false}
 use Rattle.octets.specs.Options.{or_else}
 use Rattle.octets.specs.Octets.{AllOctets}
 use Rattle.header.specs.Header.{FieldText, fields_of, readable}
 use Rattle.refusals.specs.Rows.{answer_of}
-use Rattle.refusals.specs.declared.Answer.TheVariants.{Done}
 use Rattle.refusals.proofs.Rows.{answer_done}
 use Rattle.table.specs.Table.{checked}
 use Rattle.table.specs.Entries.{entry_in}
@@ -48,7 +47,7 @@ module _ (t : List ℕ) (receipt : ℕ) (outer payload : List ℕ) (setting : Go
       let r : readable payload ≡ true = not-false (readable payload) (subst (λ (x : Bool). (x && not (readable payload)) ≡ false) k h.payload_read) in
       rw (payload_in, k) (fields_read payload r)
 
-  pub done_through : answer_of (refused_processing t receipt outer payload setting) ≡ Done → Through t receipt outer payload setting
+  pub done_through : answer_of (refused_processing t receipt outer payload setting) ≡ Ok tt → Through t receipt outer payload setting
   unfolding message_of
   done_through e =
       let none_holds : refused_processing t receipt outer payload setting ≡ None = answer_done (refused_processing t receipt outer payload setting) e in

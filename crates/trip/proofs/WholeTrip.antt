@@ -9,7 +9,7 @@ use Prim.Native.Nat.{ℕ}
 use mathlib.Core.Path.{◌≡◌, refl, sym, ap, ◌∙◌}
 use mathlib.Core.Bool.{Bool, true, false}
 use mathlib.Core.List.{List, [], ◌∷◌, ◌++◌}
-use Rattle.std.specs.Prelude.{Option, Some}
+use Rattle.std.specs.Prelude.{Option, Some, Ok}
 use native.Mathlib.Omega.{arith}
 use lib.ListN.{length, take}
 use Rattle.octets.specs.Octets.{lower, lowered, same_name, same_octets, AllOctets, blank}
@@ -34,14 +34,12 @@ use Rattle.keys.specs.Keys.{counted_in, accepted, gossip_in}
 use Rattle.keys.proofs.AcceptedGossip.{gossip_append, accepted_listed}
 use Rattle.message.specs.Message.{direct_by, message_by}
 use Rattle.refusals.specs.Rows.{answer_of}
-use Rattle.refusals.specs.declared.Answer.TheVariants.{Done}
 use Rattle.runs.specs.Runs.{belongs, run}
 use Rattle.settings.specs.Settings.{taken}
 use Rattle.process.specs.Processing.{refused_processing, left_by_processing}
 use Rattle.settings.specs.declared.Gossip.{Gossip}
 use Rattle.names.specs.Names.{autocrypt as autocrypt_name, gossip as gossip_name}
 use Rattle.write.specs.Writing.{autocrypt_field, gossip_field, written_of, left_by_writing}
-use Rattle.write.specs.declared.Written.TheVariants.{Done as Wrote}
 use Rattle.trip.specs.RoundTrip.{ReadsBack, Writable, Holding, behind, others}
 use Rattle.trip.specs.Standing.{direct_half, gossip_half, HasDirect, HasGossip, none_about}
 use Rattle.trip.proofs.RoundTrip.{written_reads_back, autocrypt_reads_back, gossip_reads_back}
@@ -106,7 +104,7 @@ module _ (b k octets payload : List ℕ) (m : Bool) (r : ReadsBack gossip_name b
 
 -- a message to which processing answers 0
 module _ (t : List ℕ) (receipt : ℕ) (outer payload : List ℕ) (setting : Gossip) (table_octets : AllOctets t) (outer_octets : AllOctets outer)
-    (payload_octets : AllOctets payload) (done : answer_of (refused_processing t receipt outer payload setting) ≡ Done) where
+    (payload_octets : AllOctets payload) (done : answer_of (refused_processing t receipt outer payload setting) ≡ Ok tt) where
   abbrev pub left : List ℕ
   left = left_by_processing t receipt outer payload setting
 
@@ -200,14 +198,14 @@ module _ (t : List ℕ) (receipt : ℕ) (outer payload : List ℕ) (setting : Go
 
   -- what a writer that answers 0 leaves in front of the output
   module _ (out : List ℕ) (n : ℕ) where
-    pub autocrypt_answered : (a k : List ℕ) (m : Bool) → AllOctets k → Wrote n ≡ written_of autocrypt_name a m k (length out)
+    pub autocrypt_answered : (a k : List ℕ) (m : Bool) → AllOctets k → Ok n ≡ written_of autocrypt_name a m k (length out)
         → (h : Holding outer (take n (left_by_writing autocrypt_name a m k out)))
         → sender_in (fields_in outer) ≡ Some (canonical a) → valid_fields key_limit (canonical a) (values_of Autocrypt (others h)) ≡ []
         → HasDirect (entry_in t (canonical a)) (canonical a) (record { timestamp = date; key = k; «mutual» = m }) (entry_in left (canonical a))
     autocrypt_answered a k m o wrote h =
         direct_read a k (take n (left_by_writing autocrypt_name a m k out)) m (autocrypt_reads_back a k out o n m wrote) h
 
-    pub gossip_answered : (b k : List ℕ) → AllOctets k → Wrote n ≡ written_of gossip_name b false k (length out)
+    pub gossip_answered : (b k : List ℕ) → AllOctets k → Ok n ≡ written_of gossip_name b false k (length out)
         → (h : Holding payload (take n (left_by_writing gossip_name b false k out))) → taken setting ≡ true
         → among (canonical b) (recipients_in (fields_in outer)) ≡ true → none_about (canonical b) (gossip_in key_limit (recipients_in (fields_in outer)) (behind h)) ≡ true
         → HasGossip (entry_in t (canonical b)) (canonical b) (record { timestamp = date; key = k }) (entry_in left (canonical b))

@@ -6,7 +6,7 @@ use Prim.Native.Nat.{ℕ, zero, suc}
 use mathlib.Core.Path.{◌≡◌, refl, ap, ◌∙◌}
 use mathlib.Core.Bool.{true}
 use mathlib.Core.List.{List, [], ◌∷◌}
-use Rattle.std.specs.Prelude.{Some, None}
+use Rattle.std.specs.Prelude.{Some, None, Ok, Err}
 use native.Mathlib.Omega.{arith}
 use borrow.Author.Tests.{leb-true}
 use lib.Dec.{leb}
@@ -45,7 +45,6 @@ use Rattle.slots.specs.Slot.{key_limit}
 use Rattle.message.specs.Message as message
 use Rattle.message.specs.Message.{message_rows, message_of}
 use Rattle.refusals.specs.Rows.{first_of, answer_of}
-use Rattle.refusals.specs.declared.Answer.TheVariants.{Done, Refused}
 use Rattle.refusals.proofs.Rows.{done_is}
 use Rattle.octets.specs.Tests.{every}
 use Rattle.octets.proofs.Tests.{and_left, and_right}
@@ -117,8 +116,8 @@ room : brought.has_room free (message_of key_limit 1000 outer [] Unset) ≡ true
 unfolding message_of or_else message.payload_in settings.taken fields.fields_in header.fields_of header.fields header.fields_within header.over
 room = rw sender_is room_for
 
-done : answer_of (refused_processing free 1000 outer [] Unset) ≡ Done
-done = done_is Refused Done (refused_processing free 1000 outer [] Unset) (message_fits free 1000 outer [] Unset sound in_order room)
+done : answer_of (refused_processing free 1000 outer [] Unset) ≡ Ok tt
+done = done_is Err (Ok tt) (refused_processing free 1000 outer [] Unset) (message_fits free 1000 outer [] Unset sound in_order room)
 
 foo_is_there : direct_half (entry_in (left_by_processing free 1000 outer [] Unset) (ascii "bob@b.example"))
     ≡ Some (record { timestamp = 1000; key = ascii "foo"; «mutual» = true })

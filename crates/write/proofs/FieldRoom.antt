@@ -3,6 +3,7 @@
 --     autocrypt_fits, gossip_fits        the two fields
 --     autocrypt_roomy, gossip_roomy      so that a writer that is lent so much never answers that it is too short
 -- Assumes nothing.
+use Rattle.std.specs.Prelude.{Err}
 use Prim.Native.Nat.{ℕ, ◌≤◌}
 use mathlib.Core.Path.{◌≡◌, refl}
 use mathlib.Core.Bool.{Bool, true, false}
@@ -27,7 +28,6 @@ use Rattle.refusals.proofs.Rows.{exactly, refused_is}
 use Rattle.letters.specs.Base64.{encode}
 use Rattle.keylines.specs.Lines.{lines}
 use Rattle.keylines.proofs.Lengths.{lines_counted}
-use Rattle.write.specs.declared.Written.TheVariants.{Refused}
 use Rattle.write.proofs.Outcomes.{refused_row}
 
 module _ (address key : List ℕ) (p : plain address ≡ true) (k : one_to key_limit (length key) ≡ true) where
@@ -67,16 +67,16 @@ module _ (address key : List ℕ) (room : ℕ) (l : field_room ≤ room) where
 
   module _ (name : List ℕ) (m : Bool) where
     never : (plain address ≡ true → one_to key_limit (length key) ≡ true → length (written name address m key) ≤ field_room)
-        → written_of name address m key room ≡ Refused OutputLength → ⊥
+        → written_of name address m key room ≡ Err OutputLength → ⊥
     unfolding refused_writing
     never fits e =
         too_long (written name address m key) fits
         ((exactly (writing_rows address key (written name address m key) room) 12).0 (refused_is number_of 0 _ OutputLength (refused_row name address m key room OutputLength e)))
 
-  pub autocrypt_roomy : (m : Bool) → written_of autocrypt_name address m key room ≡ Refused OutputLength → ⊥
+  pub autocrypt_roomy : (m : Bool) → written_of autocrypt_name address m key room ≡ Err OutputLength → ⊥
   unfolding autocrypt_field
   autocrypt_roomy m = never autocrypt_name m (λ p k. autocrypt_fits address key p k m)
 
-  pub gossip_roomy : written_of gossip_name address false key room ≡ Refused OutputLength → ⊥
+  pub gossip_roomy : written_of gossip_name address false key room ≡ Err OutputLength → ⊥
   unfolding gossip_field
   gossip_roomy = never gossip_name false (λ p k. gossip_fits address key p k)

@@ -8,7 +8,7 @@ use Prim.Native.Nat.{ℕ, ◌≤◌}
 use mathlib.Core.Path.{◌≡◌, refl, sym, ap}
 use mathlib.Core.Bool.{Bool, true}
 use mathlib.Core.List.{List, [], ◌∷◌}
-use Rattle.std.specs.Prelude.{Option, Some, None}
+use Rattle.std.specs.Prelude.{Option, Some, None, Ok, Err}
 use borrow.Author.Tests.{leb-true, not-false}
 use lib.Dec.{leb}
 use lib.ListN.{length}
@@ -22,25 +22,24 @@ use Rattle.refusals.specs.declared.Refusal.{Refusal}
 use Rattle.refusals.specs.declared.Refusal.TheVariants.{OwnAddress, KeyLength, OutputLength}
 use Rattle.refusals.proofs.Rows.{none_here, none_rest, refused_is, done_is}
 use Rattle.write.specs.Writing.{writing_rows, refused_writing, written_of, left_by_writing}
-use Rattle.write.specs.declared.Written.TheVariants.{Done, Refused}
 
 module _ (d : ℕ) where
-  pub answer_refused : (o : Option Refusal) (r : Refusal) → answered_by o Refused (Done d) ≡ Refused r → o ≡ Some r
+  pub answer_refused : (o : Option Refusal) (r : Refusal) → answered_by o Err (Ok d) ≡ Err r → o ≡ Some r
   unfolding answered_by
   answer_refused (Some q) r e = ap Some cc
   answer_refused None r e = cc
 
-  pub answer_done : (o : Option Refusal) (n : ℕ) → answered_by o Refused (Done d) ≡ Done n → (o ≡ None) × (d ≡ n)
+  pub answer_done : (o : Option Refusal) (n : ℕ) → answered_by o Err (Ok d) ≡ Ok n → (o ≡ None) × (d ≡ n)
   unfolding answered_by
   answer_done (Some q) n e = (cc, cc)
   answer_done None n e = (refl, cc)
 
 module _ (name address : List ℕ) (m : Bool) (key : List ℕ) (room : ℕ) where
-  pub refused_row : (r : Refusal) → written_of name address m key room ≡ Refused r → refused_writing address key (written name address m key) room ≡ Some r
+  pub refused_row : (r : Refusal) → written_of name address m key room ≡ Err r → refused_writing address key (written name address m key) room ≡ Some r
   unfolding written_of
   refused_row r e = answer_refused (length (written name address m key)) (refused_writing address key (written name address m key) room) r e
 
-  pub done_row : (n : ℕ) → written_of name address m key room ≡ Done n
+  pub done_row : (n : ℕ) → written_of name address m key room ≡ Ok n
       → (refused_writing address key (written name address m key) room ≡ None) × (length (written name address m key) ≡ n)
   unfolding written_of
   done_row n e = answer_done (length (written name address m key)) (refused_writing address key (written name address m key) room) n e
@@ -78,11 +77,11 @@ module _ (name address : List ℕ) (m : Bool) (key out : List ℕ) where
   abbrev refused : Option Refusal
   refused = refused_writing address key (written name address m key) (length out)
 
-  pub refused_untouched : (r : Refusal) → written_of name address m key (length out) ≡ Refused r → left_by_writing name address m key out ≡ out
+  pub refused_untouched : (r : Refusal) → written_of name address m key (length out) ≡ Err r → left_by_writing name address m key out ≡ out
   unfolding left_by_writing
   refused_untouched r e = refused_is (λ (q : Refusal). out) (onto (written name address m key) out) refused r (refused_row name address m key (length out) r e)
 
-  pub done_wrote : (n : ℕ) → written_of name address m key (length out) ≡ Done n → Wrote name address m key out n
+  pub done_wrote : (n : ℕ) → written_of name address m key (length out) ≡ Ok n → Wrote name address m key out n
   unfolding left_by_writing
   done_wrote n e =
       let none_holds : refused ≡ None = (done_row name address m key (length out) n e).0 in

@@ -4,7 +4,7 @@
 --     field_long, nothing_there         it has none
 --     the ruleset                       writing, for `write`
 -- Assumes nothing.
-use Rattle.std.specs.Prelude.{Option, Some, None}
+use Rattle.std.specs.Prelude.{Option, Some, None, Ok}
 use Prim.Native.Nat.{ℕ, ◌<◌, ◌≤◌}
 use mathlib.Core.Path.{◌≡◌, sym, ap, ◌∙◌}
 use mathlib.Core.Bool.{Bool, true, false}
@@ -20,7 +20,6 @@ use Rattle.address.proofs.Room.{written_length, written_no_room, onto_fits, onto
 use Rattle.slots.specs.Slot.{key_limit}
 use borrow.Author.Rules.{rules}
 use Rattle.refusals.proofs.Rows.{denied_refuses, denied_passes, unless_refuses, unless_passes, no_row}
-use Rattle.write.specs.declared.Written.TheVariants.{Done}
 
 pub key_none : (n : ℕ) (b : Bool) → b ≡ eqb n 0 → b ≡ true → one_to key_limit n ≡ false
 key_none n b e t = rw (eqb-true n 0 (sym e ∙ t))
@@ -39,8 +38,8 @@ module _ (field d : List ℕ) (k : Option ℕ) (e : k ≡ fitted_of field (lengt
     pub field_fits : leb (length field) (length d) ≡ true
     field_fits = le-leb (length field) (length d) (written_length field (length d) m (sym q ∙ e)).1
 
-    pub field_done : Done m ≡ Done (length field)
-    field_done = ap Done (written_length field (length d) m (sym q ∙ e)).0
+    pub field_done : Ok m ≡ Ok (length field)
+    field_done = ap Ok (written_length field (length d) m (sym q ∙ e)).0
 
     pub field_there : (out : List ℕ) → out ≡ onto_if_fits field d → out ≡ onto field d
     field_there out o = o ∙ onto_fits field d (written_length field (length d) m (sym q ∙ e)).1

@@ -3,7 +3,7 @@
 --     field_room                     room that neither exceeds
 --     writing_rows, refused_writing  rows 9, 11 and 12
 --     written_of, left_by_writing    the answer, and what the output holds afterwards
-use Rattle.std.specs.Prelude.{ℕ, Bool, false, List, [], ◌∷◌, leb, length}
+use Rattle.std.specs.Prelude.{ℕ, Bool, false, List, [], ◌∷◌, leb, length, Result, Ok, Err}
 use Rattle.std.specs.Prelude.{Option}
 use Rattle.octets.specs.Written.{onto}
 use Rattle.names.specs.Names.{autocrypt as autocrypt_name, gossip as gossip_name}
@@ -14,8 +14,6 @@ use Rattle.refusals.specs.declared.Refusal.TheVariants.{OwnAddress, KeyLength, O
 use Rattle.address.specs.Address.{plain}
 use Rattle.slots.specs.Slot.{key_limit}
 use Rattle.writer.specs.Writing.{written}
-use Rattle.write.specs.declared.Written.{Written}
-use Rattle.write.specs.declared.Written.TheVariants.{Done, Refused}
 
 -- W2, W3: the Autocrypt field for an address, a preference and a key
 unfoldable pub autocrypt_field : List ℕ → Bool → List ℕ → List ℕ
@@ -43,10 +41,10 @@ unfoldable pub refused_writing : List ℕ → List ℕ → List ℕ → ℕ → 
 refused_writing address key field room = first_of (writing_rows address key field room)
 
 -- W1, R34: the length of the field; a refusal has none
-unfoldable pub written_of : List ℕ → List ℕ → Bool → List ℕ → ℕ → Written
+unfoldable pub written_of : List ℕ → List ℕ → Bool → List ℕ → ℕ → Result ℕ Refusal
 written_of name address is_mutual key room =
     let field = written name address is_mutual key in
-    answered_by (refused_writing address key field room) Refused (Done (length field))
+    answered_by (refused_writing address key field room) Err (Ok (length field))
 
 -- W6, R32: the field at the front of the output, and behind it what was there; with a refusal the output stays as it was
 unfoldable pub left_by_writing : List ℕ → List ℕ → Bool → List ℕ → List ℕ → List ℕ

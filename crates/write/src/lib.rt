@@ -8,30 +8,23 @@ ghost use Rattle.write.specs.Writing.{written_of, left_by_writing};
 use refusals::Refusal;
 use slots::Slot;
 
-// What a writer answers: the length of the field that opens the output now; or a refusal, and then nothing was written
-// (R32, R34).
-#[derive(Clone, Copy)]
-pub enum Written {
-    Done(usize),
-    Refused(Refusal),
-}
 
 // Both writers: they differ in the field's name and in who may state a preference (W3).
 #[tactic(auto, using(crate::proofs::Writing::writing), unfolding(crate::specs::Writing::writing_rows, crate::specs::Writing::refused_writing, crate::specs::Writing::written_of, crate::specs::Writing::left_by_writing))]
-fn write(name: &[u8], address: &[u8], mutual: bool, key: &[u8], out: &mut [u8]) -> Written
+fn write(name: &[u8], address: &[u8], mutual: bool, key: &[u8], out: &mut [u8]) -> Result<usize, Refusal>
     requires { length name.now ≤ 256 }
     ensures value { result ≡ written_of name.now address.now «mutual» key.now (length out.old) }
     ensures out_after { out.new ≡ left_by_writing name.now address.now «mutual» key.now out.old }
 {
     if !address::is_plain(address) {
-        return Written::Refused(Refusal::OwnAddress);
+        return Err(Refusal::OwnAddress);
     }
     if key.is_empty() || Slot::KEY_LIMIT < key.len() {
-        return Written::Refused(Refusal::KeyLength);
+        return Err(Refusal::KeyLength);
     }
     match writer::write_field(name, address, mutual, key, out) {
-        Some(n) => Written::Done(n),
-        None => Written::Refused(Refusal::OutputLength),
+        Some(n) => Ok(n),
+        None => Err(Refusal::OutputLength),
     }
 }
 
@@ -41,7 +34,7 @@ fn write(name: &[u8], address: &[u8], mutual: bool, key: &[u8], out: &mut [u8]) 
 // (W4). What `out` holds behind the field stays as it was (W6). The refusals, in the order of testing: 9 where `address`
 // is not a plain address and nothing else (R9), 11 where `key` has no octet or more than 2,048 (R11), 12 where `out` is
 // shorter than the field (R12). Then `out` stays as it was (R32). An `out` of 3,200 octets is always long enough (W6).
-pub fn write_autocrypt(address: &[u8], key: &[u8], mutual: bool, out: &mut [u8]) -> Written
+pub fn write_autocrypt(address: &[u8], key: &[u8], mutual: bool, out: &mut [u8]) -> Result<usize, Refusal>
     ensures value { result ≡ written_of autocrypt_name address.now «mutual» key.now (length out.old) }
     ensures out_after { out.new ≡ left_by_writing autocrypt_name address.now «mutual» key.now out.old }
 {
@@ -52,7 +45,7 @@ pub fn write_autocrypt(address: &[u8], key: &[u8], mutual: bool, out: &mut [u8])
 // encrypted payload, about one of the mail's recipients. `address` is the recipient's and `key` the octets of the
 // recipient's key. There is no preference to state (W3). All else is as in `write_autocrypt`: how the field is written,
 // the refusals 9, 11 and 12 in this order, and what `out` holds afterwards.
-pub fn write_gossip(address: &[u8], key: &[u8], out: &mut [u8]) -> Written
+pub fn write_gossip(address: &[u8], key: &[u8], out: &mut [u8]) -> Result<usize, Refusal>
     ensures value { result ≡ written_of gossip_name address.now false key.now (length out.old) }
     ensures out_after { out.new ≡ left_by_writing gossip_name address.now false key.now out.old }
 {

@@ -4,5 +4,5 @@ use Rattle.recommend.proofs.recommend_quick.Goals as goal
 pub returns-in-Some-clause-answer_value : goal.returns-in-Some-clause-answer_value
 returns-in-Some-clause-answer_value c = search recommending
 
-pub returns-in-Refused-clause-answer_value : goal.returns-in-Refused-clause-answer_value
-returns-in-Refused-clause-answer_value c = search recommending
+pub returns-in-Err-clause-answer_value : goal.returns-in-Err-clause-answer_value
+returns-in-Err-clause-answer_value c = search recommending
