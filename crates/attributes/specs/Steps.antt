@@ -1,5 +1,5 @@
 -- From what a piece comes to, to what the code answers.
---     address_at, stated   the address and the preference seen so far
+--     address_at           the address seen so far
 --     PlainAt, Stands      a plain address stands between two places; so does the address seen so far
 --     step_at, Steps       the step that an answer shows; an answer shows this step
 use Rattle.std.specs.Prelude.{ℕ, ◌≤◌, ◌≡◌, Bool, true, List, length}
@@ -25,12 +25,8 @@ unfoldable pub Stands : List ℕ → Option Bounds → Type 0
 Stands s None = Unit
 Stands s (Some at) = PlainAt s at.from at.to
 
-unfoldable pub stated : Option Bool → Option Bool
-stated None = None
-stated (Some m) = Some m
-
 unfoldable pub step_at : List ℕ → NextPiece → Step
-step_at s (On place preference) = on (address_at s place) (stated preference)
+step_at s (On place preference) = on (address_at s place) preference
 step_at s (Last v) = last (part s v.from v.to)
 step_at s Spoils = spoils
 

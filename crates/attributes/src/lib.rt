@@ -7,7 +7,7 @@ ghost use Rattle.std.specs.Prelude.{◌≡◌};
 ghost use Rattle.attributes.specs.Attribute.{name_of, attribute_of};
 ghost use Rattle.attributes.specs.Step.{with_address, with_preference, step};
 ghost use Rattle.attributes.specs.Answers.{part, Within, FirstAt, TrimmedFrom, TrimmedTo, Trimmed, Tells};
-ghost use Rattle.attributes.specs.Steps.{address_at, Stands, stated, Steps};
+ghost use Rattle.attributes.specs.Steps.{address_at, Stands, Steps};
 
 use runs::Class;
 
@@ -139,7 +139,7 @@ fn attribute_at(s: &[u8], from: usize, to: usize) -> Attribute
 fn with_address(s: &[u8], at: Bounds, address: Option<Bounds>, preference: Option<bool>) -> NextPiece
     requires { Within s.now at.from at.to }
     ensures { Steps s.now result
-        (with_address (address_at s.now address) (stated preference) (part s.now at.from at.to)) }
+        (with_address (address_at s.now address) preference (part s.now at.from at.to)) }
 {
     if address.is_some() {
         return NextPiece::Spoils;
@@ -161,7 +161,7 @@ fn with_preference(
 ) -> NextPiece
     requires { Within s.now at.from at.to × Stands s.now address }
     ensures { Steps s.now result
-        (with_preference (address_at s.now address) (stated preference) (part s.now at.from at.to)) }
+        (with_preference (address_at s.now address) preference (part s.now at.from at.to)) }
 {
     match preference {
         None => {
@@ -183,7 +183,7 @@ pub fn step_at(
 ) -> NextPiece
     requires { Within s.now from to × Stands s.now address }
     ensures { Steps s.now result
-        (step (address_at s.now address) (stated preference) (attribute_of (part s.now from to))) }
+        (step (address_at s.now address) preference (attribute_of (part s.now from to))) }
 {
     match attribute_at(s, from, to) {
         Attribute::Addr(value) => with_address(s, value, address, preference),

@@ -1,5 +1,4 @@
 -- The effective date, and what callers ask of it.
---     option_dated        the Date, to the code's answer and back
 --     effective-..        a branch of the code, and what the definition says
 --     effective_upto      it is not above the receipt time (D2)
 -- Assumes nothing.
@@ -9,20 +8,14 @@ use Rattle.std.specs.Prelude.{Option, Some, None}
 use native.Mathlib.Omega.{arith}
 use borrow.Author.Rules.{rules}
 use Rattle.date.specs.Date.{effective_date}
-use Rattle.date.specs.Answers.{dated_of, option_of}
-
-pub option_dated : (o : Option ℕ) → option_of (dated_of o) ≡ o
-unfolding option_of dated_of
-option_dated None = refl
-option_dated (Some n) = refl
 
 module _ (date : Option ℕ) (receipt : ℕ) where
-  pub effective_none : date ≡ None → receipt ≡ effective_date (option_of date) receipt
-  unfolding effective_date option_of
+  pub effective_none : date ≡ None → receipt ≡ effective_date date receipt
+  unfolding effective_date
   effective_none q = rw q
 
-  pub effective_some : (n : ℕ) → date ≡ Some n → min n receipt ≡ effective_date (option_of date) receipt
-  unfolding effective_date option_of
+  pub effective_some : (n : ℕ) → date ≡ Some n → min n receipt ≡ effective_date date receipt
+  unfolding effective_date
   effective_some n q = rw q
 
 pub ruleset effects = (effective_none, effective_some, rules)

@@ -15,8 +15,8 @@ use lib.ListN.{drop}
 use Rattle.calendar.specs.Calendar.{leap, leap_day, month_length, year_days, month_days, day_count}
 use Rattle.datewords.specs.Words.{only_if, first_token}
 use Rattle.date.specs.Date.{Read, got, read_of, and_then, next, existing, zoned, epoch, ended}
-use Rattle.datewords.specs.Answers.{meaning, token_in}
-use Rattle.date.specs.Answers.{dated_of, read_in}
+use Rattle.datewords.specs.Answers.{token_in}
+use Rattle.date.specs.Answers.{read_in}
 use Rattle.datewords.specs.declared.token.WordAt.{WordAt}
 use Rattle.datewords.specs.declared.token.WordAt.TheVariants.{Between, End, Unreadable}
 use Rattle.datewords.specs.declared.meaning.Place.TheVariants.{East, West}
@@ -26,22 +26,22 @@ use Rattle.date.proofs.Reading.{first_between, first_end, first_unreadable, read
 use Rattle.date.proofs.Ranges.{ranges}
 
 module _ (year month day : ℕ) where
-  pub exists_none : day < 1 → None ≡ meaning (existing year month day)
-  unfolding existing only_if meaning
+  pub exists_none : day < 1 → None ≡ existing year month day
+  unfolding existing only_if
   exists_none h = rw (lt-leb 1 day h)
 
   module _ (h : 1 ≤ day) (m : ℕ) (e : m ≡ month_length year month) where
-    pub exists_past : m < day → None ≡ meaning (existing year month day)
-    unfolding existing only_if meaning
+    pub exists_past : m < day → None ≡ existing year month day
+    unfolding existing only_if
     exists_past l = rw (le-leb 1 day h, ← e, lt-leb day m l)
 
-    pub exists_day : (n : ℕ) → day ≤ m → n ≡ day_count year month day → Some n ≡ meaning (existing year month day)
-    unfolding existing only_if meaning
+    pub exists_day : (n : ℕ) → day ≤ m → n ≡ day_count year month day → Some n ≡ existing year month day
+    unfolding existing only_if
     exists_day n l p = rw (le-leb 1 day h, ← e, le-leb day m l, p)
 
 pub ruleset existence = (exists_none, exists_past, exists_day, rules)
 
-module _ (s : List ℕ) (to : ℕ) (o : Option ℕ) (m : Option ℕ) (e : m ≡ meaning o) where
+module _ (s : List ℕ) (to : ℕ) (o : Option ℕ) (m : Option ℕ) (e : m ≡ o) where
   pub value_read : (n : ℕ) → m ≡ Some n → read_in s (Some (record { value = n; to = to })) ≡ read_of o (drop to s)
   unfolding read_in read_of
   value_read n q = rw (value_is o m n e q)
@@ -77,36 +77,36 @@ unfolding leap leap_day month_length year_days month_days day_count
 epoch_is = refl
 
 module _ (s u : List ℕ) (n : ℕ) (g : WordAt) (e : token_in s g ≡ first_token u) where
-  pub end_here : (m : ℕ) → g ≡ End → m ≡ n - 2208988800 → Some m ≡ dated_of (ended (got n u))
-  unfolding ended dated_of
+  pub end_here : (m : ℕ) → g ≡ End → m ≡ n - 2208988800 → Some m ≡ ended (got n u)
+  unfolding ended
   end_here m q p = rw (ended, first_end s u g e q, epoch_is, p)
 
-  pub end_more : (from to : ℕ) → g ≡ Between from to → None ≡ dated_of (ended (got n u))
-  unfolding ended dated_of
+  pub end_more : (from to : ℕ) → g ≡ Between from to → None ≡ ended (got n u)
+  unfolding ended
   end_more from to q = rw (ended, first_between s u g e from to q)
 
-  pub end_unreadable : g ≡ Unreadable → None ≡ dated_of (ended (got n u))
-  unfolding ended dated_of
+  pub end_unreadable : g ≡ Unreadable → None ≡ ended (got n u)
+  unfolding ended
   end_unreadable q = rw (ended, first_unreadable s u g e q)
 
 pub ruleset endings = (end_here, end_more, end_unreadable, rules)
 
 -- the Date, where the reader's answer g is u
 module _ (s : List ℕ) (g : Option PartRead) (u : Read) (e : read_in s g ≡ u) where
-  pub date_last : (p : PartRead) (r : Option ℕ) → g ≡ Some p → r ≡ dated_of (ended (got p.value (drop p.to s))) → r ≡ dated_of (ended u)
+  pub date_last : (p : PartRead) (r : Option ℕ) → g ≡ Some p → r ≡ ended (got p.value (drop p.to s)) → r ≡ ended u
   date_last p r q h = rw (read_got s g u e p q) h
 
-  pub date_missing : g ≡ None → None ≡ dated_of (ended u)
-  unfolding ended dated_of
+  pub date_missing : g ≡ None → None ≡ ended u
+  unfolding ended
   date_missing q = rw (read_missing s g u e q)
 
   module _ (f : ℕ → List ℕ → Read) where
-    pub date_then : (p : PartRead) (r : Option ℕ) → g ≡ Some p → r ≡ dated_of (ended (f p.value (drop p.to s))) → r ≡ dated_of (ended (and_then u f))
+    pub date_then : (p : PartRead) (r : Option ℕ) → g ≡ Some p → r ≡ ended (f p.value (drop p.to s)) → r ≡ ended (and_then u f)
     unfolding and_then
     date_then p r q h = rw (read_got s g u e p q) h
 
-    pub date_then_missing : g ≡ None → None ≡ dated_of (ended (and_then u f))
-    unfolding and_then ended dated_of
+    pub date_then_missing : g ≡ None → None ≡ ended (and_then u f)
+    unfolding and_then ended
     date_then_missing q = rw (read_missing s g u e q)
 
 pub ruleset dating = (date_then, date_then_missing, date_last, date_missing, ranges, rules)

@@ -13,7 +13,7 @@ use borrow.Author.Rules.{rules}
 use lib.ListN.{length, take, drop}
 use Rattle.datewords.specs.Words.{token, end, unreadable, first_token, meant}
 use Rattle.date.specs.Date.{Read, got, missing, read_of, and_then, next, optional}
-use Rattle.datewords.specs.Answers.{meaning, token_in, Inside}
+use Rattle.datewords.specs.Answers.{token_in, Inside}
 use Rattle.date.specs.Answers.{read_in}
 use Rattle.datewords.specs.declared.token.WordAt.{WordAt}
 use Rattle.datewords.specs.declared.token.WordAt.TheVariants.{Between, End, Unreadable}
@@ -44,7 +44,7 @@ module _ (s u : List ℕ) (g : WordAt) (e : token_in s g ≡ first_token u) wher
     unfolding next read_in
     next_unreadable q = rw (next, first_unreadable q)
 
-    module _ (from to : ℕ) (q : g ≡ Between from to) (m : Option ℕ) (h : m ≡ meaning (meant what (take (to - from) (drop from s)))) where
+    module _ (from to : ℕ) (q : g ≡ Between from to) (m : Option ℕ) (h : m ≡ meant what (take (to - from) (drop from s))) where
       pub next_got : (n : ℕ) → m ≡ Some n → read_in s (Some (record { value = n; to = to })) ≡ next what u
       unfolding next read_in read_of
       next_got n p = rw (next, first_between from to q, value_is (meant what (take (to - from) (drop from s))) m n h p)

@@ -1,18 +1,9 @@
 -- The answers of the code, as the definitions of Date.antt have them.
---     dated_of, option_of  the Date, and back
 --     read_in              what a place in the text s stands for: the octets from there on
 use Rattle.std.specs.Prelude.{ℕ, List, drop}
 use Rattle.std.specs.Prelude.{Option, Some, None}
 use Rattle.date.specs.Date.{Read, got, missing}
 use Rattle.date.specs.declared.PartRead.{PartRead}
-
-unfoldable pub dated_of : Option ℕ → Option ℕ
-dated_of None = None
-dated_of (Some n) = Some n
-
-unfoldable pub option_of : Option ℕ → Option ℕ
-option_of (Some n) = Some n
-option_of None = None
 
 unfoldable pub read_in : List ℕ → Option PartRead → Read
 read_in s (Some p) = got p.value (drop p.to s)

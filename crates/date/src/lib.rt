@@ -4,8 +4,7 @@
 
 ghost use Rattle.std.specs.Prelude.{◌≤◌, ◌≡◌, drop};
 ghost use Rattle.date.specs.Date.{next as next_of, optional as optional_of, existing as existing_of, calendar_day, time_of_day, local_time, zoned as zoned_of, ended as ended_of, date_of, effective_date, got};
-ghost use Rattle.datewords.specs.Answers.{meaning as meaning_of};
-ghost use Rattle.date.specs.Answers.{dated_of, option_of, read_in};
+ghost use Rattle.date.specs.Answers.{read_in};
 
 use datewords::meaning::Place;
 use datewords::token::WordAt;
@@ -52,7 +51,7 @@ fn optional(s: &[u8], at: usize, opening: Place, closing: Place) -> Option<PartR
 fn existing(year: u64, month: u64, day: u64) -> Option<u64>
     requires le_year { (1900 ≤ year) × (year ≤ 9999) }
     requires le_month { (1 ≤ month) × (month ≤ 12) }
-    ensures { result ≡ meaning_of (existing_of year month day) }
+    ensures { result ≡ existing_of year month day }
 {
     if day < 1 {
         return None;
@@ -129,7 +128,7 @@ fn zoned(s: &[u8], at: usize, local: u64) -> Option<PartRead>
 // Nothing may stand behind the zone (D3). What lies before 1970 counts as 0 (D13).
 #[tactic(auto, using(crate::proofs::Parts::endings))]
 fn ended(s: &[u8], at: usize, value: u64) -> Option<u64>
-    ensures { result ≡ dated_of (ended_of (got value (drop at s.now))) }
+    ensures { result ≡ ended_of (got value (drop at s.now)) }
 {
     match token::token(s, at) {
         WordAt::End => Some(value.saturating_sub(EPOCH)),
@@ -140,7 +139,7 @@ fn ended(s: &[u8], at: usize, value: u64) -> Option<u64>
 // The Date that the value of a Date field stands for.
 #[tactic(auto, using(crate::proofs::Parts::dating), unfolding(crate::specs::Date::date_of))]
 pub fn date(value: &[u8]) -> Option<u64>
-    ensures { result ≡ dated_of (date_of value.now) }
+    ensures { result ≡ date_of value.now }
 {
     let Some(day_name) = optional(value, 0, Place::DayName, Place::Comma) else {
         return None;
@@ -157,7 +156,7 @@ pub fn date(value: &[u8]) -> Option<u64>
 // The receipt time, or a Date that is smaller (D2).
 #[tactic(auto, using(crate::proofs::Effective::effects))]
 pub fn effective_date(date: Option<u64>, receipt: u64) -> u64
-    ensures { result ≡ effective_date (option_of date) receipt }
+    ensures { result ≡ effective_date date receipt }
 {
     match date {
         Some(n) => n.min(receipt),

@@ -24,16 +24,13 @@ use Rattle.octets.proofs.Lists.{drop_one, drop_done}
 use Rattle.runs.specs.Runs.{belongs}
 use Rattle.runs.specs.declared.Class.TheVariants.{Digit}
 use Rattle.datewords.specs.Words.{only_if, digit_of, value_from, number_of}
-use Rattle.datewords.specs.Answers.{meaning}
 
 -- what an answer says of the definition
-pub value_is : (o : Option ℕ) (r : Option ℕ) (n : ℕ) → r ≡ meaning o → r ≡ Some n → o ≡ Some n
-unfolding meaning
+pub value_is : (o : Option ℕ) (r : Option ℕ) (n : ℕ) → r ≡ o → r ≡ Some n → o ≡ Some n
 value_is None r n e q = cc
 value_is (Some m) r n e q = cc
 
-pub nothing_is : (o : Option ℕ) (r : Option ℕ) → r ≡ meaning o → r ≡ None → o ≡ None
-unfolding meaning
+pub nothing_is : (o : Option ℕ) (r : Option ℕ) → r ≡ o → r ≡ None → o ≡ None
 nothing_is None r e q = refl
 nothing_is (Some m) r e q = cc
 
@@ -65,12 +62,12 @@ module _ (x : ℕ) (b : Bool) (e : b ≡ belongs Digit x) where
   pub digit_above : b ≡ true → 48 ≤ x
   digit_above q = omega (arith, digit_range x (sym e ∙ q))
 
-  pub digit_is : (w : ℕ) → w ≡ x - 48 → b ≡ true → Some w ≡ meaning (digit_of x)
-  unfolding digit_of only_if meaning
+  pub digit_is : (w : ℕ) → w ≡ x - 48 → b ≡ true → Some w ≡ digit_of x
+  unfolding digit_of only_if
   digit_is w p q = rw (sym e ∙ q, p)
 
-  pub digit_none : b ≡ false → None ≡ meaning (digit_of x)
-  unfolding digit_of only_if meaning
+  pub digit_none : b ≡ false → None ≡ digit_of x
+  unfolding digit_of only_if
   digit_none q = rw (sym e ∙ q)
 
 pub ruleset one_digit = (digit_above, digit_is, digit_none, rules)
@@ -98,8 +95,8 @@ pub record Valued (t : List ℕ) (i n : ℕ) : Type 0 where
 pub value_begin : (t : List ℕ) → length t ≤ 4 → Valued t 0 0
 value_begin t h = record { upto = omega arith; few = h; room = omega arith; so_far = refl }
 
-pub number_long : (t : List ℕ) → 4 < length t → None ≡ meaning (number_of t)
-unfolding number_of only_if meaning
+pub number_long : (t : List ℕ) → 4 < length t → None ≡ number_of t
+unfolding number_of only_if
 number_long t h = rw (lt-leb (length t) 4 h)
 
 module _ (t : List ℕ) (i n : ℕ) (h : Valued t i n) where
@@ -107,13 +104,13 @@ module _ (t : List ℕ) (i n : ℕ) (h : Valued t i n) where
   unfolding number_of only_if
   number_as o e = rw (le-leb (length t) 4 h.few) (h.so_far ∙ e)
 
-  pub value_end : length t ≤ i → Some n ≡ meaning (number_of t)
-  unfolding value_from meaning
+  pub value_end : length t ≤ i → Some n ≡ number_of t
+  unfolding value_from
   value_end l = rw (number_as (Some n) (rw (drop_done t i l)))
 
-  module _ (l : i < length t) (r : Option ℕ) (e : r ≡ meaning (digit_of (get_or t i 0))) where
-    pub value_stop : r ≡ None → None ≡ meaning (number_of t)
-    unfolding value_from meaning
+  module _ (l : i < length t) (r : Option ℕ) (e : r ≡ digit_of (get_or t i 0)) where
+    pub value_stop : r ≡ None → None ≡ number_of t
+    unfolding value_from
     value_stop q = rw (number_as None (rw (drop_one t i l, nothing_is (digit_of (get_or t i 0)) r e q)))
 
     module _ (d : ℕ) (q : r ≡ Some d) where

@@ -19,7 +19,6 @@ use borrow.Author.Tests.{lt-ltb}
 use lib.ListN.{length}
 use Rattle.octets.specs.Octets.{same_name}
 use Rattle.datewords.specs.Words.{place_from, place_in, here_or}
-use Rattle.datewords.specs.Answers.{meaning}
 
 -- the names, each as a list of its own
 abbrev pub cut : List ℕ → List (List ℕ)
@@ -66,12 +65,10 @@ module _ (t : List ℕ) where
       go false e ih = rw (first_later (same_name t) _ (cut names) e, e) (ih ∙ later k _)
 
 module _ (t names : List ℕ) (r : Option ℕ) (e : r ≡ position (same_name t) (cut names)) where
-  pub which_is : (k : ℕ) → r ≡ Some k → Some k ≡ meaning (place_in t names)
-  unfolding meaning
+  pub which_is : (k : ℕ) → r ≡ Some k → Some k ≡ place_in t names
   which_is k q = rw (place_counts t 0 names, ← e, q, zero-add) refl
 
-  pub which_none : r ≡ None → None ≡ meaning (place_in t names)
-  unfolding meaning
+  pub which_none : r ≡ None → None ≡ place_in t names
   which_none q = rw (place_counts t 0 names, ← e, q)
 
 pub place_below : (t names : List ℕ) (j k : ℕ) → place_from j t names ≡ Some k → 3 * k < 3 * j + length names

@@ -1,5 +1,4 @@
 -- The answers of the code, as the definitions of Words.antt have them.
---     meaning              a number that may be missing
 --     token_in             what a place in the text s stands for: the octets from there on
 --     Inside               a token lies in the text s
 use Rattle.std.specs.Prelude.{ℕ, ◌-◌, ◌≤◌, List, length, take, drop}
@@ -7,10 +6,6 @@ use Rattle.std.specs.Prelude.{Option, Some, None}
 use Rattle.datewords.specs.Words.{Token, token, end, unreadable}
 use Rattle.datewords.specs.declared.token.WordAt.{WordAt}
 use Rattle.datewords.specs.declared.token.WordAt.TheVariants.{Between, End, Unreadable}
-
-unfoldable pub meaning : Option ℕ → Option ℕ
-meaning None = None
-meaning (Some n) = Some n
 
 unfoldable pub token_in : List ℕ → WordAt → Token
 token_in s (Between from to) = token (take (to - from) (drop from s)) (drop to s)

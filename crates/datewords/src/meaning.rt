@@ -2,7 +2,6 @@
 // D12).
 ghost use Rattle.std.specs.Prelude.{◌≤◌, ◌≡◌};
 ghost use Rattle.datewords.specs.Words.{digit_of, number_of, place_in, mark_of, day_of, month_of, year_by, year_of, two_digits, offset_by, offset_of, hours_west, opens_with, east_by, west_by, meant as meant_of};
-ghost use Rattle.datewords.specs.Answers.{meaning as meaning_of};
 
 use crate::token;
 use crate::token::Opening;
@@ -29,7 +28,7 @@ pub enum Place {
 // The number that one digit stands for.
 #[tactic(auto, using(crate::proofs::Digits::one_digit))]
 fn digit(x: u8) -> Option<u64>
-    ensures { result ≡ meaning_of (digit_of x) }
+    ensures { result ≡ digit_of x }
 {
     if runs::within(Class::Digit, x) {
         return Some(u64::from(x - b'0'));
@@ -40,7 +39,7 @@ fn digit(x: u8) -> Option<u64>
 // The number that a run of digits stands for. No place of a date takes more than four (D8 to D11).
 #[tactic(auto, using(crate::proofs::Digits::valuing))]
 fn number(run: &[u8]) -> Option<u64>
-    ensures { result ≡ meaning_of (number_of run.now) }
+    ensures { result ≡ number_of run.now }
 {
     if 4 < run.len() {
         return None;
@@ -57,7 +56,7 @@ fn number(run: &[u8]) -> Option<u64>
 
 // Which of the names it is, each of three letters and in any case, the first one being 0.
 fn which(run: &[u8], names: &[u8]) -> Option<u64>
-    ensures { result ≡ meaning_of (place_in run.now names.now) }
+    ensures { result ≡ place_in run.now names.now }
 {
     let (names, _) = names.as_chunks::<3>();
     match names.iter().position(|name| octets::same_name(run, name)) {
@@ -69,7 +68,7 @@ fn which(run: &[u8], names: &[u8]) -> Option<u64>
 // A comma or a colon, which stands for nothing.
 #[tactic(auto, using(crate::proofs::Meant::marks))]
 fn mark(run: &[u8], text: &[u8]) -> Option<u64>
-    ensures { result ≡ meaning_of (mark_of run.now text.now) }
+    ensures { result ≡ mark_of run.now text.now }
 {
     if octets::same(run, text) {
         return Some(0);
@@ -80,7 +79,7 @@ fn mark(run: &[u8], text: &[u8]) -> Option<u64>
 // The day, of one digit or two (D8).
 #[tactic(auto, using(crate::proofs::Meant::days))]
 fn day(run: &[u8]) -> Option<u64>
-    ensures { result ≡ meaning_of (day_of run.now) }
+    ensures { result ≡ day_of run.now }
 {
     if 2 < run.len() {
         return None;
@@ -91,7 +90,7 @@ fn day(run: &[u8]) -> Option<u64>
 // The month, January being 1 (D8).
 #[tactic(auto, using(crate::proofs::Meant::months))]
 fn month(run: &[u8]) -> Option<u64>
-    ensures { result ≡ meaning_of (month_of run.now) }
+    ensures { result ≡ month_of run.now }
 {
     match which(run, b"JanFebMarAprMayJunJulAugSepOctNovDec") {
         Some(k) => Some(k + 1),
@@ -103,7 +102,7 @@ fn month(run: &[u8]) -> Option<u64>
 #[tactic(auto, using(crate::proofs::Meant::years))]
 fn year_by(width: usize, n: u64) -> Option<u64>
     requires { n ≤ 9999 }
-    ensures { result ≡ meaning_of (year_by width n) }
+    ensures { result ≡ year_by width n }
 {
     match width {
         2 if n <= 49 => Some(n + 2000),
@@ -116,7 +115,7 @@ fn year_by(width: usize, n: u64) -> Option<u64>
 // The year, of two, three or four digits (D9).
 #[tactic(auto, using(crate::proofs::Meant::years))]
 fn year(run: &[u8]) -> Option<u64>
-    ensures { result ≡ meaning_of (year_of run.now) }
+    ensures { result ≡ year_of run.now }
 {
     match number(run) {
         Some(n) => year_by(run.len(), n),
@@ -127,7 +126,7 @@ fn year(run: &[u8]) -> Option<u64>
 // Two digits that stand for `most` at most (D10).
 #[tactic(auto, using(crate::proofs::Meant::twos))]
 fn two_digits(run: &[u8], most: u64) -> Option<u64>
-    ensures { result ≡ meaning_of (two_digits most run.now) }
+    ensures { result ≡ two_digits most run.now }
 {
     if run.len() != 2 {
         return None;
@@ -142,7 +141,7 @@ fn two_digits(run: &[u8], most: u64) -> Option<u64>
 #[tactic(auto, using(crate::proofs::Meant::offsets))]
 fn offset_by(n: u64) -> Option<u64>
     requires { n ≤ 9999 }
-    ensures { result ≡ meaning_of (offset_by n) }
+    ensures { result ≡ offset_by n }
 {
     let minutes = n % 100;
     if 59 < minutes {
@@ -154,7 +153,7 @@ fn offset_by(n: u64) -> Option<u64>
 // The digits behind the sign of a zone: exactly four (D11).
 #[tactic(auto, using(crate::proofs::Meant::offsets))]
 fn offset(run: &[u8]) -> Option<u64>
-    ensures { result ≡ meaning_of (offset_of run.now) }
+    ensures { result ≡ offset_of run.now }
 {
     if run.len() != 4 {
         return None;
@@ -177,9 +176,9 @@ fn hours_west(run: &[u8]) -> u64
 }
 
 // The seconds that a zone lies east.
-#[tactic(auto, using(crate::proofs::Meant::zones), unfolding(crate::specs::Words::east_by, crate::specs::Answers::meaning))]
+#[tactic(auto, using(crate::proofs::Meant::zones), unfolding(crate::specs::Words::east_by))]
 fn east(run: &[u8]) -> Option<u64>
-    ensures { result ≡ meaning_of (east_by (opens_with run.now) run.now) }
+    ensures { result ≡ east_by (opens_with run.now) run.now }
 {
     if run.is_empty() {
         return None;
@@ -191,9 +190,9 @@ fn east(run: &[u8]) -> Option<u64>
 }
 
 // The seconds that a zone lies west.
-#[tactic(auto, using(crate::proofs::Meant::zones), unfolding(crate::specs::Words::west_by, crate::specs::Answers::meaning))]
+#[tactic(auto, using(crate::proofs::Meant::zones), unfolding(crate::specs::Words::west_by))]
 fn west(run: &[u8]) -> Option<u64>
-    ensures { result ≡ meaning_of (west_by (opens_with run.now) run.now) }
+    ensures { result ≡ west_by (opens_with run.now) run.now }
 {
     if run.is_empty() {
         return None;
@@ -208,7 +207,7 @@ fn west(run: &[u8]) -> Option<u64>
 // What the token means at a place of a date.
 #[tactic(auto, using(crate::proofs::Meant::meanings), unfolding(crate::specs::Words::meant))]
 pub fn meant(at: Place, run: &[u8]) -> Option<u64>
-    ensures { result ≡ meaning_of (meant_of at run.now) }
+    ensures { result ≡ meant_of at run.now }
 {
     match at {
         Place::DayName => which(run, b"MonTueWedThuFriSatSun"),

@@ -19,7 +19,7 @@ use lib.ListN.{length, take}
 use lib.Seq.{length-take-le}
 use Rattle.octets.proofs.Lists.{lt_or_le}
 use Rattle.punycode.specs.Punycode.{value, threshold, landed, run}
-use Rattle.punycode.specs.Steps.{Threshold, value_of}
+use Rattle.punycode.specs.Steps.{Threshold}
 use Rattle.punycode.proofs.Integers.{value_below, run_more, run_last}
 use Rattle.decoder.specs.Steps.{run_from, Steps, Lands, Landed, Going, Gone, Stepped}
 use Rattle.decoder.specs.declared.Decoder.{Decoder}
@@ -53,13 +53,11 @@ module _ (n old bias : ℕ) (out : List ℕ) where
       go later (Some d) e = run_large s later c d i w k e (omega arith) (omega arith)
 
 -- `read_one`
-value_none : (o : Option ℕ) → None ≡ value_of o → o ≡ None
-unfolding value_of
+value_none : (o : Option ℕ) → None ≡ o → o ≡ None
 value_none None e = refl
 value_none (Some v) e = let z : ◌≡◌ {A = ℕ} 0 1 = cc in absurd (omega arith)
 
-value_some : (o : Option ℕ) (v : ℕ) → Some v ≡ value_of o → o ≡ Some v
-unfolding value_of
+value_some : (o : Option ℕ) (v : ℕ) → Some v ≡ o → o ≡ Some v
 value_some None v e = let z : ◌≡◌ {A = ℕ} 0 1 = cc in absurd (omega arith)
 value_some (Some u) v e = cc
 
@@ -67,10 +65,10 @@ module _ (d : List ℕ) (c : ℕ) (s : Decoder) (h : Steps (length d) s) (r : Op
   long : length (take s.len d) ≡ s.len
   long = length-take-le s.len d (omega (arith, h.more))
 
-  pub one_other : r ≡ None → r ≡ value_of (value c) → Gone d d c s
+  pub one_other : r ≡ None → r ≡ value c → Gone d d c s
   one_other a e = record { same = refl; goes = λ rest. run_other c rest _ _ _ _ _ _ _ (value_none (value c) (sym a ∙ e)) }
 
-  module _ (v : ℕ) (a : r ≡ Some v) (e : r ≡ value_of (value c)) where
+  module _ (v : ℕ) (a : r ≡ Some v) (e : r ≡ value c) where
     is : value c ≡ Some v
     is = value_some (value c) v (sym a ∙ e)
 

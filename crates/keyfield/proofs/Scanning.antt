@@ -16,7 +16,7 @@ use Rattle.pieces.proofs.Pieces.{pieces_first}
 use Rattle.attributes.specs.Attribute.{attribute_of}
 use Rattle.attributes.specs.Step.{step}
 use Rattle.attributes.specs.Answers.{part, Within, FirstAt}
-use Rattle.attributes.specs.Steps.{address_at, Stands, stated, step_at, NextWithin, Steps}
+use Rattle.attributes.specs.Steps.{address_at, Stands, step_at, NextWithin, Steps}
 use Rattle.attributes.specs.declared.Bounds.{Bounds}
 use Rattle.attributes.specs.declared.NextPiece.{NextPiece}
 use Rattle.attributes.specs.declared.NextPiece.TheVariants.{On, Last, Spoils}
@@ -29,15 +29,15 @@ use Rattle.keyfield.specs.declared.Scanned.{Scanned}
 pub record Scanning (s : List ℕ) (at : ℕ) (address : Option Bounds) (preference : Option Bool) : Type 0 where
   pub upto : at ≤ length s
   pub stands : Stands s address
-  pub so_far : said_of s ≡ said_from (address_at s address) (stated preference) (pieces 59 (part s at (length s)))
+  pub so_far : said_of s ≡ said_from (address_at s address) preference (pieces 59 (part s at (length s)))
 
 pub scan_begin : (s : List ℕ) → Scanning s 0 None None
-unfolding said_of address_at stated Stands
+unfolding said_of address_at Stands
 scan_begin s = record { upto = omega arith; stands = tt; so_far = rw (part_rest s 0) }
 
 -- what has been read at the end is there
 whole_said : (s : List ℕ) (address : Option Bounds) (preference : Option Bool) (v : Bounds)
-    → said_at s (whole_of address preference v) ≡ said_with (address_at s address) (stated preference) (part s v.from v.to)
+    → said_at s (whole_of address preference v) ≡ said_with (address_at s address) preference (part s v.from v.to)
 unfolding said_at whole_of said_with address_at
 whole_said s None preference v = refl
 whole_said s (Some at) preference v = refl
@@ -59,19 +59,19 @@ module _ (s : List ℕ) (at : ℕ) (address : Option Bounds) (preference : Optio
     pub scan_within : Within s at end
     scan_within = record { order = omega (arith, f.is); upto = f.upto }
 
-    module _ (n : NextPiece) (t : Steps s n (step (address_at s address) (stated preference) (attribute_of (part s at end)))) where
-      comes : (x : NextPiece) → n ≡ x → step (address_at s address) (stated preference) (attribute_of (part s at end)) ≡ step_at s x
+    module _ (n : NextPiece) (t : Steps s n (step (address_at s address) preference (attribute_of (part s at end)))) where
+      comes : (x : NextPiece) → n ≡ x → step (address_at s address) preference (attribute_of (part s at end)) ≡ step_at s x
       comes x e = sym t.is ∙ ap (step_at s) e
 
       -- a piece that spoils the field does so whatever follows
-      spoilt : (rest : List (List ℕ)) → said_of s ≡ said_from (address_at s address) (stated preference) (part s at end ∷ rest) → n ≡ Spoils → Scans s None
+      spoilt : (rest : List (List ℕ)) → said_of s ≡ said_from (address_at s address) preference (part s at end ∷ rest) → n ≡ Spoils → Scans s None
       unfolding said_from step_at said_at WholeWithin
       spoilt rest q e =
           record { is = sym (q ∙ rw (said_from, comes Spoils e)); within = tt }
 
       module _ (l : end < length s) where
         -- a piece, and those behind it
-        more : said_of s ≡ said_from (address_at s address) (stated preference) (part s at end ∷ pieces 59 (part s (end + 1) (length s)))
+        more : said_of s ≡ said_from (address_at s address) preference (part s at end ∷ pieces 59 (part s (end + 1) (length s)))
         more = h.so_far ∙ rw (cut_pieces s at (length s) 59 end scan_left f l)
 
         pub scan_next : (a : Option Bounds) (p : Option Bool) → n ≡ On a p → Scanning s (end + 1) a p
@@ -86,7 +86,7 @@ module _ (s : List ℕ) (at : ℕ) (address : Option Bounds) (preference : Optio
 
       module _ (l : length s ≤ end) where
         -- the last piece
-        alone : said_of s ≡ said_from (address_at s address) (stated preference) (part s at end ∷ [])
+        alone : said_of s ≡ said_from (address_at s address) preference (part s at end ∷ [])
         alone = h.so_far ∙ rw (cut_last s at (length s) 59 end scan_left f l)
 
         pub scan_keyless : (a : Option Bounds) (p : Option Bool) → n ≡ On a p → Scans s None

@@ -9,7 +9,7 @@ use Rattle.std.specs.Prelude.{ℕ, ◌-◌, ◌≤◌, ◌≡◌, List, length, 
 use Rattle.std.specs.Prelude.{Option, Some, None}
 use Rattle.address.specs.Address.{canonical}
 use Rattle.attributes.specs.Answers.{part, Within}
-use Rattle.attributes.specs.Steps.{PlainAt, stated}
+use Rattle.attributes.specs.Steps.{PlainAt}
 use Rattle.attributes.specs.declared.Bounds.{Bounds}
 use Rattle.keyfield.specs.Field.{Said, mutual_by, said_of, key_of, field_of}
 use Rattle.keyfield.specs.declared.Scanned.{Scanned}
@@ -18,7 +18,7 @@ use Rattle.keyfield.specs.declared.Read.{Read}
 -- what is answered where the key data stands, behind the address and the preference that came before it
 unfoldable pub whole_of : Option Bounds → Option Bool → Bounds → Option Scanned
 whole_of None preference v = None
-whole_of (Some at) preference v = Some (record { address = at; «mutual» = mutual_by (stated preference); key_data = v })
+whole_of (Some at) preference v = Some (record { address = at; «mutual» = mutual_by preference; key_data = v })
 
 -- what an answer shows of the value s
 unfoldable pub said_at : List ℕ → Option Scanned → Option Said

@@ -3,7 +3,6 @@
 #![tactic(auto)]
 
 ghost use Rattle.std.specs.Prelude.{◌≤◌, ◌≡◌, length};
-ghost use Rattle.attributes.specs.Steps.{stated};
 ghost use Rattle.keyfield.specs.Field.{mutual_by};
 ghost use Rattle.keyfield.specs.Answers.{whole_of, Scans, KeyAs, ReadAs};
 
@@ -28,7 +27,7 @@ pub struct Read {
 // F7: no `prefer-encrypt` is no preference.
 #[tactic(auto, using(crate::proofs::Ending::ending))]
 fn is_mutual(preference: Option<bool>) -> bool
-    ensures { result ≡ mutual_by (stated preference) }
+    ensures { result ≡ mutual_by preference }
 {
     match preference {
         None => false,

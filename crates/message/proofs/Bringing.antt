@@ -16,7 +16,6 @@ use lib.ListN.{length}
 use Rattle.header.specs.Header.{readable, limit}
 use Rattle.header.proofs.Fields.{clear_fits}
 use Rattle.date.specs.Date.{effective_date}
-use Rattle.date.specs.Answers.{dated_of, option_of}
 use Rattle.fields.specs.Fields.{fields_in}
 use Rattle.fields.specs.declared.Survey.{Survey}
 use Rattle.address.specs.Address.{is_canonical}
@@ -50,7 +49,7 @@ module _ (most receipt : ℕ) (outer : List ℕ) (survey : Survey) (text sender 
   pub sent_canonical : is_canonical sender ≡ true
   sent_canonical = sender_canonical (fields_in outer) sender h.sent
 
-  module _ (r : Option ℕ) (said : r ≡ dated_of (said_date (fields_in outer))) (date : ℕ) (e : date ≡ effective_date (option_of r) receipt)
+  module _ (r : Option ℕ) (said : r ≡ said_date (fields_in outer)) (date : ℕ) (e : date ≡ effective_date r receipt)
       (key : List ℕ) (own : Option OwnKey) (o : OwnAs most sender (counted_in most (fields_in outer) sender) key own) where
     dated : date ≡ date_in (fields_in outer) receipt
     dated = e ∙ date_effective (fields_in outer) receipt r said

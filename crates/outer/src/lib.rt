@@ -6,7 +6,6 @@
 
 ghost use Rattle.std.specs.Prelude.{◌≤◌, ◌≡◌, length};
 ghost use Rattle.slots.specs.Slot.{address_room};
-ghost use Rattle.date.specs.Answers.{dated_of};
 ghost use Rattle.fields.specs.Fields.{fields_in};
 ghost use Rattle.fields.specs.Spans.{SurveyAs};
 ghost use Rattle.outer.specs.Outer.{sender_in, is_reported, said_date};
@@ -57,7 +56,7 @@ pub fn is_report(block: &[u8], survey: Survey, text: &mut [u8]) -> bool
 #[tactic(auto, using(crate::proofs::Dates::dating))]
 pub fn date(block: &[u8], survey: Survey, text: &mut [u8]) -> Option<u64>
     requires { SurveyAs block.now survey × (length block.now ≤ length text.old) }
-    ensures { result ≡ dated_of (said_date (fields_in block.now)) }
+    ensures { result ≡ said_date (fields_in block.now) }
 {
     let Some(field) = fields::only_field(block, survey.date, Kind::Date) else {
         return None;

@@ -1,14 +1,9 @@
 -- L23 as the code has it: what the functions of one digit and of one bias answer.
---     value_of     the digit of an octet, as an answer
 --     Threshold    a threshold, with its bounds
 --     Halved       what adapting begins with
 use Rattle.std.specs.Prelude.{ℕ, ◌/◌, ◌≤◌, ◌≡◌, Bool, cond}
 use Rattle.std.specs.Prelude.{Option, Some, None}
 use Rattle.punycode.specs.Punycode.{threshold, damp}
-
-unfoldable pub value_of : Option ℕ → Option ℕ
-value_of None = None
-value_of (Some v) = Some v
 
 pub record Threshold (k bias r : ℕ) : Type 0 where
   pub same : r ≡ threshold k bias

@@ -4,7 +4,7 @@
 
 ghost use Rattle.std.specs.Prelude.{◌^◌, ◌<◌, ◌≡◌};
 ghost use Rattle.punycode.specs.Punycode.{digit as digit_of, value as value_as, adapt as adapt_of};
-ghost use Rattle.punycode.specs.Steps.{value_of, Threshold, Halved};
+ghost use Rattle.punycode.specs.Steps.{Threshold, Halved};
 
 
 // The octet of a digit.
@@ -21,9 +21,9 @@ pub fn digit(v: u64) -> u8
 }
 
 // The digit of an octet. Most are small letters, so they are asked for first.
-#[tactic(auto, unfolding(crate::specs::Punycode::value, crate::specs::Steps::value_of))]
+#[tactic(auto, unfolding(crate::specs::Punycode::value))]
 pub fn value_of(c: u8) -> Option<u64>
-    ensures { result ≡ value_of (value_as c) }
+    ensures { result ≡ value_as c }
 {
     match c {
         b'a'..=b'z' => Some(u64::from(c - b'a')),

@@ -7,12 +7,11 @@ use mathlib.Core.Path.{◌≡◌}
 use mathlib.Core.List.{List}
 use borrow.Author.Rules.{rules}
 use Rattle.datewords.specs.Words.{meant}
-use Rattle.datewords.specs.Answers.{meaning}
 use Rattle.datewords.specs.declared.meaning.Place.TheVariants.{Year}
 use Rattle.datewords.proofs.Digits.{value_is}
 use Rattle.datewords.proofs.Large.{year_some}
 
-module _ (t : List ℕ) (r : Option ℕ) (n : ℕ) (a : r ≡ Some n) (e : r ≡ meaning (meant Year t)) where
+module _ (t : List ℕ) (r : Option ℕ) (n : ℕ) (a : r ≡ Some n) (e : r ≡ meant Year t) where
   written : (1900 ≤ n) × (n ≤ 9999)
   unfolding meant
   written = year_some t n (value_is (meant Year t) r n e a)
