@@ -8,10 +8,10 @@
 //     write_autocrypt, write_gossip            write a field for a mail to be sent (W1)
 //     display                                  an address as it is shown (W11)
 //     lint                                     what is wrong with the fields of a mail to be sent (O1)
-//     Answer, Recommended, Written, Linted     what calls answer, each with a case for a refusal
 //     Quick                                    the answer of recommend_quick, with its count (A13)
 //     Advice, Part                             an advice (A1), and a part of a table (A6)
-//     Refusal, number, index                   why a call refuses, its number, and the index that comes with 2 (R33)
+//     Refusal, number, index                   the error of every call: why it refuses, its number, and the index that comes with
+//                                              2 (R33)
 //
 // Everything is done in memory that the caller lends; no call keeps anything, and none requires anything of its arguments
 // (C1). What each answers, and leaves in lent memory, is fixed for every input (C2), and a refused call writes nothing
@@ -22,9 +22,9 @@ pub use advice::{Advice, Part};
 pub use convert::convert;
 pub use display::display;
 pub use inspect::{check, entry};
-pub use lint::{Linted, lint};
+pub use lint::lint;
 pub use process::process;
-pub use recommend::{Quick, Recommended, recommend, recommend_quick, target_key, target_part};
-pub use refusals::{Answer, Refusal, index, number};
+pub use recommend::{Quick, recommend, recommend_quick, target_key, target_part};
+pub use refusals::{Refusal, index, number};
 pub use settings::Gossip;
-pub use write::{Written, write_autocrypt, write_gossip};
+pub use write::{write_autocrypt, write_gossip};
