@@ -37,20 +37,16 @@ pub fn put_labels<F: Fn(&[u8], &mut [u8], usize) -> Option<usize>>(
     let mut to = at;
     loop {
         let end = octets::find(s, i, b'.');
-        match put(&s[i..end], &mut *out, to) {
-            Some(e) => {
-                if s.len() <= end {
-                    return Some(e);
-                }
-                if out.len() <= e {
-                    return None;
-                }
-                out[e] = b'.';
-                to = e + 1;
-                i = end + 1;
-            }
-            None => return None,
+        let e = put(&s[i..end], &mut *out, to)?;
+        if s.len() <= end {
+            return Some(e);
         }
+        if out.len() <= e {
+            return None;
+        }
+        out[e] = b'.';
+        to = e + 1;
+        i = end + 1;
     }
 }
 
@@ -61,14 +57,10 @@ fn put_form(s: &[u8], out: &mut [u8]) -> Option<usize>
     requires { length out.old ≡ 254 }
     ensures { PutsText out.old out.new 0 (form_of s.now) result }
 {
-    match asciiaddress::local_part(s) {
-        Some(n) => {
-            utf8::put_lower(&mut *out, 0, &s[..n]);
-            out[n] = b'@';
-            put_labels(s, n + 1, out, n + 1, labels::put_label)
-        }
-        None => None,
-    }
+    let n = asciiaddress::local_part(s)?;
+    utf8::put_lower(&mut *out, 0, &s[..n]);
+    out[n] = b'@';
+    put_labels(s, n + 1, out, n + 1, labels::put_label)
 }
 
 // Is it a plain address, with labels in any script? The length first: a long text costs nothing.
@@ -176,10 +168,8 @@ pub fn canonical(s: &[u8], out: &mut [u8]) -> Option<usize>
         return put_small(s, out);
     }
     let mut form = [0u8; LONGEST];
-    match put_form(s, &mut form) {
-        Some(n) => put_small(&form[..n], out),
-        None => None,
-    }
+    let n = put_form(s, &mut form)?;
+    put_small(&form[..n], out)
 }
 
 // Is `form` the canonical form of `s`, a text of any octets?

@@ -120,10 +120,7 @@ fn passes(points: &[u32], out: &mut [u8], b: u64, at: usize) -> Option<usize>
     };
     let mut n = 128;
     while let Some(m) = least(points, n) {
-        match round(points, &mut *out, n, m, b, s) {
-            Some(t) => s = t,
-            None => return None,
-        }
+        s = round(points, &mut *out, n, m, b, s)?;
         n = m + 1;
     }
     Some(s.at)
@@ -163,10 +160,7 @@ fn put_basics(points: &[u32], out: &mut [u8]) -> Option<usize>
 {
     let mut at = 0;
     for &c in points {
-        match put_basic(&mut *out, at, c) {
-            Some(next) => at = next,
-            None => return None,
-        }
+        at = put_basic(&mut *out, at, c)?;
     }
     Some(at)
 }

@@ -27,10 +27,10 @@ fn next(s: &[u8], at: usize, what: Place) -> Option<PartRead>
     ensures { read_in s.now result ≡ next_of what (drop at s.now) }
 {
     match token::token(s, at) {
-        WordAt::Between { from, to } => match meaning::meant(what, &s[from..to]) {
-            Some(value) => Some(PartRead { value, to }),
-            None => None,
-        },
+        WordAt::Between { from, to } => {
+            let value = meaning::meant(what, &s[from..to])?;
+            Some(PartRead { value, to })
+        }
         WordAt::End | WordAt::Unreadable => None,
     }
 }
@@ -70,10 +70,8 @@ fn calendar_day(s: &[u8], at: usize) -> Option<PartRead>
     let day = next(s, at, Place::Day)?;
     let month = next(s, day.to, Place::Month)?;
     let year = next(s, month.to, Place::Year)?;
-    match existing(year.value, month.value, day.value) {
-        Some(value) => Some(PartRead { value, ..year }),
-        None => None,
-    }
+    let value = existing(year.value, month.value, day.value)?;
+    Some(PartRead { value, ..year })
 }
 
 // Hour, colon, minute, and a colon with the second, which may be missing (D3): the seconds since midnight, 86,400

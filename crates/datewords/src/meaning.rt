@@ -46,10 +46,7 @@ fn number(run: &[u8]) -> Option<u64>
     }
     let mut n: u64 = 0;
     for &x in run {
-        match digit(x) {
-            Some(d) => n = 10 * n + d,
-            None => return None,
-        }
+        n = 10 * n + digit(x)?;
     }
     Some(n)
 }
@@ -59,10 +56,8 @@ fn which(run: &[u8], names: &[u8]) -> Option<u64>
     ensures { result ≡ place_in run.now names.now }
 {
     let (names, _) = names.as_chunks::<3>();
-    match names.iter().position(|name| octets::same_name(run, name)) {
-        Some(k) => Some(k as u64),
-        None => None,
-    }
+    let k = names.iter().position(|name| octets::same_name(run, name))?;
+    Some(k as u64)
 }
 
 // A comma or a colon, which stands for nothing.
@@ -92,10 +87,8 @@ fn day(run: &[u8]) -> Option<u64>
 fn month(run: &[u8]) -> Option<u64>
     ensures { result ≡ month_of run.now }
 {
-    match which(run, b"JanFebMarAprMayJunJulAugSepOctNovDec") {
-        Some(k) => Some(k + 1),
-        None => None,
-    }
+    let k = which(run, b"JanFebMarAprMayJunJulAugSepOctNovDec")?;
+    Some(k + 1)
 }
 
 // The year that so many digits stand for (D9).
@@ -117,10 +110,7 @@ fn year_by(width: usize, n: u64) -> Option<u64>
 fn year(run: &[u8]) -> Option<u64>
     ensures { result ≡ year_of run.now }
 {
-    match number(run) {
-        Some(n) => year_by(run.len(), n),
-        None => None,
-    }
+    year_by(run.len(), number(run)?)
 }
 
 // Two digits that stand for `most` at most (D10).
@@ -158,10 +148,7 @@ fn offset(run: &[u8]) -> Option<u64>
     if run.len() != 4 {
         return None;
     }
-    match number(run) {
-        Some(n) => offset_by(n),
-        None => None,
-    }
+    offset_by(number(run)?)
 }
 
 // The hours that a zone of letters lies west; 0 where it is none that has a name here (D12).

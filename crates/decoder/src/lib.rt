@@ -132,10 +132,7 @@ fn read_rest(text: &[u8], out: &mut [u32], b: usize) -> Option<usize>
         len: b,
     };
     for &c in text {
-        match read_one(&mut *out, c, s) {
-            Some(t) => s = t,
-            None => return None,
-        }
+        s = read_one(&mut *out, c, s)?;
     }
     if s.k == 36 {
         Some(s.len)

@@ -58,14 +58,10 @@ pub fn entry(table: &[u8], slot: usize, numbers: &mut [u64]) -> Result<(), Refus
     ensures value { result ≡ answer_of (refused_showing table.now (length numbers.old)) }
     ensures numbers_after { numbers.new ≡ left_by_showing table.now slot numbers.old }
 {
-    match check(table) {
-        Ok(()) => {
-            if numbers.len() < entry::SHOWN {
-                return Err(Refusal::OutputLength);
-            }
-            entry::tell(table, slot, numbers);
-            Ok(())
-        }
-        Err(refusal) => Err(refusal),
+    check(table)?;
+    if numbers.len() < entry::SHOWN {
+        return Err(Refusal::OutputLength);
     }
+    entry::tell(table, slot, numbers);
+    Ok(())
 }

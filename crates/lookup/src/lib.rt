@@ -89,17 +89,13 @@ pub fn entry_of(table: &[u8], tags: &[u32; Slot::MOST], address: &[u8]) -> Optio
     requires { Open table.now tags.now }
     ensures { result ≡ held_of table.now address.now }
 {
-    match find(table, tags, address) {
-        Some(i) => {
-            let at = i * Slot::LEN;
-            Some(Held {
-                numbers: table::numbers(table, i),
-                direct: at + Slot::DIRECT_AT,
-                gossip: at + Slot::GOSSIP_AT,
-            })
-        }
-        None => None,
-    }
+    let i = find(table, tags, address)?;
+    let at = i * Slot::LEN;
+    Some(Held {
+        numbers: table::numbers(table, i),
+        direct: at + Slot::DIRECT_AT,
+        gossip: at + Slot::GOSSIP_AT,
+    })
 }
 
 // The tag of the slot: that of its address, and 0 where it is not used.

@@ -21,17 +21,10 @@ pub fn sender_of(block: &[u8], survey: Survey, text: &mut [u8], out: &mut [u8]) 
     ensures value { result ≡ sender_of (sender_in (fields_in block.now)) }
     ensures out_after { out.new ≡ left_by_sender (sender_in (fields_in block.now)) out.old }
 {
-    let Some(field) = fields::only_field(block, survey.from, Kind::From) else {
-        return None;
-    };
+    let field = fields::only_field(block, survey.from, Kind::From)?;
     let n = field.unfold(block, text);
-    match addresslist::only_address(&text[..n]) {
-        Some(one) => match address::canonical(&text[one.from..one.to], out) {
-            Some(length) => Some(length),
-            None => None,
-        },
-        None => None,
-    }
+    let one = addresslist::only_address(&text[..n])?;
+    address::canonical(&text[one.from..one.to], out)
 }
 
 // Is some Content-Type a report? All of them are asked (R6).

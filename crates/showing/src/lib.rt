@@ -51,10 +51,8 @@ fn put_decoded(code: &[u8], out: &mut [u8]) -> Option<usize>
     ensures { PutsText out.old out.new 0 (text_of (decode_of code.now)) result }
 {
     let mut points = [0u32; 59];
-    match decoder::decode(code, &mut points) {
-        Some(n) => codepoints::write(&points[..n], out, 0),
-        None => None,
-    }
+    let n = decoder::decode(code, &mut points)?;
+    codepoints::write(&points[..n], out, 0)
 }
 
 // Writes the text where it is a label with just this form, and else the form.
@@ -105,10 +103,8 @@ fn put_address(s: &[u8], out: &mut [u8]) -> Option<usize>
     ensures { Puts out.old out.new 0 (shown_form s.now) result }
 {
     let n = octets::find(s, 0, b'@');
-    match put_text(&s[..n + 1], &mut *out, 0) {
-        Some(to) => address::put_labels(s, n + 1, out, to, put_shown),
-        None => None,
-    }
+    let to = put_text(&s[..n + 1], &mut *out, 0)?;
+    address::put_labels(s, n + 1, out, to, put_shown)
 }
 
 // Writes a text to the front of `out`, where it fits.
@@ -133,10 +129,8 @@ fn show_form(s: &[u8], out: &mut [u8]) -> Option<usize>
     ensures out_after { out.new ≡ onto_if_fits (shown_form s.now) out.old }
 {
     let mut text = [0u8; 1016];
-    match put_address(s, &mut text) {
-        Some(n) => put_front(&text[..n], out),
-        None => None,
-    }
+    let n = put_address(s, &mut text)?;
+    put_front(&text[..n], out)
 }
 
 // Writes how a plain address is shown to the front of `out`, where it fits (W12).
@@ -147,8 +141,6 @@ pub fn show(s: &[u8], out: &mut [u8]) -> Option<usize>
     ensures out_after { out.new ≡ onto_if_fits (displayed s.now) out.old }
 {
     let mut form = [0u8; 254];
-    match address::canonical(s, &mut form) {
-        Some(n) => show_form(&form[..n], out),
-        None => None,
-    }
+    let n = address::canonical(s, &mut form)?;
+    show_form(&form[..n], out)
 }

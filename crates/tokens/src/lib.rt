@@ -122,10 +122,7 @@ pub fn skip(s: &[u8], at: usize) -> Option<usize>
         if octets::is_blank(s[i]) {
             i += 1;
         } else if s[i] == b'(' {
-            match comment(s, i, DEPTH) {
-                Some(n) => i = n,
-                None => return None,
-            }
+            i = comment(s, i, DEPTH)?;
         } else {
             return Some(i);
         }

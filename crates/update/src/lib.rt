@@ -24,16 +24,12 @@ fn place(table: &mut [u8], tags: &mut [u32; Slot::MOST], address: &[u8]) -> Opti
     ensures table_after { table.new ≡ begun table.old address.now }
     ensures fact { Open table.new tags.new }
 {
-    match lookup::find(table, tags, address) {
-        Some(i) => Some(i),
-        None => match table::lowest_free(table) {
-            Some(i) => {
-                table::begin(table, tags, i, address);
-                Some(i)
-            }
-            None => None,
-        },
+    if let Some(i) = lookup::find(table, tags, address) {
+        return Some(i);
     }
+    let i = table::lowest_free(table)?;
+    table::begin(table, tags, i, address);
+    Some(i)
 }
 
 // Is there a direct half in the slot that is younger than the date (U6)?

@@ -118,8 +118,6 @@ pub fn write_field(name: &[u8], address: &[u8], mutual: bool, key: &[u8], out: &
         (written name.now address.now «mutual» key.now) out.old }
 {
     let mut form = [0u8; 256];
-    match address::canonical(address, &mut form) {
-        Some(n) => fit_field(name, &form[..n], mutual, key, out),
-        None => None,
-    }
+    let n = address::canonical(address, &mut form)?;
+    fit_field(name, &form[..n], mutual, key, out)
 }
