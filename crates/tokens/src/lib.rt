@@ -114,6 +114,7 @@ fn content(s: &[u8], at: usize, room: usize) -> Option<usize>
 }
 
 // The place behind all spaces, tabs and comments from the place `at` on.
+#[tactic(auto, using(crate::proofs::Skipping::skipping))]
 pub fn skip(s: &[u8], at: usize) -> Option<usize>
     ensures { result ≡ reached s.now (skipped (drop at s.now)) }
 {
