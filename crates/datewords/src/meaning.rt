@@ -46,7 +46,8 @@ fn number(run: &[u8]) -> Option<u64>
     }
     let mut n: u64 = 0;
     for &x in run {
-        n = 10 * n + digit(x)?;
+        let d = digit(x)?;
+        n = 10 * n + d;
     }
     Some(n)
 }
@@ -110,7 +111,8 @@ fn year_by(width: usize, n: u64) -> Option<u64>
 fn year(run: &[u8]) -> Option<u64>
     ensures { result ≡ year_of run.now }
 {
-    year_by(run.len(), number(run)?)
+    let n = number(run)?;
+    year_by(run.len(), n)
 }
 
 // Two digits that stand for `most` at most (D10).
@@ -121,10 +123,11 @@ fn two_digits(run: &[u8], most: u64) -> Option<u64>
     if run.len() != 2 {
         return None;
     }
-    match number(run) {
-        Some(n) if n <= most => Some(n),
-        Some(_) | None => None,
+    let n = number(run)?;
+    if most < n {
+        return None;
     }
+    Some(n)
 }
 
 // The seconds that the four digits of a zone stand for (D11).
@@ -148,7 +151,8 @@ fn offset(run: &[u8]) -> Option<u64>
     if run.len() != 4 {
         return None;
     }
-    offset_by(number(run)?)
+    let n = number(run)?;
+    offset_by(n)
 }
 
 // The hours that a zone of letters lies west; 0 where it is none that has a name here (D12).

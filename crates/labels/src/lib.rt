@@ -90,8 +90,10 @@ fn put_coded(s: &[u8], out: &mut [u8], at: usize) -> Option<usize>
     ensures { PutsText out.old out.new at (fitting (label_form s.now)) result }
 {
     let mut code = [0u8; LONGEST_CODE];
-    let n = put_code(s, &mut code)?;
-    put_opened(&code[..n], out, at)
+    match put_code(s, &mut code) {
+        Some(n) => put_opened(&code[..n], out, at),
+        None => None,
+    }
 }
 
 // Writes the form of a label from a place on, and answers the place behind it. There is none where it is no label, or where

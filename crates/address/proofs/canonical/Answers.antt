@@ -1,14 +1,14 @@
 use Rattle.address.proofs.Making.{writing_canonical}
 use Rattle.address.proofs.canonical.Goals as goal
 
-pub returns-in-Some-clause-value : goal.returns-in-Some-clause-value
-returns-in-Some-clause-value c = search writing_canonical
+pub returns-clause-value : goal.returns-clause-value
+returns-clause-value c = search (c.in_ok-n.was, writing_canonical)
 
-pub returns-in-Some-clause-out_after : goal.returns-in-Some-clause-out_after
-returns-in-Some-clause-out_after c = search writing_canonical
+pub returns-clause-out_after : goal.returns-clause-out_after
+returns-clause-out_after c = search (c.in_ok-n.was, writing_canonical)
 
-pub returns-in-None-clause-value : goal.returns-in-None-clause-value
-returns-in-None-clause-value c = search writing_canonical
+pub returns-in_err-n-clause-value : goal.returns-in_err-n-clause-value
+returns-in_err-n-clause-value c = rw c.from_residual.ensures (search (c.in_err-n.was, writing_canonical))
 
-pub returns-in-None-clause-out_after : goal.returns-in-None-clause-out_after
-returns-in-None-clause-out_after c = search writing_canonical
+pub returns-in_err-n-clause-out_after : goal.returns-in_err-n-clause-out_after
+returns-in_err-n-clause-out_after c = search (c.in_err-n.was, writing_canonical)

@@ -10,20 +10,20 @@ slice_bounds-put-end g c = search (part_within, part_from, rules)
 
 pub returns-then-s-end : goal.returns-then-s-end
 returns-then-s-end g c = λ text w.
-    join_last text _ _ _ _ _ _ _ c.loop-e.invariant.bounded (c.loop-e.invariant.joins text w) _ c.find-end.ensures _ _ (w _ _ _ _ _ c.put.ensures) _ c.in-Some.is c.if-s-end.true
+    join_last text _ _ _ _ _ _ _ c.loop-e.invariant.bounded (c.loop-e.invariant.joins text w) _ c.find-end.ensures _ _ (w _ _ _ _ _ c.put.ensures) _ c.in_ok-e.was c.if-s-end.true
 
 pub returns-then-out-e : goal.returns-then-out-e
 returns-then-out-e g c = λ text w.
-    join_full text _ _ _ _ _ _ _ c.loop-e.invariant.bounded (c.loop-e.invariant.joins text w) _ c.find-end.ensures _ _ (w _ _ _ _ _ c.put.ensures) _ c.in-Some.is c.if-s-end.false c.if-out-e.true
+    join_full text _ _ _ _ _ _ _ c.loop-e.invariant.bounded (c.loop-e.invariant.joins text w) _ c.find-end.ensures _ _ (w _ _ _ _ _ c.put.ensures) _ c.in_ok-e.was c.if-s-end.false c.if-out-e.true
 
 pub loop-e-preserved : goal.loop-e-preserved
 loop-e-preserved g c =
     record {
       bounded = bounds_next _ _ _ _ _ c.loop-e.invariant.bounded _ _ _ (search rules) c.if-s-end.false c.if-out-e.false;
       joins = λ text w.
-          join_next text _ _ _ _ _ _ _ c.loop-e.invariant.bounded (c.loop-e.invariant.joins text w) _ c.find-end.ensures _ _ (w _ _ _ _ _ c.put.ensures) _ c.in-Some.is c.if-s-end.false c.if-out-e.false;
+          join_next text _ _ _ _ _ _ _ c.loop-e.invariant.bounded (c.loop-e.invariant.joins text w) _ c.find-end.ensures _ _ (w _ _ _ _ _ c.put.ensures) _ c.in_ok-e.was c.if-s-end.false c.if-out-e.false;
     }
 
-pub returns-in-None : goal.returns-in-None
-returns-in-None g c = λ text w.
-    join_none text _ _ _ _ _ _ _ c.loop-e.invariant.bounded (c.loop-e.invariant.joins text w) _ c.find-end.ensures _ _ (w _ _ _ _ _ c.put.ensures) c.in-None.is
+pub returns-in_err-e : goal.returns-in_err-e
+returns-in_err-e g c = λ text w.
+    rw c.from_residual.ensures (join_none text _ _ _ _ _ _ _ c.loop-e.invariant.bounded (c.loop-e.invariant.joins text w) _ c.find-end.ensures _ _ (w _ _ _ _ _ c.put.ensures) c.in_err-e.was)

@@ -2,10 +2,10 @@ use Rattle.date.specs.Date.{calendar_day}
 use Rattle.date.proofs.Parts.{parts}
 use Rattle.date.proofs.calendar_day.Goals as goal
 
-pub returns-in-Some : goal.returns-in-Some
+pub returns : goal.returns
 unfolding calendar_day
-returns-in-Some c = search (parts, c.in_ok-day.was, c.in_ok-month.was, c.in_ok-year.was)
+returns c = search (parts, c.in_ok-value.was, c.in_ok-day.was, c.in_ok-month.was, c.in_ok-year.was)
 
-pub returns-in-None : goal.returns-in-None
+pub returns-in_err-value : goal.returns-in_err-value
 unfolding calendar_day
-returns-in-None c = search (parts, c.in_ok-day.was, c.in_ok-month.was, c.in_ok-year.was)
+returns-in_err-value c = rw c.from_residual.ensures (search (parts, c.in_err-value.was, c.in_ok-day.was, c.in_ok-month.was, c.in_ok-year.was))

@@ -1,8 +1,8 @@
 use Rattle.outer.proofs.Senders.{sending}
 use Rattle.outer.proofs.sender_of.Goals as goal
 
-pub returns-in-Some-clause-out_after : goal.returns-in-Some-clause-out_after
-returns-in-Some-clause-out_after c = search (c.in-Some.ensures.result_value, sending)
+pub returns-clause-out_after : goal.returns-clause-out_after
+returns-clause-out_after c = search (c.in_ok-field.was, c.in_ok-one.was, sending)
 
-pub returns-in-None-clause-out_after : goal.returns-in-None-clause-out_after
-returns-in-None-clause-out_after c = search (c.in-Some.ensures.result_value, sending)
+pub returns-in_err-one-clause-out_after : goal.returns-in_err-one-clause-out_after
+returns-in_err-one-clause-out_after c = search (c.in_err-one.was, c.in_ok-field.was, sending)

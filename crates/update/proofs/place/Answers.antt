@@ -1,8 +1,8 @@
 use Rattle.update.proofs.Placing.{placing}
 use Rattle.update.proofs.place.Goals as goal
 
-pub returns-in-Some-lowest_free-clause-table_after : goal.returns-in-Some-lowest_free-clause-table_after
-returns-in-Some-lowest_free-clause-table_after c = search placing
+pub returns-clause-table_after : goal.returns-clause-table_after
+returns-clause-table_after c = search (c.in_ok-i.was, placing)
 
-pub returns-in-Some-lowest_free-clause-fact : goal.returns-in-Some-lowest_free-clause-fact
-returns-in-Some-lowest_free-clause-fact c = search placing
+pub returns-clause-fact : goal.returns-clause-fact
+returns-clause-fact c = search (c.in_ok-i.was, placing)

@@ -1,5 +1,5 @@
 use Rattle.datewords.proofs.Meant.{offsets}
 use Rattle.datewords.proofs.meaning.offset.Goals as goal
 
-pub returns-in-Some : goal.returns-in-Some
-returns-in-Some c = search offsets
+pub returns : goal.returns
+returns c = search (c.in_ok-n.was, offsets)

@@ -1,8 +1,8 @@
 use Rattle.datewords.proofs.Meant.{twos}
 use Rattle.datewords.proofs.meaning.two_digits.Goals as goal
 
-pub returns-in-Some : goal.returns-in-Some
-returns-in-Some c = search twos
+pub returns-then-most-n : goal.returns-then-most-n
+returns-then-most-n c = search (c.in_ok-n.was, twos)
 
-pub returns-in-Some-2 : goal.returns-in-Some-2
-returns-in-Some-2 c = search twos
+pub returns : goal.returns
+returns c = search (c.in_ok-n.was, twos)

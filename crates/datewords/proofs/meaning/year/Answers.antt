@@ -1,5 +1,5 @@
 use Rattle.datewords.proofs.Meant.{years}
 use Rattle.datewords.proofs.meaning.year.Goals as goal
 
-pub returns-in-Some : goal.returns-in-Some
-returns-in-Some c = search years
+pub returns : goal.returns
+returns c = search (c.in_ok-n.was, years)
