@@ -1,6 +1,6 @@
 -- One step of the code: a slot is merged into a lower one, or gets its form in its own place (T17).
 --     copied                        the octets of slot i, copied
---     absorb_place .. absorbed      merging it into slot j
+--     absorb_within .. absorbed     merging it into slot j
 --     settle_seeks .. settled_own   where its form stands, and what is done
 --     form_never .. form_brought    its form, made in a buffer
 --     bring_free, bring_used        slot i as a whole

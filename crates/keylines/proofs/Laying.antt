@@ -1,6 +1,10 @@
 -- Writing a key as lines.
---     encode_three, encode_parts    the characters of octets in front of others, where the groups end between them
---     lines_parts                   the lines of octets in front of others, where a line ends between them
+--     encode_parts               the characters of octets in front of others, where the groups end between them
+--     lines_parts                the lines of octets in front of others, where a line ends between them
+--     Going w d at out o rest    w is written over d from the place `at` on up to the place o, but for its end
+--     going_begin .. going_whole    how such writing begins, goes on and ends
+--     line_begin, group_room, group_put, ending_room, ending_put    one line, group by group
+--     line_room, line_put, lines_end    the lines one after the other
 -- Assumes nothing.
 use Rattle.std.proofs.Common.{◌≡◌, ℕ, zero, suc, ◌+◌, ◌%◌, ◌<◌, ◌≤◌, min, List, [], ◌∷◌, ◌++◌, length, refl, sym, ap, ◌∙◌, arith, append_assoc, append-nil, length-append, set, inl, inr}
 use Rattle.std.proofs.lemmas.List.{nil_from_length}
