@@ -1,24 +1,21 @@
 -- An address that is looked for in a roll by its tag.
---     pass_stop, pass_on          pieces of tags that are skipped
 --     at_from .. at_same          the address at a place
 --     Looking roll tags places a tag i     whether a is in the roll comes to whether it is among the addresses from the i-th on
 --     look_begin .. look_less     the loop's steps
 -- Assumes nothing.
-use Prim.Native.Nat.{ℕ, zero, suc, ◌+◌, ◌-◌, ◌<◌, ◌≤◌}
+use Prim.Native.Nat.{ℕ, suc, ◌+◌, ◌-◌, ◌<◌, ◌≤◌}
 use mathlib.Core.Path.{◌≡◌, refl, sym, ap, ◌∙◌}
-use mathlib.Core.Bool.{Bool, true, false, ◌||◌, or_assoc, or-false}
+use mathlib.Core.Bool.{Bool, true, false, ◌||◌}
 use mathlib.Core.List.{List, [], ◌∷◌}
 use native.Mathlib.Numerals.{add-one}
 use native.Mathlib.Omega.{arith}
 use borrow.Author.Rules.{rules}
-use lib.Dec.{eqb}
-use lib.ListN.{length, get_or, take, drop, length-drop, length-take, drop_of_length-le}
-use lib.Seq.{drop-cons, drop-drop, length-take-le}
+use lib.ListN.{length, get_or, take, drop, length-drop, drop_of_length-le}
+use lib.Seq.{drop-cons, drop-drop}
 use Rattle.octets.specs.Octets.{same_octets}
-use Rattle.octets.specs.Finding.{holds, length_before, Skipped}
-use Rattle.octets.proofs.Lists.{drop_done}
-use Rattle.octets.proofs.Finding.{by, before_short, Skipping, skip_begin, skip_next, skip_stop, skip_end}
-use Rattle.tags.specs.Tags.{tag_of, in_first}
+use Rattle.octets.specs.Finding.{length_before}
+use Rattle.octets.proofs.Finding.{by, before_short}
+use Rattle.tags.specs.Tags.{tag_of}
 use Rattle.address.specs.Address.{canonical, is_canonical}
 use Rattle.address.proofs.Spelling.{canonical_same}
 use Rattle.addresslist.specs.List.{among}
@@ -26,42 +23,6 @@ use Rattle.roll.specs.Roll.{unrolled}
 use Rattle.roll.specs.Index.{tags_of, address_at, Indexed}
 use Rattle.roll.proofs.Rolls.{Opens, opens}
 use Rattle.roll.proofs.Index.{tags_length, tags_drop, places_length, place_of, tags_pass}
-
--- a number among the first n, and among the rest
-first_part : (x : ℕ) (s : List ℕ) (n : ℕ) → n ≤ length s → holds x s ≡ (in_first x s n || holds x (drop n s))
-unfolding in_first holds
-first_part x s zero l = refl
-first_part x s (suc n) l =
-    first_part x s n (omega arith)
-    ∙ rw (drop-cons s n 0 (omega arith)) (sym (or_assoc (in_first x s n) (eqb (get_or s n 0) x) (holds x (drop (suc n) s))))
-
-first_whole : (x : ℕ) (s : List ℕ) (n : ℕ) → length s ≡ n → in_first x s n ≡ holds x s
-unfolding holds
-first_whole x s n e = sym (first_part x s n (omega arith) ∙ rw (drop_done s n (omega arith), or-false))
-
-module _ (tag : ℕ) (tags : List ℕ) (at width i : ℕ) (h : Skipping tag tags at i) (b : Bool) where
-  part_whole : width ≤ length tags - i → length (take (i + width - i) (drop i tags)) ≡ width
-  part_whole l = length-take-le (i + width - i) (drop i tags) (omega (arith, length-drop i tags)) ∙ omega arith
-
-  in_piece :
-      b ≡ in_first tag (take (i + width - i) (drop i tags)) width → width ≤ length tags - i
-      → b ≡ holds tag (take (i + width - i) (drop i tags))
-  in_piece e l = e ∙ first_whole tag (take (i + width - i) (drop i tags)) width (part_whole l)
-
-  pub pass_stop :
-      b ≡ true → b ≡ in_first tag (take (i + width - i) (drop i tags)) width → width ≤ length tags - i → Skipped tag tags at width i
-  pass_stop q e l = skip_stop tag tags at width i h b q (in_piece e l)
-
-  pub pass_on :
-      b ≡ false → b ≡ in_first tag (take (i + width - i) (drop i tags)) width → width ≤ length tags - i
-      → Skipping tag tags at (i + width)
-  pass_on q e l = skip_next tag tags at width i h b q (in_piece e l) l
-
--- a piece has as many tags as are asked for
-pub pass_room : (tags : List ℕ) (i width : ℕ) → width ≤ length tags - i → width ≤ length (take (i + width - i) (drop i tags))
-pass_room tags i width l = simp (length-take, length-drop) (omega arith)
-
-pub ruleset passing = (skip_begin, pass_room, pass_stop, pass_on, skip_end, rules)
 
 -- the address that begins at a place ends at `to`
 module _ (roll : List ℕ) (place to : ℕ) (e : to ≡ place + length_before 0 (drop place roll)) where

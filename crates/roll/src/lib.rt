@@ -6,7 +6,7 @@
 ghost use Rattle.std.specs.Prelude.{◌+◌, ◌≤◌, ◌<◌, ◌≡◌, true, [], ◌∷◌, length, drop};
 ghost use Rattle.octets.specs.Octets.{same_octets};
 ghost use Rattle.octets.specs.Options.{is_some};
-ghost use Rattle.octets.specs.Finding.{length_before, Skipped};
+ghost use Rattle.octets.specs.Finding.{length_before};
 ghost use Rattle.tags.specs.Tags.{tag_of};
 ghost use Rattle.utf8.specs.Steps.{all_ascii};
 ghost use Rattle.address.specs.Address.{plain, canonical, is_canonical};
@@ -106,31 +106,12 @@ fn add_readable(
     }
 }
 
-// From the index `at` on, skips pieces of `width` tags without the one that is wanted, up to where it or the end is less
-// than `width` tags away.
-fn skip(tags: &[u32], at: usize, width: usize, tag: u32) -> usize
-    requires { (0 < width) × (at ≤ length tags.now) }
-    ensures { Skipped tag tags.now at width result }
-{
-    let mut i = at;
-    while width <= tags.len() - i {
-        if tags::is_among(&tags[i..i + width], width, tag) {
-            return i;
-        }
-        i += width;
-    }
-    i
-}
-
-// The index of the next such tag from an index on, or the end. Most tags before it are skipped by 64, of the rest most by 8:
-// no way leads out of a piece, so that it compiles to vector instructions.
+// The index of the next such tag from an index on, or the end. Most tags before it are skipped by 64.
 fn next_tag(tags: &[u32], from: usize, tag: u32) -> usize
     requires { from ≤ length tags.now }
     ensures { result ≡ from + length_before tag (drop from tags.now) }
 {
-    let near = skip(tags, from, 64, tag);
-    let nearer = skip(tags, near, 8, tag);
-    skip(tags, nearer, 1, tag)
+    octets::first_from::<u32, 64>(tags, from, tag)
 }
 
 // Is the address that begins at a place the one that is wanted?
