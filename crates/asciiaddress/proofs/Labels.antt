@@ -1,17 +1,14 @@
 -- The domain: what a loop knows that reads it label by label.
 --     labels                        a label is a run of its octets with a label's length and ends; a dot (46) is no such octet
---     shape_none .. shape_ends      the answers on a run; a hyphen is 45
 --     Labels s at i                 whether a domain stands from `at` on comes to whether one stands from i on
 --     labels_begin .. labels_end    the loop's steps
 -- Assumes nothing.
 use Prim.Native.Nat.{ℕ, ◌+◌, ◌-◌, ◌<◌, ◌≤◌}
 use mathlib.Core.Path.{◌≡◌, refl, sym, ◌∙◌}
-use mathlib.Core.Bool.{Bool, true, false, not, ◌&&◌, and_assoc, and_comm, and-false}
+use mathlib.Core.Bool.{Bool, true, false, ◌&&◌, and_assoc, and_comm}
 use mathlib.Core.List.{List, append-nil}
 use native.Mathlib.Omega.{arith}
 use borrow.Author.Rules.{rules}
-use borrow.Author.Tests.{le-leb, lt-leb}
-use lib.Dec.{eqb}
 use lib.ListN.{length, get_or, take, drop}
 use Rattle.octets.proofs.Lists.{drop_one, drop_done}
 use Rattle.octets.specs.Tests.{every, one_to}
@@ -32,21 +29,6 @@ is_label p =
 pub labels : Cut (belongs Label) 46 ascii_label label_shape
 unfolding belongs
 labels = record { out = refl; is = is_label }
-
-module _ (p : List ℕ) where
-  pub shape_none : length p ≡ 0 → false ≡ label_shape p
-  unfolding label_shape
-  shape_none e = rw e
-
-  pub shape_long : 63 < length p → false ≡ label_shape p
-  unfolding label_shape
-  shape_long l = rw (lt-leb (length p) 63 l, and-false)
-
-  pub shape_ends : (length p ≡ 0 → ⊥) → length p ≤ 63 → (not (eqb (get_or p 0 0) 45) && not (eqb (get_or p (length p - 1) 0) 45)) ≡ label_shape p
-  unfolding label_shape free_ends
-  shape_ends n l = rw (le-leb 1 (length p) (omega arith), le-leb (length p) 63 l)
-
-pub ruleset shaping = (shape_none, shape_long, shape_ends, rules)
 
 pub record Labels (s : List ℕ) (at i : ℕ) : Type 0 where
   pub so_far : ascii_domain (drop at s) ≡ ascii_domain (drop i s)

@@ -10,7 +10,6 @@ use mathlib.Core.Path.{◌≡◌, refl, sym, ◌∙◌}
 use mathlib.Core.Bool.{Bool, true, ◌&&◌, and_assoc, and-true}
 use mathlib.Core.List.{List, [], ◌∷◌, ◌++◌}
 use native.Mathlib.Omega.{arith}
-use borrow.Author.Rules.{rules}
 use lib.ListN.{length, get_or, drop}
 use Rattle.octets.specs.Tests.{every}
 use Rattle.octets.proofs.Lists.{drop_one, drop_done}
@@ -49,5 +48,3 @@ module _ (test : ℕ → Bool) (s : List ℕ) where
     pub passed_end : length s ≤ i → all ≡ every test s
     unfolding every
     passed_end l = sym (h.so_far ∙ rw (drop_done s i l) (and-true all))
-
-pub ruleset testing = (passed_begin, passed_next, passed_end, rules)

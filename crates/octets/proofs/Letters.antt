@@ -3,7 +3,7 @@
 --     lower_is, lowered_is                       the library's word for it
 --     by_case                                    what holds of an octet in lower case, by where the octet lies
 --     lower_twice, lowered_twice                 what is in lower case stays as it is
---     lower_octet, lowered_octets                an octet stays one
+--     lower_octet                                an octet stays one
 --     length_lowered, get_d_lowered              a list's length stays, and each element is lower-cased
 -- Assumes nothing.
 use Prim.Native.Nat.{ℕ, ◌+◌, ◌<◌, ◌≤◌}
@@ -15,7 +15,7 @@ use Rattle.std.proofs.lemmas.Bool.Decides.{nat_tests}
 use native.Mathlib.Omega.{arith}
 use borrow.Author.Tests.{le-leb, lt-leb}
 use lib.ListN.{length, get_or, length-map, get_or-map}
-use Rattle.octets.specs.Octets.{AllOctets, lower, lowered}
+use Rattle.octets.specs.Octets.{lower, lowered}
 use Rattle.octets.proofs.Lists.{lt_or_le}
 
 pub lower_below : (x : ℕ) → x < 65 → x ≡ lower x
@@ -70,6 +70,3 @@ length_lowered s = length-map s lower
 pub get_d_lowered : (s : List ℕ) (i : ℕ) → get_or (lowered s) i 0 ≡ lower (get_or s i 0)
 unfolding lower lowered
 get_d_lowered s i = get_or-map lower s i 0
-
-pub lowered_octets : (s : List ℕ) → AllOctets s → AllOctets (lowered s)
-lowered_octets s h i = rw get_d_lowered (lower_octet (get_or s i 0) (h i))

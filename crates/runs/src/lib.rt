@@ -60,7 +60,10 @@ fn atom(x: u8) -> bool
 fn label(x: u8) -> bool
     ensures { result ≡ belongs Class.Label x }
 {
-    x.is_ascii_lowercase() || x.is_ascii_uppercase() || x.is_ascii_digit() || x == b'-'
+    if x.is_ascii_lowercase() {
+        return true;
+    }
+    x.is_ascii_uppercase() || x.is_ascii_digit() || x == b'-'
 }
 
 #[tactic(auto, unfolding(crate::specs::Runs::belongs), using(std::proofs::lemmas::Bool::Decides::nat_tests))]
