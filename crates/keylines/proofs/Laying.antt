@@ -1,6 +1,10 @@
 -- Writing a key as lines.
---     encode_three, encode_parts    the characters of octets in front of others, where the groups end between them
---     lines_parts                   the lines of octets in front of others, where a line ends between them
+--     encode_whole, encode_parts   the characters of octets in front of others, where the groups end between them
+--     laid_whole, laid_last        a line's characters in front of others, and the last line's
+--     lines_parts                  the lines of octets in front of others, where a line ends between them
+--     Going, going_begin .. going_whole    a text that is written from a place on, but for its end
+--     line_begin .. ending_put     `write_line`
+--     line_room .. lines_end       `write_lines`
 -- Assumes nothing.
 use Rattle.std.proofs.Common.{◌≡◌, ℕ, zero, suc, ◌+◌, ◌%◌, ◌<◌, ◌≤◌, min, List, [], ◌∷◌, ◌++◌, length, refl, sym, ap, ◌∙◌, arith, append_assoc, append-nil, length-append, set, inl, inr}
 use Rattle.std.proofs.lemmas.List.{nil_from_length}
