@@ -52,8 +52,8 @@ fn least(points: &[u32], n: u64) -> Option<u64>
         .min()
 }
 
-// One code point of a pass: one below n is a place more, n itself is written, and one above n has no place yet. Where there
-// is no room, there is no way on.
+// One code point of a pass: one below n is a place more, n itself is written, and one above n has no place yet. Where
+// there is no room, there is no way on.
 #[tactic(auto, using(crate::proofs::Passing::turning))]
 fn turn(out: &mut [u8], c: u64, n: u64, b: u64, s: Coder) -> Option<Coder>
     requires { Ready (length out.old) 1 s }

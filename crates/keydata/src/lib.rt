@@ -33,8 +33,9 @@ fn put(out: &mut [u8], at: usize, octets: &[u8])
     }
 }
 
-// Writes the octets of the groups from the place `at` on, behind blanks, to the places from `to` on, as long as each group is
-// four letters side by side. What has no room is only counted, by a loop of its own, so that the first is the faster.
+// Writes the octets of the groups from the place `at` on, behind blanks, to the places from `to` on, as long as each
+// group is four letters side by side. What has no room is only counted, by a loop of its own: with its test in the
+// first, that one takes half as long again.
 #[tactic(auto, using(crate::proofs::Filling::grouping))]
 fn write_groups(table: &[u8; 256], src: &[u8], at: usize, out: &mut [u8], to: usize) -> BothReached
     requires { Signs table.now × (at ≤ length src.now) × (to ≤ at) }
@@ -57,8 +58,8 @@ fn write_groups(table: &[u8; 256], src: &[u8], at: usize, out: &mut [u8], to: us
     BothReached { read: i, wrote: o }
 }
 
-// Writes the octets of the text to the beginning of `out` while reading it, and answers how many there are. What has no room is
-// left out and counted all the same: so who only asks whether the text is Base64 lends no room.
+// Writes the octets of the text to the beginning of `out` while reading it, and answers how many there are. What has no
+// room is left out and counted all the same: so who only asks whether the text is Base64 lends no room.
 #[tactic(auto, using(crate::proofs::Filling::filling))]
 fn write(table: &[u8; 256], src: &[u8], out: &mut [u8]) -> Option<usize>
     requires { Signs table.now }

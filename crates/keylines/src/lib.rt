@@ -48,7 +48,8 @@ fn four_of(letters: &[u8; 64], group: &[u8]) -> [u8; 4]
     }
 }
 
-// Writes octets as one line from the place `at` on: a space, their characters, CR and LF. The answer is the place behind.
+// Writes octets as one line from the place `at` on: a space, their characters, CR and LF. The answer is the place
+// behind.
 fn write_line(letters: &[u8; 64], octets: &[u8], out: &mut [u8], at: usize) -> usize
     requires { Letters letters.now × (at + length (line_of octets.now) ≤ length out.old) }
     ensures value { result ≡ at + length (line_of octets.now) }
@@ -64,8 +65,8 @@ fn write_line(letters: &[u8; 64], octets: &[u8], out: &mut [u8], at: usize) -> u
     o + 2
 }
 
-// Writes a key as the lines of a field from the place `at` on, and answers the place behind them. A whole line has 57 octets,
-// which are 76 characters (W4).
+// Writes a key as the lines of a field from the place `at` on, and answers the place behind them. A whole line has 57
+// octets, which are 76 characters (W4).
 pub fn write_lines(key: &[u8], out: &mut [u8], at: usize) -> usize
     requires { at + length (lines (encode key.now)) ≤ length out.old }
     ensures value { result ≡ at + length (lines (encode key.now)) }
