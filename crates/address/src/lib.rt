@@ -10,14 +10,12 @@ ghost use Rattle.asciiaddress.specs.Answers.{local_of};
 ghost use Rattle.address.specs.Address.{plain, canonical as canonical_of, is_canonical};
 ghost use Rattle.address.specs.Answers.{MayWrite, PutsLabels, form_of, Fronts, written_of, onto_if_fits};
 
-
 // How many octets a canonical form may have (L6).
 pub const LONGEST: usize = 254;
 
 // How many octets a plain address may have as it stands: its form has 254 at most, and an octet of it stands for a code point of
 // four at most.
 const LONGEST_GIVEN: usize = 1016;
-
 
 // Writes what `put` writes of each of the labels that stand from the place `from` on, with the dots between them: forms, or
 // what is shown.

@@ -31,7 +31,6 @@ pub enum NextAddress {
     Unreadable,
 }
 
-
 // Where the one address stands of a list that has no other.
 #[derive(Clone, Copy)]
 pub struct OnlyAddress {

@@ -20,7 +20,6 @@ const LONGEST_LOCAL: usize = 64;
 // How many octets such a label may have: as many as its form (L7, T16).
 const LONGEST_LABEL: usize = 63;
 
-
 // The local part that `s` opens with and an `@` follows: atoms with a dot between two of them (L6).
 #[tactic(auto, using(crate::proofs::Atoms::reading_atoms))]
 pub fn local_part(s: &[u8]) -> Option<usize>

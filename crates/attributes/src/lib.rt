@@ -38,7 +38,6 @@ enum Attribute {
     Spoiling,
 }
 
-
 // What a piece comes to: the reading goes on with the address and the preference seen so far, it is at the key data (F8), or
 // the field is spoiled.
 #[derive(Clone, Copy)]
@@ -136,7 +135,12 @@ fn attribute_at(s: &[u8], from: usize, to: usize) -> Attribute
 
 // The address: once, and a plain one (F6).
 #[tactic(auto, using(crate::proofs::Stepping::addressing))]
-fn with_address(s: &[u8], at: Bounds, address: Option<Bounds>, preference: Option<bool>) -> NextPiece
+fn with_address(
+    s: &[u8],
+    at: Bounds,
+    address: Option<Bounds>,
+    preference: Option<bool>,
+) -> NextPiece
     requires { Within s.now at.from at.to }
     ensures { Steps s.now result
         (with_address (address_at s.now address) preference (part s.now at.from at.to)) }

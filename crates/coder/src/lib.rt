@@ -8,7 +8,6 @@ ghost use Rattle.octets.specs.Puts.{Puts};
 ghost use Rattle.punycode.specs.Punycode.{below, integer, numbers, encode as encode_of};
 ghost use Rattle.coder.specs.Steps.{Ready, Turned, Passes, Able, Rounded, Points, Begins, delimiter_at};
 
-
 // How far the coder is: what the next number comes to so far, its bias, how many code points are written, and the place
 // behind what was written.
 #[derive(Clone, Copy)]

@@ -20,7 +20,6 @@ struct PartRead {
     to: usize,
 }
 
-
 // The token that is to stand at a place of a date, from the place `at` of the text on.
 #[tactic(auto, using(crate::proofs::Reading::nexts))]
 fn next(s: &[u8], at: usize, what: Place) -> Option<PartRead>

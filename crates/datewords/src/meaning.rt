@@ -24,7 +24,6 @@ pub enum Place {
     West,
 }
 
-
 // The number that one digit stands for.
 #[tactic(auto, using(crate::proofs::Digits::one_digit))]
 fn digit(x: u8) -> Option<u64>

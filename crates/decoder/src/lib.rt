@@ -8,8 +8,6 @@ ghost use Rattle.utf8.specs.Utf8.{scalar};
 ghost use Rattle.punycode.specs.Punycode.{runs, decode as decode_of};
 ghost use Rattle.decoder.specs.Steps.{Front, behind_of, Lands, Landed, Steps, Stepped, Decodes};
 
-
-
 // How far the decoder is: the last code point that was put in, and the place behind it; the bias; what the number comes to
 // so far, what its next digit counts, and which digit that is; and how many code points there are.
 #[derive(Clone, Copy)]
@@ -134,11 +132,7 @@ fn read_rest(text: &[u8], out: &mut [u32], b: usize) -> Option<usize>
     for &c in text {
         s = read_one(&mut *out, c, s)?;
     }
-    if s.k == 36 {
-        Some(s.len)
-    } else {
-        None
-    }
+    if s.k == 36 { Some(s.len) } else { None }
 }
 
 // The code points that a text stands for, at the beginning of `out` (L23). There are never more of them than octets.

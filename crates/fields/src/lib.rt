@@ -47,7 +47,6 @@ pub struct Survey {
     pub recipients: Span,
 }
 
-
 // Is a field of this name asked for? Names have no case (B11).
 #[tactic(auto, unfolding(crate::specs::Fields::is_kind))]
 pub fn is_kind(name: &[u8], kind: Kind) -> bool

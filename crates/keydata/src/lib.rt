@@ -15,7 +15,6 @@ ghost use Rattle.keydata.specs.Steps.{Run, Wrote};
 use groups::Next;
 use runs::Class;
 
-
 // How far a text has been read, and the place behind its octets.
 #[derive(Clone, Copy)]
 struct BothReached {
@@ -106,11 +105,7 @@ pub fn decode(src: &[u8], out: &mut [u8]) -> Option<usize>
     let Some(n) = write(&letters::signs(), src, out) else {
         return None;
     };
-    if n <= room {
-        Some(n)
-    } else {
-        None
-    }
+    if n <= room { Some(n) } else { None }
 }
 
 // Is the text Base64, with spaces and tabs anywhere, of whatever length?

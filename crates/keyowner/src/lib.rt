@@ -11,7 +11,6 @@ ghost use Rattle.roll.specs.Roll.{unrolled};
 ghost use Rattle.keyowner.specs.Owners.{accepted_for};
 ghost use Rattle.keyowner.specs.Answers.{OwnAs, Accepts, AcceptedAs};
 
-
 // What a field of the sender brings: its preference, and the length of its key.
 #[derive(Clone, Copy)]
 pub struct OwnKey {

@@ -15,7 +15,6 @@ use lookover::{Looked, Side};
 use refusals::Refusal;
 use slots::Slot;
 
-
 // Room for the values of most mails. Room has to be cleared before it is lent.
 const SHORT: usize = 8192;
 
@@ -155,7 +154,11 @@ fn lint_walked(
 
 // All refusals, with room for `N` octets of a value.
 #[tactic(auto, using(crate::proofs::Calling::opening))]
-fn lint_with<const N: usize>(outer: &[u8], payload: &[u8], list: &mut [u32]) -> Result<usize, Refusal>
+fn lint_with<const N: usize>(
+    outer: &[u8],
+    payload: &[u8],
+    list: &mut [u32],
+) -> Result<usize, Refusal>
     requires { Roomy outer.now payload.now N }
     ensures value { result ≡ linted_of outer.now payload.now (length list.old) }
     ensures list_after { list.new ≡ left_by_linting outer.now payload.now list.old }

@@ -37,7 +37,13 @@ fn holds(slot: &[u8], address: &[u8]) -> bool
 // The lowest of the first `n` slots that holds the address (T12): tags are compared before addresses, and the first equal
 // address leads out of the scan.
 #[tactic(auto, using(crate::proofs::Searching::searching))]
-fn search(table: &[u8], tags: &[u32; Slot::MOST], address: &[u8], tag: u32, n: usize) -> Option<usize>
+fn search(
+    table: &[u8],
+    tags: &[u32; Slot::MOST],
+    address: &[u8],
+    tag: u32,
+    n: usize,
+) -> Option<usize>
     requires { Seeks table.now tags.now address.now tag n }
     ensures { result ≡ lowest (has_address address.now) table.now 0 n }
 {

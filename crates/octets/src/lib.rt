@@ -11,7 +11,6 @@ ghost use Rattle.octets.specs.Finding.{length_before, Skipped};
 ghost use Rattle.octets.specs.Numbers.{number, digits};
 ghost use Rattle.octets.specs.Written.{put_at};
 
-
 // Is it a space or a tab (L1)?
 #[tactic(auto, unfolding(crate::specs::Octets::blank))]
 pub fn is_blank(x: u8) -> bool

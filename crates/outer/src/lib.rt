@@ -13,7 +13,6 @@ ghost use Rattle.outer.specs.Answers.{sender_of, left_by_sender};
 
 use fields::{Kind, Survey};
 
-
 // Writes the sender's canonical address to the front of `out` (U3).
 #[tactic(auto, using(crate::proofs::Senders::sending))]
 pub fn sender_of(block: &[u8], survey: Survey, text: &mut [u8], out: &mut [u8]) -> Option<usize>

@@ -11,9 +11,9 @@ ghost use Rattle.delivery.specs.Delivery.{room_rows, delivered};
 ghost use Rattle.process.specs.Processing.{refused_processing, left_by_processing};
 ghost use Rattle.process.specs.Stages.{is_short, Roomy, Readied};
 
-use refusals::Refusal;
 use fields::Survey;
 use message::{Brought, Reading};
+use refusals::Refusal;
 use settings::{Gossip, Settings};
 use slots::Slot;
 

@@ -6,7 +6,6 @@ ghost use Rattle.std.specs.Prelude.{◌^◌, ◌<◌, ◌≡◌};
 ghost use Rattle.punycode.specs.Punycode.{digit as digit_of, value as value_as, adapt as adapt_of};
 ghost use Rattle.punycode.specs.Steps.{Threshold, Halved};
 
-
 // The octet of a digit.
 #[tactic(auto, unfolding(crate::specs::Punycode::digit))]
 pub fn digit(v: u64) -> u8

@@ -14,7 +14,6 @@ use advice::{Advice, Part};
 use refusals::Refusal;
 use slots::Slot;
 
-
 // That answer, and how many recipients were looked up for it, 0 with a refusal (A12, A13).
 #[derive(Clone, Copy)]
 pub struct Quick {
@@ -119,7 +118,12 @@ fn uncounted(refusal: Refusal) -> Quick
 // true for a reply to an encrypted mail. For the whole list the lowest advice of its recipients is answered (A5), from low
 // to high: disable, discourage, available, encrypt. The refusals, in the order of testing: 1 and 2 for the table, as in
 // `check`, and 10 where the list is unreadable, or gives no address or more than 100 (R10). The table is not written.
-pub fn recommend(table: &[u8], recipients: &[u8], mutual: bool, reply: bool) -> Result<Advice, Refusal>
+pub fn recommend(
+    table: &[u8],
+    recipients: &[u8],
+    mutual: bool,
+    reply: bool,
+) -> Result<Advice, Refusal>
     ensures { result ≡ recommended_of table.now recipients.now «mutual» reply }
 {
     let quick = recommend_quick(table, recipients, mutual, reply);

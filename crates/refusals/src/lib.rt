@@ -22,7 +22,6 @@ pub enum Refusal {
     OutputLength,
 }
 
-
 // A refusal has the number of its rule, R1 to R12.
 impl From<Refusal> for u32 {
     ghost from_gives = { λ refusal n. n ≡ number_of refusal };

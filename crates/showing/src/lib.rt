@@ -12,7 +12,6 @@ ghost use Rattle.address.specs.Answers.{written_of, onto_if_fits};
 ghost use Rattle.showing.specs.Showing.{same_form, shown_by, shown, displayed};
 ghost use Rattle.showing.specs.Answers.{text_of, either_of, shown_form};
 
-
 // How many octets the form of a label may have (L7).
 const LONGEST_LABEL: usize = 63;
 

@@ -24,7 +24,6 @@ pub enum Checked {
     Slot(usize),
 }
 
-
 // How many whole slots there are (T1).
 #[tactic(auto, unfolding(crate::specs::Table::slots))]
 pub fn count(table: &[u8]) -> usize

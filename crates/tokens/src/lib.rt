@@ -27,7 +27,6 @@ enum StepIn {
     Stops,
 }
 
-
 // Is it an octet below 32, or 127, the tab excepted (L1)?
 #[tactic(auto, unfolding(crate::specs::Tokens::control))]
 pub fn is_control(x: u8) -> bool

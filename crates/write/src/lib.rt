@@ -8,10 +8,15 @@ ghost use Rattle.write.specs.Writing.{written_of, left_by_writing};
 use refusals::Refusal;
 use slots::Slot;
 
-
 // Both writers: they differ in the field's name and in who may state a preference (W3).
 #[tactic(auto, using(crate::proofs::Writing::writing), unfolding(crate::specs::Writing::writing_rows, crate::specs::Writing::refused_writing, crate::specs::Writing::written_of, crate::specs::Writing::left_by_writing))]
-fn write(name: &[u8], address: &[u8], mutual: bool, key: &[u8], out: &mut [u8]) -> Result<usize, Refusal>
+fn write(
+    name: &[u8],
+    address: &[u8],
+    mutual: bool,
+    key: &[u8],
+    out: &mut [u8],
+) -> Result<usize, Refusal>
     requires { length name.now ≤ 256 }
     ensures value { result ≡ written_of name.now address.now «mutual» key.now (length out.old) }
     ensures out_after { out.new ≡ left_by_writing name.now address.now «mutual» key.now out.old }
@@ -34,7 +39,12 @@ fn write(name: &[u8], address: &[u8], mutual: bool, key: &[u8], out: &mut [u8]) 
 // (W4). What `out` holds behind the field stays as it was (W6). The refusals, in the order of testing: 9 where `address`
 // is not a plain address and nothing else (R9), 11 where `key` has no octet or more than 2,048 (R11), 12 where `out` is
 // shorter than the field (R12). Then `out` stays as it was (R32). An `out` of 3,200 octets is always long enough (W6).
-pub fn write_autocrypt(address: &[u8], key: &[u8], mutual: bool, out: &mut [u8]) -> Result<usize, Refusal>
+pub fn write_autocrypt(
+    address: &[u8],
+    key: &[u8],
+    mutual: bool,
+    out: &mut [u8],
+) -> Result<usize, Refusal>
     ensures value { result ≡ written_of autocrypt_name address.now «mutual» key.now (length out.old) }
     ensures out_after { out.new ≡ left_by_writing autocrypt_name address.now «mutual» key.now out.old }
 {

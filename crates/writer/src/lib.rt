@@ -9,7 +9,6 @@ ghost use Rattle.address.specs.Answers.{written_of, onto_if_fits};
 ghost use Rattle.writer.specs.Writing.{preference, field_text, written};
 ghost use Rattle.writer.specs.Steps.{opening, attributes};
 
-
 // What stands between the parts that a caller gives (W2).
 const ADDR: [u8; 7] = *b": addr=";
 
@@ -111,7 +110,13 @@ fn fit_field(name: &[u8], address: &[u8], mutual: bool, key: &[u8], out: &mut [u
 
 // Writes the field of an address, which it puts into canonical form (W5), to the front of `out`, where it fits (W6).
 #[tactic(auto, using(crate::proofs::Fitting::forming), unfolding(crate::specs::Writing::written))]
-pub fn write_field(name: &[u8], address: &[u8], mutual: bool, key: &[u8], out: &mut [u8]) -> Option<usize>
+pub fn write_field(
+    name: &[u8],
+    address: &[u8],
+    mutual: bool,
+    key: &[u8],
+    out: &mut [u8],
+) -> Option<usize>
     requires { (length name.now ≤ 256) × (plain address.now ≡ true) }
     ensures value { result ≡ written_of (written name.now address.now «mutual» key.now) (length out.old) }
     ensures out_after { out.new ≡ onto_if_fits
