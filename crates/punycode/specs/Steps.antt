@@ -2,7 +2,6 @@
 --     Threshold    a threshold, with its bounds
 --     Halved       what adapting begins with
 use Rattle.std.specs.Prelude.{ℕ, ◌/◌, ◌≤◌, ◌≡◌, Bool, cond}
-use Rattle.std.specs.Prelude.{Option, Some, None}
 use Rattle.punycode.specs.Punycode.{threshold, damp}
 
 pub record Threshold (k bias r : ℕ) : Type 0 where
