@@ -1,4 +1,4 @@
-"""The documents name only what exists. These forms are read, in docs/ but for docs/PORT.md, in the README and in CONTRIBUTING:
+"""The documents name only what exists. These forms are read, in docs/ but for PORT.md and DESIGN-PASS.md, in the README and in CONTRIBUTING:
 
     places      crate/specs/File, crate/proofs/File, tests/..: the file or folder is there (`.antt` may be left out)
     parts       `crate/proofs/File: a`; `crate/proofs/File`: `a`, `b`; `a` of `crate/proofs/File`; `a`, `b` (`crate/specs/File`); and
@@ -22,8 +22,9 @@ from pathlib import Path
 
 ROOT = Path(__file__).resolve().parents[2]
 CRATES = sorted(path.name for path in (ROOT / "crates").iterdir() if path.is_dir())
-BESIDE = ROOT / "docs/PORT.md"  # has the names of before beside those of today, as docs/changes/ has the names of its time
-DOCS = [*sorted({*(ROOT / "docs").glob("*.md")} - {BESIDE}), ROOT / "README.md", ROOT / "CONTRIBUTING.md"]
+# these have the names of before beside those of today, as docs/changes/ has the names of its time
+BESIDE = [ROOT / "docs/PORT.md", ROOT / "docs/DESIGN-PASS.md"]
+DOCS = [*sorted({*(ROOT / "docs").glob("*.md")} - set(BESIDE)), ROOT / "README.md", ROOT / "CONTRIBUTING.md"]
 SOURCES = ("crates", "include", "python", "tests", "bench", "tools")
 FOREIGN = {"EmailPolicy", "day-name", "py3-none-PLATFORM", "rattle-kit-13f", "x86_64"}
 
