@@ -84,9 +84,13 @@ fn convert_old(table: &mut [u8]) -> Result<(), Refusal>
     ensures table_after { table.new ≡ left_by_converting table.old }
 {
     let mut tags = [0u32; Slot::MOST];
-    inspect::open_by(table, &mut tags, Spelling::Ascii)?;
-    convert_slots(table, &mut tags);
-    Ok(())
+    match inspect::open_by(table, &mut tags, Spelling::Ascii) {
+        Ok(()) => {
+            convert_slots(table, &mut tags);
+            Ok(())
+        }
+        Err(refusal) => Err(refusal),
+    }
 }
 
 // Brings a table to the canonical form of addresses that is in force (T16). It takes a table that was sound while only

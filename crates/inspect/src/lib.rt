@@ -58,10 +58,14 @@ pub fn entry(table: &[u8], slot: usize, numbers: &mut [u64]) -> Result<(), Refus
     ensures value { result ≡ answer_of (refused_showing table.now (length numbers.old)) }
     ensures numbers_after { numbers.new ≡ left_by_showing table.now slot numbers.old }
 {
-    check(table)?;
-    if numbers.len() < entry::SHOWN {
-        return Err(Refusal::OutputLength);
+    match check(table) {
+        Ok(()) => {
+            if numbers.len() < entry::SHOWN {
+                return Err(Refusal::OutputLength);
+            }
+            entry::tell(table, slot, numbers);
+            Ok(())
+        }
+        Err(refusal) => Err(refusal),
     }
-    entry::tell(table, slot, numbers);
-    Ok(())
 }

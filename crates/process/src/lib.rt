@@ -177,6 +177,8 @@ pub fn process(
     ensures table_after { table.new ≡ left_by_processing table.old receipt outer.now payload.now gossip }
 {
     let mut tags = [0u32; Slot::MOST];
-    inspect::open_table(table, &mut tags)?;
-    process_open(table, &mut tags, receipt, outer, payload, gossip)
+    match inspect::open_table(table, &mut tags) {
+        Ok(()) => process_open(table, &mut tags, receipt, outer, payload, gossip),
+        Err(refusal) => Err(refusal),
+    }
 }

@@ -49,11 +49,15 @@ fn admit(table: &[u8], tags: &mut [u32; Slot::MOST], recipients: &[u8]) -> Resul
     requires { length tags.old ≡ most_slots }
     ensures { Admits table.now tags.new recipients.now result }
 {
-    inspect::open_table(table, tags)?;
-    if !is_recipient_list(recipients) {
-        return Err(Refusal::Recipients);
+    match inspect::open_table(table, tags) {
+        Ok(()) => {
+            if !is_recipient_list(recipients) {
+                return Err(Refusal::Recipients);
+            }
+            Ok(())
+        }
+        Err(refusal) => Err(refusal),
     }
-    Ok(())
 }
 
 // One walk over the list: is it one of 1 to 100 addresses (R10), and if so, what is advised for all of them (A5)?

@@ -2,10 +2,10 @@ use Rattle.inspect.specs.Inspecting.{refused_showing, showing_rows, left_by_show
 use Rattle.inspect.proofs.Showing.{showing}
 use Rattle.inspect.proofs.entry.Goals as goal
 
-pub returns-in_err-check-clause-value : goal.returns-in_err-check-clause-value
+pub returns-in-Err-clause-value : goal.returns-in-Err-clause-value
 unfolding refused_showing showing_rows
-returns-in_err-check-clause-value c = rw c.from_residual.ensures (search (c.in_err-check.was, showing))
+returns-in-Err-clause-value c = search showing
 
-pub returns-in_err-check-clause-numbers_after : goal.returns-in_err-check-clause-numbers_after
+pub returns-in-Err-clause-numbers_after : goal.returns-in-Err-clause-numbers_after
 unfolding refused_showing showing_rows left_by_showing
-returns-in_err-check-clause-numbers_after c = search (c.in_err-check.was, showing)
+returns-in-Err-clause-numbers_after c = search showing
