@@ -4,7 +4,8 @@
 --     field_long, nothing_there         it has none
 --     the ruleset                       writing, for `write`
 -- Assumes nothing.
-use Rattle.std.specs.Prelude.{Option, Some, None, Ok}
+use Rattle.std.specs.Prelude.{Option, Some, None, Result, Ok}
+use Rattle.refusals.specs.declared.Refusal.{Refusal}
 use Prim.Native.Nat.{ℕ, ◌<◌, ◌≤◌}
 use mathlib.Core.Path.{◌≡◌, sym, ap, ◌∙◌}
 use mathlib.Core.Bool.{Bool, true, false}
@@ -38,8 +39,8 @@ module _ (field d : List ℕ) (k : Option ℕ) (e : k ≡ fitted_of field (lengt
     pub field_fits : leb (length field) (length d) ≡ true
     field_fits = le-leb (length field) (length d) (written_length field (length d) m (sym q ∙ e)).1
 
-    pub field_done : Ok m ≡ Ok (length field)
-    field_done = ap Ok (written_length field (length d) m (sym q ∙ e)).0
+    pub field_done : ◌≡◌ {A = Result ℕ Refusal} (Ok m) (Ok (length field))
+    field_done = ap (λ (n : ℕ). Ok n) (written_length field (length d) m (sym q ∙ e)).0
 
     pub field_there : (out : List ℕ) → out ≡ onto_if_fits field d → out ≡ onto field d
     field_there out o = o ∙ onto_fits field d (written_length field (length d) m (sym q ∙ e)).1

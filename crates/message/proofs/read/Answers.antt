@@ -7,5 +7,5 @@ returns-then-receipt-gt-TIME_LIMIT c = search opening
 pub read_on-requires : goal.read_on-requires
 read_on-requires c = search opening
 
-pub returns-in-Unreadable : goal.returns-in-Unreadable
-returns-in-Unreadable c = search opening
+pub returns-in-None : goal.returns-in-None
+returns-in-None c = search opening
