@@ -44,7 +44,7 @@ advice_number Available = 3
 advice_number Encrypt = 4
 
 -- A1: 0 and the advice, or the number of the refusal, its index, and 0 for the advice
-unfoldable pub advice_in_numbers : Result Advice Refusal → Advice
+unfoldable pub advice_in_numbers : Result Kind Refusal → Advice
 advice_in_numbers (Ok a) = record { number = 0; index = 0; advice = advice_number a }
 advice_in_numbers (Err r) = record { number = number_of r; index = index_of r; advice = 0 }
 
