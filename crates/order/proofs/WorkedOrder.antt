@@ -223,7 +223,7 @@ younger_first = both_done younger younger_octets "bar" 2000 reads.1 older older_
 no_eight : (list : List (Result (Unit {0}) Refusal)) → list ≡ Ok tt ∷ (Ok tt) ∷ [] → Memᴰ (Err NoFreeSlot) list → ⊥
 no_eight list e i = ⊎_elim not_done (λ j. ⊎_elim not_done Memᴰ.not-nil (Memᴰ.cases_cons j)) (Memᴰ.cases_cons (rw e at i))
   where
-    not_done : Err NoFreeSlot ≡ Ok tt → ⊥
+    not_done : ◌≡◌ {A = Result (Unit {0}) Refusal} (Err NoFreeSlot) (Ok tt) → ⊥
     not_done q = let z : ◌≡◌ {A = ℕ} 0 1 = cc in omega arith
 
 -- a mail agrees with itself, and with any of another date
