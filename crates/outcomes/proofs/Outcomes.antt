@@ -6,7 +6,7 @@
 -- That each number is given exactly when its row holds and no row before it (C3) is `exactly` of refusals/proofs/Rows, for the rows of every call.
 -- Assumes nothing.
 use Rattle.std.specs.Prelude.{Result, Err}
-use Rattle.advice.specs.declared.Advice.{Advice}
+use Rattle.advice.specs.declared.Advice.{Advice as Advised}
 use Prim.Native.Nat.{ℕ}
 use mathlib.Core.Path.{◌≡◌, sym, ◌∙◌}
 use mathlib.Core.Bool.{Bool, false}
@@ -62,7 +62,7 @@ pub entry_unique : (table : List ℕ) (slot : ℕ) (numbers : List ℕ) (r q : R
     → AllOf (Entry table slot numbers r left) → AllOf (Entry table slot numbers q other) → (r ≡ q) × (left ≡ other)
 entry_unique table slot numbers r q left other = one_outcome _ _ r q left other
 
-pub recommend_unique : (table recipients : List ℕ) (is_mutual reply : Bool) (r q : Result Advice Refusal)
+pub recommend_unique : (table recipients : List ℕ) (is_mutual reply : Bool) (r q : Result Advised Refusal)
     → AllOf (Recommend table recipients is_mutual reply r) → AllOf (Recommend table recipients is_mutual reply q) → r ≡ q
 recommend_unique table recipients is_mutual reply r q = one_answer _ r q
 
