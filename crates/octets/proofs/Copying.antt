@@ -48,6 +48,8 @@ module _ (w d out : List ℕ) (at i : ℕ) (h : Copied w d out at i) where
   pub copy_end : length w ≤ i → out ≡ put_at d at w
   copy_end l = done_at w d out at (at + i) h.fits (rw (drop_done w i l) at h.so_far)
 
+pub ruleset copying = (copy_begin, copy_room, copy_next, copy_end, copy_kept, rules)
+
 -- the lower case of s: its length is that of s, and its octets are what a call answered
 pub small_begin : (s d : List ℕ) (at : ℕ) → at + length s ≤ length d → Copied (lowered s) d d at 0
 small_begin s d at h = copy_begin (lowered s) d at (rw length_lowered h)

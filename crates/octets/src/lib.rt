@@ -125,13 +125,15 @@ pub fn all<F: Fn(u8) -> bool>(s: &[u8], test: F) -> bool
     passed
 }
 
-// Writes `src` over `out` from the place `at` on.
-#[tactic(auto, using(crate::proofs::Writing::put_part))]
+// Writes `src` over `out` from the place `at` on. A loop, and not `copy_from_slice`: that becomes a call of `memmove`, and
+// the library calls nothing but `memcpy` and `memset`.
 pub fn put(out: &mut [u8], at: usize, src: &[u8])
     requires { at + length src.now ≤ length out.old }
     ensures { out.new ≡ put_at out.old at src.now }
 {
-    out[at..at + src.len()].copy_from_slice(src);
+    for (i, &x) in src.iter().enumerate() {
+        out[at + i] = x;
+    }
 }
 
 // Writes `src` into `out` from the place `at` on, its ASCII capitals as small letters (L8).
