@@ -1,6 +1,6 @@
 -- What the octets at one place are: the laws behind the functions that have no loop.
 --     next_octet                  the octet at a place, as the definitions have it
---     ends_lf, ends_other         octets of a line ending
+--     ends_lf, ends_cr, ends_other    octets of a line ending
 --     closes_lf, closes_other     the last octet of a field
 --     over_past, over_here        the end of a block
 --     follow_past, follow_here    what may follow the name of a type
@@ -32,6 +32,10 @@ module _ (x y : ℕ) where
   pub ends_other : (x ≡ lf → ⊥) → (x ≡ cr → ⊥) → false ≡ of_ending x y
   unfolding of_ending
   ends_other n m = rw (ne_eqb x lf n, ne_eqb x cr m)
+
+  pub ends_cr : (p : ℕ) → (x ≡ lf → ⊥) → x ≡ cr → p ≡ y → eqb p lf ≡ of_ending x y
+  unfolding of_ending
+  ends_cr p n e q = rw (ne_eqb x lf n, eq-eqb x cr e, q)
 
   pub closes_other : (x ≡ lf → ⊥) → false ≡ closes x y
   unfolding closes

@@ -1,14 +1,17 @@
 -- What a head says stands in its first 40 octets.
 --     head_first     the numbers
 --     clear_first    the octets that must be clear
+--     bits_read      the bits as a number
 -- Assumes nothing.
 use Prim.Native.Nat.{ℕ, ◌+◌, ◌-◌, ◌≤◌}
 use mathlib.Core.Path.{◌≡◌}
+use mathlib.Core.Bool.{cond}
 use mathlib.Core.List.{List}
 use native.Mathlib.Omega.{arith}
 use lib.ListN.{get_or, take, drop}
 use lib.Seq.{take-take, get_or-take}
-use Rattle.heads.specs.Head.{head_of, clear}
+use Rattle.heads.specs.declared.Head.{Head}
+use Rattle.heads.specs.Head.{head_of, clear, bits_of}
 use Rattle.heads.proofs.Parts.{drop_take}
 
 module _ (s : List ℕ) where
@@ -35,3 +38,9 @@ module _ (s : List ℕ) where
   pub clear_first : clear (take 40 s) ≡ clear s
   unfolding clear
   clear_first = rw (bits_first, part_first 5 3 (omega arith), part_first 36 4 (omega arith))
+
+pub bits_read : (n : Head) (a b c d : ℕ)
+    → (a ≡ cond n.seen 1 0) × (a ≤ 1) → (b ≡ cond n.direct 2 0) × (b ≤ 2) → (c ≡ cond n.gossip 4 0) × (c ≤ 4) → (d ≡ cond n.«mutual» 8 0) × (d ≤ 8)
+    → a + b + c + d ≡ bits_of n
+unfolding bits_of
+bits_read n a b c d ea eb ec ed = rw (ea.0, eb.0, ec.0, ed.0)
