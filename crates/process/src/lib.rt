@@ -149,7 +149,7 @@ fn process_open(
 // inside the decrypted mail, empty where there is none. `gossip` says whether gossip is taken: only with take is the payload
 // looked at (G1, G2).
 //
-// Where nothing is refused, the answer is `Done`. The sender then has an entry (U5): last seen is raised to the mail's
+// Where nothing is refused, the answer is `Ok`. The sender then has an entry (U5): last seen is raised to the mail's
 // date, and the key and preference of the field that counts, if there is one, are stored with that date, unless a younger
 // key was there (U6, U7, U8, U9). Each recipient whom accepted gossip is about has an entry with the key from there,
 // unless younger gossip was there (G5, G7). An address that is new takes the free slot with the lowest index (U4). The
@@ -164,7 +164,7 @@ fn process_open(
 //     7      gossip is taken, and the payload is unreadable (R7)
 //     8      the message needs more new entries than there are free slots (R8)
 // With a refusal the table stays as it was, octet by octet (R32). Parts of the table that were handed out before end where
-// the answer is `Done` (A11).
+// the answer is `Ok` (A11).
 #[tactic(auto, using(crate::proofs::Processing::processing))]
 pub fn process(
     table: &mut [u8],
