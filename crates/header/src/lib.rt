@@ -98,7 +98,10 @@ pub fn field_at(block: &[u8], at: usize) -> Step
         return Step::Over;
     }
     let name_end = name_end(block, at);
-    if name_end == at || peek(block, name_end) != b':' {
+    if name_end == at {
+        return Step::Broken;
+    }
+    if peek(block, name_end) != b':' {
         return Step::Broken;
     }
     let value = name_end + 1;

@@ -1,15 +1,16 @@
 -- Writing the octets of a text while it is read, and what is then answered.
 --     run_blanks, run_then      what is read and written: blanks, and one run behind another
---     three_run .. none_wrote   the octets that the text goes on with
+--     three_run .. over_wrote   the octets that the text goes on with, or that there are too many
 --     the rulesets              grouping for `write_groups`, filling for `write`
 -- Assumes nothing.
-use Prim.Native.Nat.{ℕ, ◌+◌, ◌<◌, ◌≤◌}
+use Prim.Native.Nat.{ℕ, ◌+◌, ◌^◌, ◌<◌, ◌≤◌}
 use mathlib.Core.Path.{◌≡◌, refl, sym, ap, ◌∙◌}
 use mathlib.Core.List.{List, [], ◌∷◌, ◌++◌, append_assoc}
 use Rattle.std.specs.Prelude.{Option, Some, None}
 use native.Mathlib.Nat.{zero-add}
 use native.Mathlib.Omega.{arith}
 use borrow.Author.Rules.{rules}
+use borrow.Author.Tests.{le-leb, lt-leb}
 use lib.ListN.{length, get_or, drop, length-append}
 use Rattle.octets.specs.Written.{put_at, onto}
 use Rattle.octets.specs.Octets.{without_blanks}
@@ -19,7 +20,8 @@ use Rattle.groups.proofs.Blanks.{NextPlace, next_place}
 use Rattle.octets.proofs.Putting.{put_both, over_none}
 use Rattle.letters.specs.Base64.{before, decode}
 use Rattle.groups.specs.Steps.{NextGroup, WholeGroup}
-use Rattle.keydata.specs.Steps.{Run, Wrote}
+use Rattle.keydata.specs.Steps.{Run, Wrote, up_to}
+use Rattle.keydata.specs.Answers.{decoded_of}
 use Rattle.groups.proofs.Nexts.{nearer_whole, read_whole, read_three, read_two, read_one, read_end, read_broken}
 use Rattle.groups.specs.declared.Next.{Next}
 use Rattle.groups.specs.declared.Next.TheVariants.{Three, Two, One, End, Broken}
@@ -115,40 +117,68 @@ front_put : (d w : List ℕ) → put_at d 0 w ≡ onto w d
 unfolding put_at onto
 front_put d w = rw zero-add
 
-module _ (s d out : List ℕ) (i o : ℕ) (h : Run s 0 d 0 out i o) where
+-- octets that were refused for their number alone
+counted_over : (most : ℕ) (w : List ℕ) → most < length w → None ≡ decoded_of (Some w) most
+unfolding decoded_of
+counted_over most w l = rw (lt-leb (length w) most l)
+
+module _ (s d out : List ℕ) (i o : ℕ) (h : Run s 0 d 0 out i o) (most : ℕ) where
   -- the text ends in the octets v
-  last_wrote : (v : List ℕ) → decode (without_blanks (drop i s)) ≡ Some v → (out₁ : List ℕ) → (o + length v ≤ length out → out₁ ≡ put_at out o v)
-      → Wrote (decode (without_blanks s)) d out₁ (Some (o + length v))
-  unfolding before
-  last_wrote v e out₁ q =
+  last_wrote : (v : List ℕ) → decode (without_blanks (drop i s)) ≡ Some v → o + length v < 2 ^ 64 → (out₁ : List ℕ)
+      → (o + length v ≤ length out → out₁ ≡ put_at out o v) → (r : Option ℕ) → r ≡ up_to most (o + length v)
+      → Wrote (decode (without_blanks s)) d out₁ most r
+  unfolding before decoded_of up_to
+  last_wrote v e k out₁ q r p =
       let a : decode (without_blanks s) ≡ Some (h.octets ++ v) = h.reads ∙ rw e in
       let n : length (h.octets ++ v) ≡ o + length v = simp length-append (omega (arith, h.counts)) in
       record {
-        counts = rw (a, n);
-        writes = λ w b l.
+        counts = rw (a, n) p;
+        all = λ z. rw (a, n) (p ∙ rw (le-leb (o + length v) most (omega (arith, z))));
+        writes = λ w b m l.
             let c : h.octets ++ v ≡ w = cc in
             let m : length (h.octets ++ v) ≤ length d = rw c l in
             let t : put_at out o v ≡ put_at d 0 (h.octets ++ v) = rw (h.writes (omega (arith, n)), h.counts) (put_both d 0 h.octets v (omega arith)) in
             q (omega (arith, n, h.same)) ∙ t ∙ rw c (front_put d w);
       }
 
+  -- more octets than are asked for
+  pub over_wrote : most < o → o < 2 ^ 64 → Wrote (decode (without_blanks s)) d out most None
+  unfolding before decoded_of
+  over_wrote l k = over (decode (without_blanks (drop i s))) refl
+    where
+      over : (b : Option (List ℕ)) → decode (without_blanks (drop i s)) ≡ b → Wrote (decode (without_blanks s)) d out most None
+      over None e =
+          let a : decode (without_blanks s) ≡ None = h.reads ∙ rw e in
+          record { counts = rw a; all = λ z. rw a; writes = λ w b m l. cc }
+      over (Some v) e =
+          let a : decode (without_blanks s) ≡ Some (h.octets ++ v) = h.reads ∙ rw e in
+          let n : most < length (h.octets ++ v) = simp length-append (omega (arith, h.counts, l)) in
+          record {
+            counts = rw a (counted_over most (h.octets ++ v) n);
+            all = λ z. absurd (omega (arith, z, l, k));
+            writes = λ w b m j.
+                let c : h.octets ++ v ≡ w = cc in
+                let k : length (h.octets ++ v) ≤ most = rw c m in
+                absurd (omega (arith, n, k));
+          }
+
   module _ (g : Next) (t : NextGroup s i g) where
-    pub two_wrote : (x y : ℕ) → g ≡ Two x y → (out₁ : List ℕ) → (o + 2 ≤ length out → out₁ ≡ put_at out o (x ∷ y ∷ []))
-        → Wrote (decode (without_blanks s)) d out₁ (Some (o + 2))
-    two_wrote x y e out₁ q = last_wrote (x ∷ y ∷ []) (read_two s i g t x y e) out₁ q
+    pub two_wrote : (x y : ℕ) → g ≡ Two x y → o + 2 < 2 ^ 64 → (out₁ : List ℕ) → (o + 2 ≤ length out → out₁ ≡ put_at out o (x ∷ y ∷ []))
+        → (r : Option ℕ) → r ≡ up_to most (o + 2) → Wrote (decode (without_blanks s)) d out₁ most r
+    two_wrote x y e = last_wrote (x ∷ y ∷ []) (read_two s i g t x y e)
 
-    pub one_wrote : (x : ℕ) → g ≡ One x → (out₁ : List ℕ) → (o + 1 ≤ length out → out₁ ≡ put_at out o (x ∷ [])) → Wrote (decode (without_blanks s)) d out₁ (Some (o + 1))
-    one_wrote x e out₁ q = last_wrote (x ∷ []) (read_one s i g t x e) out₁ q
+    pub one_wrote : (x : ℕ) → g ≡ One x → o + 1 < 2 ^ 64 → (out₁ : List ℕ) → (o + 1 ≤ length out → out₁ ≡ put_at out o (x ∷ []))
+        → (r : Option ℕ) → r ≡ up_to most (o + 1) → Wrote (decode (without_blanks s)) d out₁ most r
+    one_wrote x e = last_wrote (x ∷ []) (read_one s i g t x e)
 
-    pub end_wrote : g ≡ End → Wrote (decode (without_blanks s)) d out (Some o)
-    end_wrote e =
-        let z : o + 0 ≡ o = omega arith in
-        rw z at (last_wrote [] (read_end s i g t e) out (λ l. over_none out o))
+    pub end_wrote : g ≡ End → o + 0 < 2 ^ 64 → (out₁ : List ℕ) → (o + 0 ≤ length out → out₁ ≡ put_at out o [])
+        → (r : Option ℕ) → r ≡ up_to most (o + 0) → Wrote (decode (without_blanks s)) d out₁ most r
+    end_wrote e = last_wrote [] (read_end s i g t e)
 
-    pub none_wrote : g ≡ Broken → Wrote (decode (without_blanks s)) d out None
-    unfolding before
+    pub none_wrote : g ≡ Broken → Wrote (decode (without_blanks s)) d out most None
+    unfolding before decoded_of
     none_wrote e =
         let a : decode (without_blanks s) ≡ None = h.reads ∙ rw (read_broken s i g t e) in
-        record { counts = rw a; writes = λ w b l. cc }
+        record { counts = rw a; all = λ z. rw a; writes = λ w b m l. cc }
 
-pub ruleset filling = (run_none, run_then, run_few, three_run, two_wrote, one_wrote, end_wrote, none_wrote, rules)
+pub ruleset filling = (run_none, run_then, run_few, three_run, two_wrote, one_wrote, end_wrote, none_wrote, over_wrote, rules)

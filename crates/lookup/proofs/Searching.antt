@@ -4,7 +4,6 @@
 --     none_with                   a tag that is not there is that of an address in no slot
 --     pass_by, stands             a slot of this tag
 --     search_begin, search_end    the scan
---     same_is                     equal octets, by the library's word
 --     find_seeks, found_is        the whole table
 --     the rulesets                searching, for `search`; sifting, for `lowest_with`; finding, for `find`
 -- Assumes nothing.
@@ -77,14 +76,6 @@ pub search_end : (t a : List ℕ) (n i : ℕ) → Scan (has_address a) t n i →
 search_end t a n i h l = scan_end (has_address a) t n i h l
 
 pub ruleset searching = (slot_within, tag_within, search_begin, pass_tag, pass_by, stands, search_end, rules)
-
--- the library's word for equal octets
-pub same_is : (s t : List ℕ) → pointwise eqb s t ≡ same_octets s t
-unfolding same_octets
-same_is [] [] = refl
-same_is [] (y ∷ t) = refl
-same_is (x ∷ s) [] = refl
-same_is (x ∷ s) (y ∷ t) = rw (same_is s t)
 
 -- the whole table
 pub found_is : (t a : List ℕ) (n : ℕ) (f : Option ℕ) → n ≡ slots t → f ≡ lowest (has_address a) t 0 n → f ≡ found t a

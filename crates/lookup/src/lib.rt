@@ -26,12 +26,12 @@ const FEW: usize = 8;
 
 // Is the slot used, and this its address (T12)? Lengths are compared before octets, and the first octet that differs
 // decides.
-#[tactic(auto, using(crate::proofs::Searching::same_is), unfolding(table::specs::Table::has_address))]
+#[tactic(auto, unfolding(table::specs::Table::has_address))]
 fn holds(slot: &[u8], address: &[u8]) -> bool
     requires { length slot.now ≡ slot_length }
     ensures { result ≡ has_address address.now slot.now }
 {
-    slots::is_marked(slot) && slots::address_of(slot) == address
+    slots::is_marked(slot) && octets::same(slots::address_of(slot), address)
 }
 
 // The lowest of the first `n` slots that holds the address (T12): tags are compared before addresses, and the first equal

@@ -3,6 +3,7 @@
 --     Same s t i              the lists are of one length, and the test comes to what is left from i on
 --     same_begin .. same_end  the loop's steps
 --     same_long               lists of two lengths are not equal
+--     same_differs            an octet that differs settles it
 --     same_is, opens_from, name_is    the tests by the words that the library has for its own
 --     name_long, opens_long   where the lengths alone decide
 
@@ -91,6 +92,13 @@ same_is [] [] = refl
 same_is [] (y ∷ t) = refl
 same_is (x ∷ s) [] = refl
 same_is (x ∷ s) (y ∷ t) = rw (same_is s t)
+
+-- where two octets of one place differ, the lists do
+pub same_differs : (s t : List ℕ) (i : ℕ) → i < length s → (get_or s i 0 ≡ get_or t i 0 → ⊥) → false ≡ same_octets s t
+same_differs s t i l n =
+    by_test (same_octets s t) (λ e. absurd (n (ap (λ v. get_or v i 0) (same_true s t e)))) (λ e. sym e)
+
+pub ruleset near = (same_is, same_long, same_differs, rules)
 
 opens_is : (t s : List ℕ) → pointwise eqb t (take (length t) s) ≡ starts_with t s
 unfolding starts_with

@@ -151,7 +151,7 @@ fn put_padded(slot: &mut [u8], at: usize, room: usize, text: &[u8])
     ensures { slot.new ≡ put_at slot.old at (padded room text.now) }
 {
     octets::put(slot, at, text);
-    slot[at + text.len()..at + room].fill(0);
+    octets::fill(&mut slot[at + text.len()..at + room], 0);
 }
 
 // Begins the entry of an address, whatever stood in the slot.
@@ -160,7 +160,7 @@ pub fn begin(slot: &mut [u8], address: &[u8])
     requires { (length slot.old ≡ slot_length) × (length address.now ≤ address_room) }
     ensures { slot.new ≡ slot_of (newcomer address.now) }
 {
-    slot.fill(0);
+    octets::fill(slot, 0);
     octets::put(slot, 0, &Slot::MARK);
     put_head(slot, Head::empty(address.len()));
     octets::put(slot, Slot::ADDRESS_AT, address);

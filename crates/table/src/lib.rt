@@ -120,7 +120,7 @@ pub fn clear(table: &mut [u8], i: usize)
     ensures { table.new ≡ with_slot table.old i free_slot }
 {
     let at = i * Slot::LEN;
-    table[at..at + Slot::LEN].fill(0);
+    octets::fill(&mut table[at..at + Slot::LEN], 0);
 }
 
 // Gives an entry another address, in a slot that was sound by the old rule (T17).
