@@ -98,7 +98,9 @@ pub same_differs : (s t : List ℕ) (i : ℕ) → i < length s → (get_or s i 0
 same_differs s t i l n =
     by_test (same_octets s t) (λ e. absurd (n (ap (λ v. get_or v i 0) (same_true s t e)))) (λ e. sym e)
 
-pub ruleset near = (same_is, same_long, same_differs, rules)
+pub ruleset differing = (same_differs, rules)
+
+pub ruleset near = (same_is, same_long, rules)
 
 opens_is : (t s : List ℕ) → pointwise eqb t (take (length t) s) ≡ starts_with t s
 unfolding starts_with

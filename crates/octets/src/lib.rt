@@ -3,7 +3,7 @@
 // definition of specs/.
 #![tactic(auto)]
 
-ghost use Rattle.std.specs.Prelude.{ℕ, Bool, ◌+◌, ◌≤◌, ◌<◌, max, ◌≡◌, eqb, length, take, drop, replicate};
+ghost use Rattle.std.specs.Prelude.{ℕ, Bool, true, false, ◌+◌, ◌≤◌, ◌<◌, max, ◌≡◌, eqb, length, take, drop, replicate};
 ghost use Rattle.std.specs.List.{list_any, position_or_len};
 ghost use Rattle.octets.specs.Tests.{every, Computes};
 ghost use Rattle.octets.specs.Octets.{blank, same_octets, lower as lower_of, lowered, same_name, starts_with, all_zero};
@@ -19,22 +19,30 @@ pub fn is_blank(x: u8) -> bool
     matches!(x, b' ' | b'\t')
 }
 
-// How many octets are compared one by one before the rest is compared by many at once.
+// How many octets are compared in line, before the library compares all by a call.
 const NEAR: usize = 16;
 
-// Are the two runs equal? Lengths first, and then the first octets one by one: most runs that differ do so there, and to
-// compare many at once pays only where they agree so far.
+// Do octets at one of the first `NEAR` places differ? No way leads out of the loop early, so that it compiles to vector
+// instructions: they are compared at once.
+#[tactic(auto, using(crate::proofs::Comparing::differing))]
+fn differ(a: &[u8], b: &[u8]) -> bool
+    requires { (16 ≤ length a.now) × (16 ≤ length b.now) }
+    ensures { result ≡ true → false ≡ same_octets a.now b.now }
+{
+    let mut found = false;
+    for i in 0..NEAR {
+        found = found | (a[i] != b[i]);
+    }
+    found
+}
+
+// Are the two runs equal? Lengths first, and then the first octets: most runs that differ do so there.
 #[tactic(auto, using(crate::proofs::Comparing::near))]
 pub fn same(a: &[u8], b: &[u8]) -> bool
     ensures { result ≡ same_octets a.now b.now }
 {
-    if a.len() != b.len() {
+    if a.len() != b.len() || (NEAR <= a.len() && differ(a, b)) {
         return false;
-    }
-    for i in 0..a.len().min(NEAR) {
-        if a[i] != b[i] {
-            return false;
-        }
     }
     a == b
 }
