@@ -98,6 +98,7 @@ pub fn field_at(block: &[u8], at: usize) -> Step
         return Step::Over;
     }
     let name_end = name_end(block, at);
+    // Two tests, not one joined by `||`: joined, the compiler walks the name with two counters, which takes a third longer.
     if name_end == at {
         return Step::Broken;
     }

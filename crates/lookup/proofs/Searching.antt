@@ -10,17 +10,16 @@
 use Rattle.std.specs.Prelude.{Option, Some, None}
 use Prim.Native.Nat.{ℕ, ◌+◌, ◌<◌, ◌≤◌}
 use mathlib.Core.Path.{◌≡◌, refl, sym, ◌∙◌}
-use mathlib.Core.Bool.{Bool, true, false, not}
+use mathlib.Core.Bool.{Bool, true, false, not, ◌&&◌}
 use mathlib.Core.List.{List, [], ◌∷◌}
-use Rattle.std.specs.Cmp.Lexicographic.{pointwise}
 use native.Mathlib.Omega.{arith}
 use borrow.Author.Tests.{not-true}
 use borrow.Author.Rules.{rules}
-use lib.Dec.{eqb}
 use lib.ListN.{length, get_or}
 use Rattle.octets.specs.Octets.{same_octets}
 use Rattle.octets.proofs.Tests.{by_test}
-use Rattle.slots.specs.Slot.{slot_length}
+use Rattle.octets.proofs.Comparing.{same_differs}
+use Rattle.slots.specs.Slot.{slot_length, marked, address_of}
 use Rattle.tags.specs.Tags.{tag_of, in_first}
 use Rattle.tags.proofs.Among.{first_not}
 use Rattle.table.specs.Table.{slots, slot_at, has_address, lowest, found}
@@ -76,6 +75,13 @@ pub search_end : (t a : List ℕ) (n i : ℕ) → Scan (has_address a) t n i →
 search_end t a n i h l = scan_end (has_address a) t n i h l
 
 pub ruleset searching = (slot_within, tag_within, search_begin, pass_tag, pass_by, stands, search_end, rules)
+
+-- the first octet settles it where it differs
+pub opening_differs : (s a own : List ℕ) → own ≡ address_of s → 0 < length own → (get_or own 0 0 ≡ get_or a 0 0 → ⊥)
+    → false ≡ (marked s && same_octets (address_of s) a)
+opening_differs s a own e l n =
+    let d : false ≡ same_octets (address_of s) a = rw (← e) (same_differs own a 0 l n) in
+    by_test (marked s) (λ m. d ∙ rw m) (λ m. rw m)
 
 -- the whole table
 pub found_is : (t a : List ℕ) (n : ℕ) (f : Option ℕ) → n ≡ slots t → f ≡ lowest (has_address a) t 0 n → f ≡ found t a
